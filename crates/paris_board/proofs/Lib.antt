@@ -1,0 +1,4 @@
+pub mod Fields
+pub mod Growth
+pub mod NameTests
+pub mod Places

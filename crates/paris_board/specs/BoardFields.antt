@@ -1,0 +1,20 @@
+-- What the maps of a board hold.
+use Rattle.std.specs.Prelude.{ℕ, ◌≤◌, List, length, map}
+use Rattle.paris_board.specs.Board.{Board, DeclaredSet, DeclaredField, IsBoard}
+use Rattle.paris_board.specs.declared.declarations.FieldDeclaration.{FieldDeclaration}
+use Rattle.paris_board.specs.declared.declarations.Board.TheInside.{Inside}
+
+abbrev pub declared_set : List ℕ × List ℕ → DeclaredSet
+declared_set e = record { name = e.0; axes = e.1 }
+
+abbrev pub declared_field : List ℕ × FieldDeclaration → DeclaredField
+declared_field e = record { name = e.0; set_no = e.1.set; width = e.1.width }
+
+abbrev pub board_of : Inside → Board
+board_of b = record { sets = map declared_set b.sets.entries; fields = map declared_field b.fields.entries }
+
+-- the limits hold, and each field is of a declared set
+pub record IsSound (b : Inside) : Type 0 where
+  pub few_sets : length b.sets.entries ≤ 8
+  pub few_fields : length b.fields.entries ≤ 64
+  pub board : IsBoard (board_of b)

@@ -1,0 +1,9 @@
+//! The board: the declared sets and fields, each in the order of its declaration.
+#![tactic(auto)]
+
+pub mod declarations;
+
+pub use declarations::Board;
+
+#[cfg(test)]
+mod tests;

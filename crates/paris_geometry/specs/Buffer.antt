@@ -1,0 +1,6 @@
+-- A buffer of four, filled with zeros.
+use Rattle.std.specs.Prelude.{ℕ, ◌-◌, List, ◌++◌, length, replicate}
+
+-- the lengths of the axes in their buffer
+abbrev pub padded : List ℕ → List ℕ
+padded axes = axes ++ replicate (4 - length axes) 0

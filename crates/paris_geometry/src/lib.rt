@@ -1,0 +1,11 @@
+//! Geometry: the lengths of a set's axes, and the two directions along an axis.
+#![tactic(auto)]
+
+pub mod direction;
+pub mod shape;
+
+pub use direction::Direction;
+pub use shape::Geometry;
+
+#[cfg(test)]
+mod tests;

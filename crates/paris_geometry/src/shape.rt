@@ -1,0 +1,146 @@
+//! The lengths of a set's axes.
+
+ghost use Rattle.std.specs.Prelude.{◌≡◌, ◌<◌, ◌≤◌, length, slice_index, true, false, IfOk, IfErr};
+ghost use Rattle.std.specs.List.{list_all};
+ghost use Rattle.paris_names.specs.declared.faults.Fault.TheVariants.{BadAxes};
+ghost use Rattle.paris_geometry.specs.Geometry.{is_geometry, is_power_of_two, processor_count};
+
+use paris_names::Fault;
+use std::marker::Model;
+
+/// The most axes of a geometry.
+const MAX_AXES: usize = 4;
+
+/// The most processors of a set.
+const MAX_PROCESSORS: u128 = 65_536;
+
+/// The lengths of the axes of a set of virtual processors, axis 0 first: 1 to 4 powers of two, whose product, the number
+/// of processors, is at most 65,536. A clause sees the list of the lengths.
+#[derive(Clone, Copy, PartialEq, Eq, Debug)]
+pub struct Geometry {
+    lengths: [u64; 4],
+    count: usize,
+}
+
+impl Model for Geometry {
+    ghost use Rattle.std.specs.Prelude.{◌≡◌, ℕ, ◌≤◌, List, length, take, true};
+    ghost use Rattle.paris_geometry.specs.Geometry.{is_geometry};
+    ghost use Rattle.paris_geometry.specs.Buffer.{padded};
+
+    ghost Value = { List ℕ };
+
+    ghost view = { λ g. take g.count g.lengths };
+
+    ghost invariant = { λ g. (g.count ≤ 4) × (g.lengths ≡ padded (take g.count g.lengths)) × (is_geometry (take g.count g.lengths) ≡ true) };
+
+    ghost inverse = { λ axes. record { lengths = padded axes; count = length axes } };
+
+    ghost use Rattle.paris_geometry.specs.GeometryFields.{geometry_fields};
+
+    ghost inverse_ok = { geometry_fields };
+}
+
+fn is_geometry(lengths: &[u64]) -> bool
+    ensures value { result ≡ is_geometry lengths.now }
+    ensures few { result ≡ true → length lengths.now ≤ 4 }
+{
+    if lengths.is_empty() || lengths.len() > MAX_AXES || !are_powers_of_two(lengths) {
+        return false;
+    }
+    processor_count(lengths) <= MAX_PROCESSORS
+}
+
+fn are_powers_of_two(lengths: &[u64]) -> bool
+    ensures { result ≡ list_all is_power_of_two lengths.now }
+{
+    lengths.iter().all(|n| is_power_of_two(*n))
+}
+
+/// Whether a length is one of the powers of two up to 65,536.
+fn is_power_of_two(length: u64) -> bool
+    ensures { result ≡ is_power_of_two length }
+{
+    matches!(
+        length,
+        1 | 2
+            | 4
+            | 8
+            | 16
+            | 32
+            | 64
+            | 128
+            | 256
+            | 512
+            | 1024
+            | 2048
+            | 4096
+            | 8192
+            | 16384
+            | 32768
+            | 65536
+    )
+}
+
+/// The product of at most four powers of two.
+fn processor_count(lengths: &[u64]) -> u128
+    requires few { length lengths.now ≤ 4 }
+    requires powers { list_all is_power_of_two lengths.now ≡ true }
+    ensures { result ≡ processor_count lengths.now }
+{
+    let mut count: u128 = 1;
+    for length in lengths {
+        count *= u128::from(*length);
+    }
+    count
+}
+
+impl Geometry {
+    /// The geometry of the lengths of its axes, or `BadAxes` where they make none: there are none or more than four, one
+    /// is no power of two up to 65,536, or their product is above 65,536.
+    pub fn new(lengths: &[u64]) -> Result<Geometry, Fault>
+        ensures ok { IfOk result (λ g. (is_geometry lengths.now ≡ true) × (g ≡ lengths.now)) }
+        ensures err { IfErr result (λ fault. (is_geometry lengths.now ≡ false) × (fault ≡ BadAxes)) }
+    {
+        if !is_geometry(lengths) {
+            return Err(Fault::BadAxes);
+        }
+        let mut buffer = [0u64; 4];
+        buffer[..lengths.len()].copy_from_slice(lengths);
+        Ok(Geometry {
+            lengths: buffer,
+            count: lengths.len(),
+        })
+    }
+
+    /// The length of an axis, in processors.
+    pub fn len(self, axis: usize) -> u64
+        requires { axis < length self }
+        ensures { result ≡ slice_index self axis }
+    {
+        self.lengths()[axis]
+    }
+
+    /// How many axes there are, from 1 to 4.
+    pub fn axes(self) -> usize
+        ensures value { result ≡ length self }
+        ensures few { result ≤ 4 }
+    {
+        self.count
+    }
+
+    /// How many virtual processors there are, from 1 to 65,536.
+    pub fn vps(self) -> usize
+        ensures value { result ≡ processor_count self }
+        ensures few { result ≤ 65536 }
+        ensures sound { is_geometry self ≡ true }
+    {
+        processor_count(&self.lengths[..self.count]) as usize
+    }
+
+    /// The lengths of the axes, in processors, axis 0 first.
+    pub fn lengths(&self) -> &[u64]
+        ensures { result.now ≡ self.now }
+    {
+        &self.lengths[..self.count]
+    }
+}

@@ -1,0 +1,113 @@
+//! Names of sets, fields and keys.
+
+ghost use Rattle.std.specs.Prelude.{◌≡◌, ◌≤◌, length, true, codes};
+ghost use Rattle.std.specs.Option.{SomeIff};
+ghost use Rattle.std.specs.List.{list_all};
+ghost use Rattle.std.specs.Str.{bytes_eq};
+ghost use Rattle.paris_names.specs.Names.{is_name, is_letter, is_name_byte};
+
+use crate::keys::FlagName;
+use crate::limits::MAX_NAME;
+use std::marker::Model;
+
+/// A name of a set or a field: 1 to 16 bytes, a letter and then letters, digits, `-` and `_`, and not the word `none`.
+/// A clause sees its bytes.
+#[derive(Clone, Copy, PartialEq, Eq, Hash, Debug)]
+pub struct Name {
+    buffer: [u8; 16],
+    len: usize,
+}
+
+impl Model for Name {
+    ghost use Rattle.std.specs.Prelude.{◌≡◌, ℕ, ◌≤◌, List, length, take, true};
+    ghost use Rattle.paris_names.specs.Names.{is_name, padded};
+
+    ghost Value = { List ℕ };
+
+    ghost view = { λ n. take n.len n.buffer };
+
+    ghost invariant = { λ n. (n.len ≤ 16) × (n.buffer ≡ padded (take n.len n.buffer)) × (is_name (take n.len n.buffer) ≡ true) };
+
+    ghost inverse = { λ bs. record { buffer = padded bs; len = length bs } };
+
+    ghost use Rattle.paris_names.specs.NameFields.{name_fields};
+
+    ghost inverse_ok = { name_fields };
+}
+
+#[tactic(auto, unfolding(crate::specs::Names::is_name))]
+fn is_name(bytes: &[u8]) -> bool
+    ensures value { result ≡ is_name bytes.now }
+    ensures fits { result ≡ true → length bytes.now ≤ 16 }
+{
+    if bytes.is_empty() {
+        return false;
+    }
+    let fits = bytes.len() <= MAX_NAME;
+    let letter = is_letter(bytes[0]);
+    let plain = are_name_bytes(bytes);
+    let none = is_none_word(bytes);
+    fits && letter && plain && !none
+}
+
+fn are_name_bytes(bytes: &[u8]) -> bool
+    ensures { result ≡ list_all is_name_byte bytes.now }
+{
+    bytes.iter().all(|b| is_name_byte(*b))
+}
+
+fn is_none_word(bytes: &[u8]) -> bool
+    ensures { result ≡ bytes_eq bytes.now (codes "none") }
+{
+    bytes == b"none".as_slice()
+}
+
+fn is_letter(byte: u8) -> bool
+    ensures { result ≡ is_letter byte }
+{
+    match byte {
+        b'A'..=b'Z' | b'a'..=b'z' => true,
+        _ => false,
+    }
+}
+
+fn is_name_byte(byte: u8) -> bool
+    ensures { result ≡ is_name_byte byte }
+{
+    match byte {
+        b'A'..=b'Z' | b'a'..=b'z' | b'0'..=b'9' | b'-' | b'_' => true,
+        _ => false,
+    }
+}
+
+impl Name {
+    /// The name of these bytes, if they are a name's.
+    pub fn new(bytes: &[u8]) -> Option<Name>
+        ensures { SomeIff result (is_name bytes.now ≡ true) bytes.now }
+    {
+        if !is_name(bytes) {
+            return None;
+        }
+        let mut buffer = [0u8; 16];
+        buffer[..bytes.len()].copy_from_slice(bytes);
+        Some(Name {
+            buffer,
+            len: bytes.len(),
+        })
+    }
+
+    /// The name's bytes.
+    pub fn as_bytes(&self) -> &[u8]
+        ensures bytes { result.now ≡ self.now }
+        ensures name { is_name self.now ≡ true }
+    {
+        &self.buffer[..self.len]
+    }
+}
+
+/// The name of a key: of a field, or of a set with one of its flags.
+#[derive(Clone, Copy, PartialEq, Eq, Hash, Debug)]
+pub struct KeyName {
+    pub name: Name,
+    pub flag: Option<FlagName>,
+}
