@@ -1,0 +1,4 @@
+pub mod Besides
+pub mod Executed
+pub mod Frames
+pub mod PlainStores

@@ -1,0 +1,6 @@
+-- The values so far are copied.
+use Rattle.std.proofs.Common.{◌≡◌, take}
+use Rattle.paris_exec.proofs.orders.copies.Given as goal
+
+abbrev pub invariant-loop-value : goal.invariant-loop-value
+invariant-loop-value l = l.copies.items ≡ take l.value-index l.values

@@ -1,0 +1,14 @@
+//! Orders and their execution: what a worker does with no book and no lock.
+#![tactic(auto)]
+
+pub mod execution;
+pub mod fields;
+pub mod orders;
+mod plain;
+
+pub use execution::execute;
+pub use fields::FieldValue;
+pub use orders::{Done, Order, Outcome};
+
+#[cfg(test)]
+mod tests;

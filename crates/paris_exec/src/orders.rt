@@ -1,0 +1,249 @@
+//! Orders, and what executing them gives.
+
+ghost use Rattle.std.specs.Prelude.{◌≡◌, ◌<◌, ◌≤◌, length, true, IfOk, List};
+ghost use Rattle.std.specs.Option.{SomeIff, option_copied};
+ghost use Rattle.paris_names.specs.Keys.{has_key};
+ghost use Rattle.paris_geometry.specs.Geometry.{processor_count};
+ghost use Rattle.paris_model.specs.Instructions.{reads, writes, value_at};
+ghost use Rattle.paris_exec.specs.Tasks.{fits, fits_key, fits_keys, beside, field_of, numbers_of, task_outcome, task_value};
+
+use crate::fields::FieldValue;
+use paris_instr::Plan;
+use paris_model::Refusal;
+use paris_names::{Edition, Items, Key, RowId};
+use std::alloc::{AllocError, Global};
+use std::marker::Model;
+
+/// An order for a row: its plan, and a value for each key that the plan reads. A clause sees the task.
+#[derive(Debug, Drop)]
+pub struct Order {
+    row: RowId,
+    issue: Edition,
+    work: Plan,
+    values: Vec<FieldValue>,
+}
+
+impl Model for Order {
+    ghost use Rattle.std.specs.Prelude.{◌≡◌, true};
+    ghost use Rattle.paris_exec.specs.Tasks.{Task, fits};
+
+    ghost Value = { Task };
+
+    ghost view = { λ a. record { id = a.row; edition = a.issue; plan = a.work; inputs = a.values.items } };
+
+    ghost invariant = { λ a. fits a.work a.values.items ≡ true };
+}
+
+/// What an instruction gives: a value for each key that its plan writes, in order, or why it was refused.
+#[derive(Debug, Drop)]
+pub enum Outcome {
+    Values(Items<FieldValue>),
+    Refused(Refusal),
+}
+
+/// An executed order. Its outcome is the definitions' outcome of its own order. A clause sees the order's task.
+#[derive(Debug, Drop)]
+pub struct Done {
+    task: Order,
+    result: Outcome,
+}
+
+impl Model for Done {
+    ghost use Rattle.std.specs.Prelude.{◌≡◌};
+    ghost use Rattle.paris_exec.specs.Tasks.{Task, task_outcome};
+
+    ghost Value = { Task };
+
+    ghost view = { λ a. a.task };
+
+    ghost invariant = { λ a. a.result ≡ task_outcome a.task };
+}
+
+/// The value beside a key.
+fn value_beside<'a>(keys: &[Key], values: &'a [FieldValue], key: &Key) -> Option<&'a FieldValue>
+    ensures { option_copied result ≡ beside keys.now values.entry.now key.now }
+{
+    for i in 0..keys.len() {
+        if i >= values.len() {
+            return None;
+        }
+        if key.is_same(keys[i]) {
+            return Some(&values[i]);
+        }
+    }
+    None
+}
+
+/// Whether the values fit the keys of a plan one by one.
+fn are_fit(plan: &Plan, keys: &[Key], values: &[FieldValue]) -> bool
+    ensures { result ≡ fits_keys plan.now keys.now values.now }
+{
+    if keys.len() != values.len() {
+        return false;
+    }
+    for i in 0..keys.len() {
+        if !is_fit(plan, &keys[i], &values[i]) {
+            return false;
+        }
+    }
+    true
+}
+
+/// Whether a value has a key's width, and a number for each processor of the plan's set.
+fn is_fit(plan: &Plan, key: &Key, value: &FieldValue) -> bool
+    ensures { result ≡ fits_key plan.now key.now value.now }
+{
+    value.width() == plan.width(*key) && value.len() == plan.geometry().vps()
+}
+
+/// Copies of values.
+fn copies(alloc: Global, values: &[FieldValue]) -> Result<Vec<FieldValue>, AllocError>
+    ensures { IfOk result (λ copies. copies.items ≡ values.now) }
+{
+    let mut copies = Vec::new(alloc);
+    for value in values {
+        copies.push(value.copy()?)?;
+    }
+    Ok(copies)
+}
+
+impl Order {
+    /// The order of these parts, where the inputs fit the plan: one for each key that it reads, in the order of
+    /// `Plan::reads`, of the key's width and with a number for each processor. Else the inputs are dropped.
+    pub fn new(id: RowId, edition: Edition, plan: Plan, inputs: Vec<FieldValue>) -> Option<Order>
+        ensures { SomeIff result (fits plan inputs.items ≡ true) (record { id = id; edition = edition; plan = plan; inputs = inputs.items }) }
+    {
+        if !are_fit(&plan, plan.reads(), inputs.as_slice()) {
+            return None;
+        }
+        Some(Order {
+            row: id,
+            issue: edition,
+            work: plan,
+            values: inputs,
+        })
+    }
+
+    /// The row that the order is for.
+    pub fn id(&self) -> RowId
+        ensures { result ≡ self.now.id }
+    {
+        self.row
+    }
+
+    /// The edition of the row that it is for.
+    pub fn edition(&self) -> Edition
+        ensures { result ≡ self.now.edition }
+    {
+        self.issue
+    }
+
+    /// The plan.
+    pub fn plan(&self) -> &Plan
+        ensures { result.now ≡ self.now.plan }
+    {
+        &self.work
+    }
+
+    /// The inputs, in the order of `Plan::reads`.
+    pub fn inputs(&self) -> &[FieldValue]
+        ensures value { result.now ≡ self.now.inputs }
+        ensures fit { fits self.now.plan self.now.inputs ≡ true }
+    {
+        self.values.as_slice()
+    }
+
+    /// The input at a key that the plan reads.
+    pub fn input(&self, key: &Key) -> &FieldValue
+        requires { has_key (reads self.now.plan) key.now ≡ true }
+        ensures value { result.now ≡ field_of self.now.plan key.now (value_at (reads self.now.plan) (numbers_of self.now.inputs) key.now) }
+        ensures count { length result.now.numbers ≡ processor_count self.now.plan.axes }
+    {
+        match value_beside(self.work.reads(), self.values.as_slice(), key) {
+            Some(value) => value,
+            None => unreachable!(),
+        }
+    }
+
+    /// A copy that equals the order.
+    pub fn copy(&self) -> Result<Order, AllocError>
+        ensures { IfOk result (λ order. order ≡ self.now) }
+    {
+        let plan = self.work.copy()?;
+        let values = copies(*self.values.allocator(), self.values.as_slice())?;
+        Ok(Order {
+            row: self.row,
+            issue: self.issue,
+            work: plan,
+            values,
+        })
+    }
+}
+
+impl Outcome {
+    /// A copy that equals the outcome.
+    fn copy(&self, alloc: Global) -> Result<Outcome, AllocError>
+        ensures { IfOk result (λ outcome. outcome ≡ self.now) }
+    {
+        match self {
+            Outcome::Values(values) => {
+                let copies = copies(alloc, values.as_slice())?;
+                Ok(Outcome::Values(Items::new(copies)))
+            }
+            Outcome::Refused(cause) => Ok(Outcome::Refused(*cause)),
+        }
+    }
+}
+
+impl Done {
+    /// An order with its outcome.
+    pub(crate) fn new(order: Order, outcome: Outcome) -> Done
+        requires { outcome ≡ task_outcome order }
+        ensures { result ≡ order }
+    {
+        Done {
+            task: order,
+            result: outcome,
+        }
+    }
+
+    /// The order that was executed.
+    pub fn order(&self) -> &Order
+        ensures { result.now ≡ self.now }
+    {
+        &self.task
+    }
+
+    /// What it gave.
+    pub fn outcome(&self) -> &Outcome
+        ensures { result.now ≡ task_outcome self.now }
+    {
+        &self.result
+    }
+
+    /// What the instruction leaves at a key that its plan writes: of a refused one, the value that was read.
+    pub fn value(&self, key: &Key) -> &FieldValue
+        requires { has_key (writes self.now.plan) key.now ≡ true }
+        ensures value { result.now ≡ task_value self.now key.now }
+        ensures count { length result.now.numbers ≡ processor_count self.now.plan.axes }
+    {
+        match &self.result {
+            Outcome::Values(values) => {
+                match value_beside(self.task.plan().writes(), values.as_slice(), key) {
+                    Some(value) => value,
+                    None => unreachable!(),
+                }
+            }
+            Outcome::Refused(_) => self.task.input(key),
+        }
+    }
+
+    /// A copy that equals the result.
+    pub fn copy(&self) -> Result<Done, AllocError>
+        ensures { IfOk result (λ done. done ≡ self.now) }
+    {
+        let task = self.task.copy()?;
+        let result = self.result.copy(*self.task.values.allocator())?;
+        Ok(Done { task, result })
+    }
+}

@@ -1,0 +1,4 @@
+pub mod Lengths
+pub mod PlanEq
+pub mod PlanFields
+pub mod Resolve

@@ -1,0 +1,4 @@
+pub mod Meanings
+mod Rows
+pub mod Stores
+pub mod Worlds

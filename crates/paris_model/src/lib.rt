@@ -1,0 +1,9 @@
+//! What a reader must believe of the machine: the vocabulary of instructions, and in `specs/` what each of them means.
+#![tactic(auto)]
+
+pub mod actions;
+pub mod laws;
+pub mod operators;
+
+pub use actions::{Action, Conditional, Operand, Refusal};
+pub use operators::BinaryOperator;
