@@ -1,0 +1,83 @@
+-- The verdict of a book is the machine's.
+use Rattle.std.proofs.Common.{◌≡◌, ℕ, List, Bool, true, false, cond, Option, Some, None, refl, sym, ap, ◌∙◌, eqb, map, set, slice_get}
+use Rattle.std.proofs.Math.Path.{fun_ext}
+use Rattle.std.proofs.lemmas.List.{map-set}
+use Rattle.std.specs.Prelude.{◌&&◌}
+use Rattle.std.specs.Option.{option_map}
+use Rattle.std.specs.List.{list_all}
+use Rattle.std.specs.Cmp.Lexicographic.{pointwise}
+use Rattle.paris_names.specs.declared.keys.Key.{Key}
+use Rattle.paris_board.specs.Board.{Board}
+use Rattle.paris_model.specs.Frame.{World}
+use Rattle.paris_model.specs.Instructions.{reads}
+use Rattle.paris_instr.specs.PlanEq.{plan_eq}
+use Rattle.paris_exec.specs.Fields.{field_eq}
+use Rattle.paris_exec.specs.Tasks.{Task, field_of}
+use Rattle.paris_book.specs.Machine.{Row, Inputs, State, is_settled, inputs_now, find_id, find_row, is_present, verdict_at, verdict_on, verdict_of, brought_on, after_bring}
+use Rattle.paris_book.specs.Kept.{row_of}
+use Rattle.paris_book.specs.declared.rows.Entry.{Entry}
+use Rattle.paris_book.specs.declared.events.Verdict.{Verdict}
+use Rattle.paris_book.specs.declared.events.Verdict.TheVariants.{Gone, Stale, Repeated, Foreign, Kept}
+use Rattle.paris_book.specs.Among.{firm_among, kept_entry}
+use Rattle.paris_book.specs.Verdicts.{present_among, verdict_among, is_kept_verdict}
+use Rattle.paris_book.proofs.Finds.{found_some}
+use Rattle.paris_book.proofs.Takes.{none_of}
+use Rattle.paris_book.proofs.Inserts.{state_of}
+use Rattle.paris_book.proofs.Shows.{now_is, firm_is}
+
+-- whether a result is present, by the entries
+present_is : (b : Board) (n m : ℕ) (inputs : Inputs) (es : List Entry) (k : ℕ) (e : Entry) (t : Task) → is_present (state_of b n m inputs es) k (row_of e) t ≡ present_among inputs es k e t
+present_is b n m inputs es k e t =
+    ap (λ (q : Key → Bool). plan_eq e.plan t.plan && (list_all q (reads e.plan) && pointwise field_eq (inputs_now (state_of b n m inputs es) k e.plan) t.inputs)) (fun_ext (λ f. firm_is b n m inputs es f k))
+    ∙ ap (λ (w : World). plan_eq e.plan t.plan && (list_all (firm_among es k) (reads e.plan) && pointwise field_eq (map (λ f. field_of e.plan f (w f)) (reads e.plan)) t.inputs)) (now_is b n m inputs es k)
+
+verdict_is : (b : Board) (n m : ℕ) (inputs : Inputs) (es : List Entry) (k : ℕ) (e : Entry) (t : Task) → verdict_at (state_of b n m inputs es) (k, row_of e) t ≡ verdict_among inputs es k e t
+verdict_is b n m inputs es k e t =
+    ap (λ p. cond (eqb e.edition.0 t.edition.0) (cond (is_settled e.status) Repeated (cond p Kept Foreign)) (Stale e.edition)) (present_is b n m inputs es k e t)
+
+-- the machine's answer, by the entries
+pub answer_found : (b : Board) (n m : ℕ) (inputs : Inputs) (es : List Entry) (s : State) (k : ℕ) (e : Entry) (t : Task) → state_of b n m inputs es ≡ s → find_id t.id.0 (map row_of es) ≡ Some (k, row_of e) → verdict_of s t ≡ verdict_among inputs es k e t
+answer_found b n m inputs es s k e t y x =
+    ap (λ (z : State). verdict_of z t) (sym y)
+    ∙ ap (λ o. verdict_on (state_of b n m inputs es) o t) x
+    ∙ verdict_is b n m inputs es k e t
+
+pub answer_none : (b : Board) (n m : ℕ) (inputs : Inputs) (es : List Entry) (s : State) (t : Task) → state_of b n m inputs es ≡ s → find_id t.id.0 (map row_of es) ≡ None → verdict_of s t ≡ Gone
+answer_none b n m inputs es s t y x = ap (λ (z : State). verdict_of z t) (sym y) ∙ ap (λ o. verdict_on (state_of b n m inputs es) o t) x
+
+brought_other : (s : State) (v : Verdict) (o : Option (ℕ × Row)) → is_kept_verdict v ≡ false → brought_on s v o ≡ s
+brought_other s Gone o h = refl
+brought_other s (Stale n) o h = refl
+brought_other s Repeated o h = refl
+brought_other s Foreign o h = refl
+brought_other s Kept o h = absurd (let x : true ≡ false = h in cc)
+
+pub kept_verdict : (v : Verdict) → is_kept_verdict v ≡ true → v ≡ Kept
+kept_verdict Gone h = absurd (let x : false ≡ true = h in cc)
+kept_verdict (Stale n) h = absurd (let x : false ≡ true = h in cc)
+kept_verdict Repeated h = absurd (let x : false ≡ true = h in cc)
+kept_verdict Foreign h = absurd (let x : false ≡ true = h in cc)
+kept_verdict Kept h = refl
+
+pub state_none : (b : Board) (n m : ℕ) (inputs : Inputs) (es : List Entry) (s : State) (t : Task) → state_of b n m inputs es ≡ s → find_id t.id.0 (map row_of es) ≡ None → after_bring s t ≡ s
+state_none b n m inputs es s t y x = brought_other s (verdict_of s t) (find_row s t.id) (ap is_kept_verdict (answer_none b n m inputs es s t y x))
+
+pub state_other : (b : Board) (n m : ℕ) (inputs : Inputs) (es : List Entry) (s : State) (k : ℕ) (e : Entry) (t : Task) (v : Verdict) → state_of b n m inputs es ≡ s → find_id t.id.0 (map row_of es) ≡ Some (k, row_of e) → v ≡ verdict_among inputs es k e t → is_kept_verdict v ≡ false → after_bring s t ≡ s
+state_other b n m inputs es s k e t v y x z h = brought_other s (verdict_of s t) (find_row s t.id) (ap is_kept_verdict (answer_found b n m inputs es s k e t y x ∙ sym z) ∙ h)
+
+pub state_kept : (b : Board) (n m : ℕ) (inputs : Inputs) (es : List Entry) (s : State) (k : ℕ) (e : Entry) (t : Task) (v : Verdict) → state_of b n m inputs es ≡ s → find_id t.id.0 (map row_of es) ≡ Some (k, row_of e) → v ≡ verdict_among inputs es k e t → is_kept_verdict v ≡ true → state_of b n m inputs (set es k (kept_entry e t)) ≡ after_bring s t
+state_kept b n m inputs es s k e t v y x z h = sym (
+    ap (λ (z : State). after_bring z t) (sym y)
+    ∙ ap (λ o. brought_on (state_of b n m inputs es) (verdict_of (state_of b n m inputs es) t) o) x
+    ∙ ap (λ q. brought_on (state_of b n m inputs es) q (Some (k, row_of e))) (answer_found b n m inputs es (state_of b n m inputs es) k e t refl x ∙ sym z ∙ kept_verdict v h)
+    ∙ ap (λ (rs : List Row). record { board = b; edits = n; inputs = inputs; next = m; rows = rs }) (sym (map-set row_of es k (kept_entry e t))))
+
+-- the entry of an id that was found, through what the book lends
+pub found_entry : (i j : ℕ) (es ys : List Entry) (k : ℕ) → ys ≡ es → j ≡ i → Some k ≡ option_map (λ e. e.0) (find_id j (map row_of ys)) → (e : Entry) × (find_id i (map row_of es) ≡ Some (k, row_of e)) × (slice_get es k ≡ Some e)
+found_entry i j es ys k a c h = found_some i es k (h ∙ ap (λ zs. option_map (λ e. e.0) (find_id j (map row_of zs))) a ∙ ap (λ z. option_map (λ e. e.0) (find_id z (map row_of es))) c)
+
+pub found_none : (i j : ℕ) (es ys : List Entry) → ys ≡ es → j ≡ i → None ≡ option_map (λ e. e.0) (find_id j (map row_of ys)) → find_id i (map row_of es) ≡ None
+found_none i j es ys a c h = none_of (λ e. e.0) (find_id i (map row_of es)) (h ∙ ap (λ zs. option_map (λ e. e.0) (find_id j (map row_of zs))) a ∙ ap (λ z. option_map (λ e. e.0) (find_id z (map row_of es))) c)
+
+pub judged_by : (inputs : Inputs) (es ys : List Entry) (k : ℕ) (e : Entry) (t u : Task) (v : Verdict) → ys ≡ es → u ≡ t → slice_get es k ≡ Some e → ((e : Entry) → slice_get ys k ≡ Some e → v ≡ verdict_among inputs ys k e u) → v ≡ verdict_among inputs es k e t
+judged_by inputs es ys k e t u v a c g h = h e (ap (λ zs. slice_get zs k) a ∙ g) ∙ ap (λ zs. verdict_among inputs zs k e u) a ∙ ap (λ z. verdict_among inputs es k e z) c

@@ -1,0 +1,123 @@
+-- What the calls of a book find is what the machine names.
+use Rattle.std.proofs.Common.{◌≡◌, ℕ, ◌<◌, ◌≤◌, ◌+◌, List, [], ◌∷◌, ◌++◌, Bool, true, false, cond, Option, Some, None, Ok, refl, sym, ap, ◌∙◌, subst, arith, eqb, map, length, take, drop, suc, add-zero, get_or, length-append}
+use Rattle.std.proofs.Math.Path.{ap₂}
+use Rattle.std.proofs.lemmas.List.{map-append, length-map, take_more}
+use Rattle.std.specs.Prelude.{◌||◌}
+use Rattle.std.specs.Option.{option_map, unwrap_or}
+use Rattle.paris_names.specs.declared.keys.Key.{Key}
+use Rattle.paris_board.specs.Board.{Board, is_declared, width_of, count_of}
+use Rattle.paris_model.specs.Instructions.{Plan}
+use Rattle.paris_model.specs.Recipe.{same}
+use Rattle.paris_book.specs.Machine.{Row, Inputs, State, input_of, is_settled, show_at, known, input_changed, input_set}
+use Rattle.paris_book.specs.Kept.{row_of}
+use Rattle.paris_book.specs.Whole.{shape_of, Shaped, Fitted}
+use Rattle.paris_book.specs.declared.rows.Entry.{Entry}
+use Rattle.paris_book.specs.declared.inputs.Input.{Input}
+use Rattle.paris_book.specs.Among.{look_among}
+use Rattle.std.specs.Prelude.{position, nat_le, nat_lt, ◌^◌}
+use Rattle.std.proofs.lemmas.Bool.Decides.{nat_tests}
+use Rattle.std.proofs.lemmas.List.{length-drop, length-take-le}
+use Rattle.std.specs.Option.{ok_or}
+use Rattle.paris_names.specs.declared.keys.Spot.{Spot}
+use Rattle.paris_names.specs.declared.keys.Spot.TheVariants.{End as AtEnd}
+use Rattle.paris_names.specs.declared.names.KeyName.{KeyName}
+use Rattle.paris_names.specs.declared.faults.Fault.{Fault}
+use Rattle.paris_names.specs.declared.faults.Fault.TheVariants.{NoField, WrongCount, TooWide}
+use Rattle.paris_board.specs.Board.{key_named}
+use Rattle.paris_instr.specs.Resolve.{IsFittedTo}
+use Rattle.paris_exec.specs.Fields.{overwritten}
+use Rattle.paris_book.specs.declared.events.Shown.{Shown as AnyShown}
+use Rattle.paris_book.specs.Machine.{fault_of_values, input_fault, show_reply, show_key, place_of_spot, unsettled_rows}
+use Rattle.paris_book.proofs.Inserts.{state_of}
+use Rattle.paris_book.proofs.Shows.{show_is}
+
+-- a plan that fits the board fits the input data
+pub fitted_plan : (b : Board) (inputs : Inputs) (p : Plan) → Shaped b inputs → IsFittedTo b p → Fitted inputs p
+fitted_plan b inputs p s f k h =
+    let x = f k h in
+    s k ∙ ap (λ t. cond t (Some (width_of b k, count_of b k)) None) x.0 ∙ ap₂ (λ w c. Some (w, c)) x.1 x.2
+
+-- what is found is what has a name
+pub found_named : {A : Type 0} (o : Option A) (x : A) (fault : Fault) → Ok x ≡ ok_or o fault → o ≡ Some x
+found_named None x fault h = absurd (cc)
+found_named (Some y) x fault h = let same : x ≡ y = cc in ap Some (sym same)
+
+pub place_is : (b : Board) (n m : ℕ) (inputs : Inputs) (es : List Entry) → length es ≡ place_of_spot (state_of b n m inputs es) AtEnd
+place_is b n m inputs es = sym (length-map es row_of)
+
+pub shown_is : (b : Board) (n m : ℕ) (inputs : Inputs) (es ys : List Entry) (s : State) (name : KeyName) (spot : Spot) (k : Key) (place : ℕ) (look : AnyShown)
+    → state_of b n m inputs es ≡ s → Shaped b inputs → is_declared b k ≡ true → Ok k ≡ ok_or (key_named b name) NoField → place ≡ place_of_spot (state_of b n m inputs es) spot → look ≡ look_among inputs ys place k → ys ≡ es
+    → Ok look ≡ show_reply s name spot
+shown_is b n m inputs es ys s name spot k place look y shaped known named at is same =
+    ap Ok (is ∙ ap (λ zs. look_among inputs zs place k) same ∙ sym (show_is b n m inputs es k place shaped known) ∙ ap (λ i. show_at (state_of b n m inputs es) i k) at)
+    ∙ ap (show_key (state_of b n m inputs es) spot) (sym (found_named (key_named b name) k NoField named))
+    ∙ ap (λ (z : State). show_reply z name spot) y
+
+-- input data that a declared key has is of the board's shape
+pub shape_known : (b : Board) (inputs : Inputs) (k : Key) (i : Input) → Shaped b inputs → is_declared b k ≡ true → input_of inputs k ≡ Some i → (i.value.width ≡ width_of b k) × (length i.value.numbers ≡ count_of b k)
+shape_known b inputs k i shaped known there =
+    let both : Some (i.value.width, length i.value.numbers) ≡ Some (width_of b k, count_of b k) = sym (ap shape_of there) ∙ shaped k ∙ ap (λ t. cond t (Some (width_of b k, count_of b k)) None) known in
+    let same : (i.value.width, length i.value.numbers) ≡ (width_of b k, count_of b k) = ap (λ o. unwrap_or o (i.value.width, length i.value.numbers)) both in
+    (ap (λ (p : ℕ × ℕ). p.0) same, ap (λ (p : ℕ × ℕ). p.1) same)
+
+pub values_known : (b : Board) (n m : ℕ) (inputs : Inputs) (es : List Entry) (s : State) (name : KeyName) (from : ℕ) (values : List ℕ) (k : Key) (i : Input)
+    → state_of b n m inputs es ≡ s → Shaped b inputs → is_declared b k ≡ true → Ok k ≡ ok_or (key_named b name) NoField → input_of inputs k ≡ Some i
+    → fault_of_values (length i.value.numbers) i.value.width from values ≡ input_fault s from values (key_named s.board name)
+values_known b n m inputs es s name from values k i y shaped known named there =
+    let shape = shape_known b inputs k i shaped known there in
+    ap₂ (λ c w. fault_of_values c w from values) shape.1 shape.0
+    ∙ ap (input_fault (state_of b n m inputs es) from values) (sym (found_named (key_named b name) k NoField named))
+    ∙ ap (λ (z : State). input_fault z from values (key_named z.board name)) y
+
+pub input_named : (b : Board) (n m : ℕ) (inputs : Inputs) (es : List Entry) (s : State) (name : KeyName) (from : ℕ) (values : List ℕ) (k : Key) (i : Input)
+    → state_of b n m inputs es ≡ s → Ok k ≡ ok_or (key_named b name) NoField → input_of inputs k ≡ Some i
+    → input_changed (state_of b n m inputs es) k from values (Some i) ≡ input_set s (key_named s.board name) from values
+input_named b n m inputs es s name from values k i y named there =
+    ap (input_changed (state_of b n m inputs es) k from values) (sym there)
+    ∙ ap (λ o. input_set (state_of b n m inputs es) o from values) (sym (found_named (key_named b name) k NoField named))
+    ∙ ap (λ (z : State). input_set z (key_named z.board name) from values) y
+
+pub width_given : (i : Input) (from : ℕ) (values : List ℕ) → from + length values ≤ length i.value.numbers → length i.value.numbers ≡ length (overwritten i.value.numbers from values)
+width_given i from values h =
+    let all = length-append (take from i.value.numbers) (values ++ drop (from + length values) i.value.numbers) in
+    let first : length (take from i.value.numbers) ≡ from = length-take-le from i.value.numbers (omega (arith, h)) in
+    let rest = length-append values (drop (from + length values) i.value.numbers) in
+    let last = length-drop (from + length values) i.value.numbers in
+    omega (arith, all, first, rest, last, h)
+
+unsettled-append : (xs ys : List Row) → unsettled_rows (xs ++ ys) ≡ unsettled_rows xs + unsettled_rows ys
+unsettled-append [] ys = omega arith
+unsettled-append (x ∷ xs) ys = let rest = unsettled-append xs ys in rw rest (omega arith)
+
+pub unsettled_few : (rs : List Row) → unsettled_rows rs ≤ length rs
+unsettled_few [] = omega arith
+unsettled_few (r ∷ rs) = let rest = unsettled_few rs in by_status (is_settled r.status) rest
+  where
+    by_status : (b : Bool) → unsettled_rows rs ≤ length rs → cond b 0 1 + unsettled_rows rs ≤ suc (length rs)
+    by_status true h = omega arith
+    by_status false h = omega arith
+
+pub unsettled_more : (es : List Entry) (i : ℕ) (e : Entry) → i < length es → e ≡ get_or es i e → unsettled_rows (map row_of (take (i + 1) es)) ≡ unsettled_rows (map row_of (take i es)) + cond (is_settled e.status) 0 1
+unsettled_more es i e h at =
+    let more : take (i + 1) es ≡ take i es ++ e ∷ [] = take_more es i e h ∙ ap (λ j. take i es ++ j ∷ []) (sym at) in
+    ap (λ xs. unsettled_rows (map row_of xs)) more
+    ∙ ap unsettled_rows (map-append row_of (take i es) (e ∷ []))
+    ∙ unsettled-append (map row_of (take i es)) (row_of e ∷ [])
+    ∙ ap (λ x. unsettled_rows (map row_of (take i es)) + x) (add-zero (cond (is_settled e.status) 0 1))
+
+not_less : (m n : ℕ) → nat_lt m n ≡ false → n ≤ m
+not_less m n e = grind (arith, nat_tests)
+
+pub values_within : (count width from : ℕ) (values : List ℕ) → fault_of_values count width from values ≡ None → from + length values ≤ count
+values_within count width from values h = by_test (eqb (length values) 0) (nat_lt count (from + length values)) refl h
+  where
+    by_test : (a t : Bool) → nat_lt count (from + length values) ≡ t → cond (a || t) (Some WrongCount) (option_map (λ i. TooWide (from + i)) (position (λ x. nat_le (2 ^ width) x) values)) ≡ None → from + length values ≤ count
+    by_test true t e x = absurd (cc)
+    by_test false true e x = absurd (cc)
+    by_test false false e x = not_less count (from + length values) e
+
+pub few_edits : (b : Board) (n m : ℕ) (inputs : Inputs) (es : List Entry) (s : State) → state_of b n m inputs es ≡ s → s.edits < 9223372036854775807 → n < 9223372036854775807
+few_edits b n m inputs es s y h = subst (λ (z : State). z.edits < 9223372036854775807) (sym y) h
+
+pub spot_within : (b : Board) (n m : ℕ) (inputs : Inputs) (es : List Entry) (s : State) (place : ℕ) → state_of b n m inputs es ≡ s → place ≤ length s.rows → place ≤ length es
+spot_within b n m inputs es s place y h = subst (λ k. place ≤ k) (length-map es row_of) (subst (λ (z : State). place ≤ length z.rows) (sym y) h)

@@ -1,0 +1,115 @@
+-- The first of a list that passes a test which knows its place.
+use Rattle.std.proofs.Common.{◌≡◌, ℕ, ◌<◌, ◌+◌, List, [], ◌∷◌, Bool, true, false, cond, Option, Some, None, refl, sym, ap, ◌∙◌, subst, arith, eqb, map, length, take, zero, suc, add-zero, get_or, slice_get}
+use Rattle.std.proofs.Math.Path.{ap₂}
+use Rattle.std.proofs.lemmas.Bool.Decides.{Decides-eqb}
+use Rattle.std.proofs.lemmas.Option.{slice_get-map, slice_get_read}
+use Rattle.std.specs.Option.{option_map, unwrap_or}
+use Rattle.std.specs.List.{find, enumerate_from}
+use Rattle.paris_book.specs.Machine.{Row, find_id}
+use Rattle.paris_book.specs.Kept.{row_of}
+use Rattle.paris_book.specs.declared.rows.Entry.{Entry}
+
+-- none so far, and this one passes
+pub find_here : {X : Type 0} (p : ℕ × X → Bool) (xs : List X) (n i m : ℕ) (x : X) → m ≡ n + i → find p (enumerate_from n (take i xs)) ≡ None → slice_get xs i ≡ Some x → p (m, x) ≡ true → find p (enumerate_from n xs) ≡ Some (m, x)
+find_here p [] n i m x e none here t = absurd (cc)
+find_here {X} p (y ∷ ys) n zero m x e none here t =
+    let a : y ≡ x = cc in
+    let b : m ≡ n = omega arith in
+    rw (a, ← b, t) refl
+find_here {X} p (y ∷ ys) n (suc i) m x e none here t = by_test (find_here p ys (n + 1) i m x (omega arith)) (p (n, y)) none
+  where
+    by_test : (find p (enumerate_from (n + 1) (take i ys)) ≡ None → slice_get ys i ≡ Some x → p (m, x) ≡ true → find p (enumerate_from (n + 1) ys) ≡ Some (m, x)) → (b : Bool) → cond b (Some (n, y)) (find p (enumerate_from (n + 1) (take i ys))) ≡ None → cond b (Some (n, y)) (find p (enumerate_from (n + 1) ys)) ≡ Some (m, x)
+    by_test rest true h = absurd (cc)
+    by_test rest false h = rest h here t
+
+-- none so far, nor this one
+pub find_more : {X : Type 0} (p : ℕ × X → Bool) (xs : List X) (n i m : ℕ) (x : X) → m ≡ n + i → find p (enumerate_from n (take i xs)) ≡ None → slice_get xs i ≡ Some x → p (m, x) ≡ false → find p (enumerate_from n (take (suc i) xs)) ≡ None
+find_more p [] n i m x e none here t = absurd (cc)
+find_more {X} p (y ∷ ys) n zero m x e none here t =
+    let a : y ≡ x = cc in
+    let b : m ≡ n = omega arith in
+    rw (a, ← b, t) refl
+find_more {X} p (y ∷ ys) n (suc i) m x e none here t = by_test (find_more p ys (n + 1) i m x (omega arith)) (p (n, y)) none
+  where
+    by_test : (find p (enumerate_from (n + 1) (take i ys)) ≡ None → slice_get ys i ≡ Some x → p (m, x) ≡ false → find p (enumerate_from (n + 1) (take (suc i) ys)) ≡ None) → (b : Bool) → cond b (Some (n, y)) (find p (enumerate_from (n + 1) (take i ys))) ≡ None → cond b (Some (n, y)) (find p (enumerate_from (n + 1) (take (suc i) ys))) ≡ None
+    by_test rest true h = absurd (cc)
+    by_test rest false h = rest h here t
+
+-- what is found stands at its place
+pub find_at_place : {X : Type 0} (p : ℕ × X → Bool) (xs : List X) (n k : ℕ) (x : X) → find p (enumerate_from n xs) ≡ Some (k, x) → (i : ℕ) × (k ≡ n + i) × (slice_get xs i ≡ Some x)
+find_at_place p [] n k x e = absurd (cc)
+find_at_place {X} p (y ∷ ys) n k x e = by_test (find_at_place p ys (n + 1) k x) (p (n, y)) e
+  where
+    by_test : (find p (enumerate_from (n + 1) ys) ≡ Some (k, x) → (i : ℕ) × (k ≡ n + 1 + i) × (slice_get ys i ≡ Some x)) → (b : Bool) → cond b (Some (n, y)) (find p (enumerate_from (n + 1) ys)) ≡ Some (k, x) → (i : ℕ) × (k ≡ n + i) × (slice_get (y ∷ ys) i ≡ Some x)
+    by_test rest true h =
+        let a : Some (n, y) ≡ Some (k, x) = h in
+        let pair : (n, y) ≡ (k, x) = cc in
+        let first : n ≡ k = ap (λ (q : ℕ × X). q.0) pair in
+        let second : y ≡ x = ap (λ (q : ℕ × X). q.1) pair in
+        (0, let q : k ≡ n + 0 = sym first ∙ sym (add-zero n) in q, ap Some second)
+    by_test rest false h = let r = rest h in (suc r.0, let q : k ≡ n + 1 + r.0 = r.1 in omega arith, r.2)
+
+pub row_here : (es : List Entry) (i : ℕ) (e : Entry) → i < length es → e ≡ get_or es i e → slice_get (map row_of es) i ≡ Some (row_of e)
+row_here es i e h x = slice_get-map row_of es i ∙ ap (option_map row_of) (slice_get_read es (length es) i e refl h x)
+
+pub eqb_apart : (i j : ℕ) → (i ≡ j → ⊥) → eqb i j ≡ false
+eqb_apart i j ne = by_test (eqb i j) refl
+  where
+    by_test : (b : Bool) → eqb i j ≡ b → b ≡ false
+    by_test true e = absurd (ne ((Decides-eqb i j).0 e))
+    by_test false e = refl
+
+-- the entry of an id that was found
+pub found_some : (i : ℕ) (es : List Entry) (k : ℕ) → Some k ≡ option_map (λ e. e.0) (find_id i (map row_of es)) → (e : Entry) × (find_id i (map row_of es) ≡ Some (k, row_of e)) × (slice_get es k ≡ Some e)
+found_some i es k h = go (find_id i (map row_of es)) refl h
+  where
+    at_place : (r : ℕ × Row) → find_id i (map row_of es) ≡ Some r → k ≡ r.0 → slice_get (map row_of es) k ≡ Some r.1
+    at_place r e x = let f = find_at_place (λ e. eqb e.1.id.0 i) (map row_of es) 0 r.0 r.1 e in let y : f.0 ≡ k = omega (arith, f.1, x) in subst (λ z. slice_get (map row_of es) z ≡ Some r.1) y f.2
+
+    entry : (o : Option Entry) → slice_get es k ≡ o → (r : ℕ × Row) → find_id i (map row_of es) ≡ Some r → k ≡ r.0 → option_map row_of o ≡ Some r.1 → (e : Entry) × (find_id i (map row_of es) ≡ Some (k, row_of e)) × (slice_get es k ≡ Some e)
+    entry None e r x y z = absurd (cc)
+    entry (Some u) e r x y z =
+        let w : row_of u ≡ r.1 = ap (λ o. unwrap_or o (row_of u)) z in
+        (u, x ∙ ap Some (let q : r ≡ (k, row_of u) = ap₂ (λ a b. (a, b)) (sym y) (sym w) in q), e)
+
+    go : (o : Option (ℕ × Row)) → find_id i (map row_of es) ≡ o → Some k ≡ option_map (λ e. e.0) o → (e : Entry) × (find_id i (map row_of es) ≡ Some (k, row_of e)) × (slice_get es k ≡ Some e)
+    go None x y = absurd (cc)
+    go (Some r) x y =
+        let z : k ≡ r.0 = cc in
+        entry (slice_get es k) refl r x z (sym (slice_get-map row_of es k) ∙ at_place r x z)
+
+pub entry_at : (es : List Entry) (i : ℕ) → i < length es → (e : Entry) × (slice_get es i ≡ Some e)
+entry_at [] i h = absurd (omega arith)
+entry_at (e ∷ es) zero h = (e, refl)
+entry_at (e ∷ es) (suc i) h = entry_at es i (omega arith)
+
+pub row_at : (es : List Entry) (i : ℕ) (e : Entry) → slice_get es i ≡ Some e → slice_get (map row_of es) i ≡ Some (row_of e)
+row_at es i e x = slice_get-map row_of es i ∙ ap (option_map row_of) x
+
+-- the entry of the first that passes
+pub found_by : (p : ℕ × Row → Bool) (es : List Entry) (k : ℕ) → Some k ≡ option_map (λ e. e.0) (find p (enumerate_from 0 (map row_of es))) → (e : Entry) × (find p (enumerate_from 0 (map row_of es)) ≡ Some (k, row_of e)) × (slice_get es k ≡ Some e)
+found_by p es k h = go (find p (enumerate_from 0 (map row_of es))) refl h
+  where
+    at_place : (r : ℕ × Row) → find p (enumerate_from 0 (map row_of es)) ≡ Some r → k ≡ r.0 → slice_get (map row_of es) k ≡ Some r.1
+    at_place r e x = let f = find_at_place p (map row_of es) 0 r.0 r.1 e in let y : f.0 ≡ k = omega (arith, f.1, x) in subst (λ z. slice_get (map row_of es) z ≡ Some r.1) y f.2
+
+    entry : (o : Option Entry) → slice_get es k ≡ o → (r : ℕ × Row) → find p (enumerate_from 0 (map row_of es)) ≡ Some r → k ≡ r.0 → option_map row_of o ≡ Some r.1 → (e : Entry) × (find p (enumerate_from 0 (map row_of es)) ≡ Some (k, row_of e)) × (slice_get es k ≡ Some e)
+    entry None e r x y z = absurd (cc)
+    entry (Some u) e r x y z =
+        let w : row_of u ≡ r.1 = ap (λ o. unwrap_or o (row_of u)) z in
+        (u, x ∙ ap Some (let q : r ≡ (k, row_of u) = ap₂ (λ a b. (a, b)) (sym y) (sym w) in q), e)
+
+    go : (o : Option (ℕ × Row)) → find p (enumerate_from 0 (map row_of es)) ≡ o → Some k ≡ option_map (λ e. e.0) o → (e : Entry) × (find p (enumerate_from 0 (map row_of es)) ≡ Some (k, row_of e)) × (slice_get es k ≡ Some e)
+    go None x y = absurd (cc)
+    go (Some r) x y =
+        let z : k ≡ r.0 = cc in
+        entry (slice_get es k) refl r x z (sym (slice_get-map row_of es k) ∙ at_place r x z)
+
+-- what passed the test, where one was found
+pub found_passes : {X : Type 0} (p : ℕ × X → Bool) (xs : List (ℕ × X)) (x : ℕ × X) → find p xs ≡ Some x → p x ≡ true
+found_passes p [] x e = absurd (cc)
+found_passes {X} p (y ∷ ys) x e = by_test (found_passes p ys x) (p y) refl e
+  where
+    by_test : (find p ys ≡ Some x → p x ≡ true) → (b : Bool) → p y ≡ b → cond b (Some y) (find p ys) ≡ Some x → p x ≡ true
+    by_test rest true t h = let same : y ≡ x = ap (λ o. unwrap_or o y) h in subst (λ z. p z ≡ true) same t
+    by_test rest false t h = rest h

@@ -1,0 +1,16 @@
+pub mod Values
+pub mod Recipes
+pub mod Origins
+pub mod Edits
+pub mod Inserts
+pub mod Finds
+pub mod Marks
+pub mod Shows
+pub mod Steps
+pub mod InputEdits
+pub mod Settling
+pub mod Declares
+pub mod Takes
+pub mod Brings
+pub mod Calls
+pub mod Runs

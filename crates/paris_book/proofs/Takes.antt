@@ -1,0 +1,75 @@
+-- The order that a book takes is the machine's.
+use Rattle.std.proofs.Common.{◌≡◌, ℕ, List, Bool, true, false, Option, Some, None, refl, sym, ap, ◌∙◌, map, set, slice_get}
+use Rattle.std.proofs.Math.Path.{fun_ext}
+use Rattle.std.proofs.lemmas.List.{map-set}
+use Rattle.std.specs.Prelude.{◌&&◌}
+use Rattle.std.specs.Option.{option_map, unwrap_or}
+use Rattle.std.specs.List.{list_all, find, enumerate_from}
+use Rattle.paris_names.specs.declared.keys.Key.{Key}
+use Rattle.paris_board.specs.Board.{Board}
+use Rattle.paris_model.specs.Frame.{World}
+use Rattle.paris_model.specs.Instructions.{reads}
+use Rattle.paris_exec.specs.Tasks.{field_of}
+use Rattle.paris_book.specs.Machine.{Row, Inputs, State, is_settled, is_waiting, next_ready, order_of, take_reply, taken, after_take}
+use Rattle.paris_book.specs.Kept.{row_of}
+use Rattle.paris_book.specs.declared.rows.Entry.{Entry}
+use Rattle.paris_book.specs.declared.rows.Status.{Status}
+use Rattle.paris_book.specs.declared.rows.Status.TheVariants.{Waiting, Out, Settled}
+use Rattle.paris_book.specs.Among.{firm_among, ready_among, next_among, order_among, out_entry}
+use Rattle.paris_book.proofs.Finds.{found_by, found_passes}
+use Rattle.paris_book.proofs.Settling.{and_first, and_second}
+use Rattle.paris_book.proofs.Inserts.{state_of}
+use Rattle.paris_book.proofs.Shows.{now_is, firm_is}
+
+pub none_of : {A : Type 0} {B : Type 0} (f : A → B) (o : Option A) → None ≡ option_map f o → o ≡ None
+none_of f None h = refl
+none_of f (Some x) h = absurd (cc)
+
+pub waiting_unsettled : (s : Status) → is_waiting s ≡ true → is_settled s ≡ false
+waiting_unsettled Waiting h = refl
+waiting_unsettled Out h = refl
+waiting_unsettled Settled h = absurd (let x : false ≡ true = h in cc)
+
+pub next_is : (b : Board) (n m : ℕ) (inputs : Inputs) (es : List Entry) → next_ready (state_of b n m inputs es) ≡ next_among es
+next_is b n m inputs es =
+    ap (λ (q : ℕ → Key → Bool). find (λ (e : ℕ × Row). is_waiting e.1.status && list_all (q e.0) (reads e.1.plan)) (enumerate_from 0 (map row_of es)))
+    (fun_ext (λ place. fun_ext (λ k. firm_is b n m inputs es k place)))
+
+-- the row that was found
+pub next_found : (es ys : List Entry) (k : ℕ) → ys ≡ es → Some k ≡ option_map (λ e. e.0) (next_among ys) → (e : Entry) × (next_among es ≡ Some (k, row_of e)) × (slice_get es k ≡ Some e)
+next_found es ys k b h = found_by (ready_among es) es k (h ∙ ap (λ zs. option_map (λ e. e.0) (next_among zs)) b)
+
+pub found_is_ready : (es : List Entry) (k : ℕ) (e : Entry) → next_among es ≡ Some (k, row_of e) → ready_among es (k, row_of e) ≡ true
+found_is_ready es k e x = found_passes (ready_among es) (enumerate_from 0 (map row_of es)) (k, row_of e) x
+
+pub take_state : (b : Board) (n m : ℕ) (inputs : Inputs) (es : List Entry) (s : State) (k : ℕ) (e : Entry) → state_of b n m inputs es ≡ s → next_among es ≡ Some (k, row_of e) → state_of b n m inputs (set es k (out_entry e)) ≡ after_take s
+take_state b n m inputs es s k e y x =
+    ap (λ (rs : List Row). record { board = b; edits = n; inputs = inputs; next = m; rows = rs }) (map-set row_of es k (out_entry e))
+    ∙ ap (taken (state_of b n m inputs es)) (sym x ∙ sym (next_is b n m inputs es))
+    ∙ ap after_take y
+
+pub take_order : (b : Board) (n m : ℕ) (inputs : Inputs) (es : List Entry) (s : State) (k : ℕ) (e : Entry) → state_of b n m inputs es ≡ s → next_among es ≡ Some (k, row_of e) → Some (order_among inputs es k e) ≡ take_reply s
+take_order b n m inputs es s k e y x =
+    ap (λ (w : World). Some (record { id = e.id; edition = e.edition; plan = e.plan; inputs = map (λ f. field_of e.plan f (w f)) (reads e.plan) })) (sym (now_is b n m inputs es k))
+    ∙ ap (option_map (order_of (state_of b n m inputs es))) (sym x ∙ sym (next_is b n m inputs es))
+    ∙ ap take_reply y
+
+pub ready_unsettled : (es : List Entry) (k : ℕ) (e : Entry) → next_among es ≡ Some (k, row_of e) → is_settled e.status ≡ false
+ready_unsettled es k e x = waiting_unsettled e.status (and_first (is_waiting e.status) (list_all (firm_among es k) (reads e.plan)) (found_is_ready es k e x))
+
+pub ready_firm : (es ys : List Entry) (k : ℕ) (e u : Entry) → ys ≡ es → next_among es ≡ Some (k, row_of e) → slice_get es k ≡ Some e → slice_get ys k ≡ Some u → list_all (firm_among ys k) (reads u.plan) ≡ true
+ready_firm es ys k e u b x y z =
+    let same : u ≡ e = ap (λ o. unwrap_or o u) (sym z ∙ ap (λ (zs : List Entry). slice_get zs k) b ∙ y) in
+    ap (λ (v : Entry). list_all (firm_among ys k) (reads v.plan)) same
+    ∙ ap (λ (zs : List Entry). list_all (firm_among zs k) (reads e.plan)) b
+    ∙ and_second (is_waiting e.status) (list_all (firm_among es k) (reads e.plan)) (found_is_ready es k e x)
+
+none_next : (b : Board) (n m : ℕ) (inputs : Inputs) (es : List Entry) (s : State) (ys : List Entry) → state_of b n m inputs es ≡ s → ys ≡ es → None ≡ option_map (λ e. e.0) (next_among ys) → next_ready s ≡ None
+none_next b n m inputs es s ys y a h =
+    ap next_ready (sym y) ∙ next_is b n m inputs es ∙ none_of (λ e. e.0) (next_among es) (h ∙ ap (λ zs. option_map (λ e. e.0) (next_among zs)) a)
+
+pub none_order : (b : Board) (n m : ℕ) (inputs : Inputs) (es : List Entry) (s : State) (ys : List Entry) → state_of b n m inputs es ≡ s → ys ≡ es → None ≡ option_map (λ e. e.0) (next_among ys) → None ≡ take_reply s
+none_order b n m inputs es s ys y a h = sym (ap (option_map (order_of s)) (none_next b n m inputs es s ys y a h))
+
+pub none_state : (b : Board) (n m : ℕ) (inputs : Inputs) (es : List Entry) (s : State) (ys : List Entry) → state_of b n m inputs es ≡ s → ys ≡ es → None ≡ option_map (λ e. e.0) (next_among ys) → s ≡ after_take s
+none_state b n m inputs es s ys y a h = sym (ap (taken s) (none_next b n m inputs es s ys y a h))

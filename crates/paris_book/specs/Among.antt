@@ -1,0 +1,73 @@
+-- What the machine shows, said of the entries.
+use Rattle.std.specs.Prelude.{◌≡◌, ℕ, Bool, List, take, map, length, Option, Some, None, ◌&&◌}
+use Rattle.std.specs.Option.{option_map}
+use Rattle.std.specs.List.{list_all, find, enumerate_from}
+use Rattle.paris_names.specs.declared.keys.Key.{Key}
+use Rattle.paris_model.specs.Instructions.{Plan, reads}
+use Rattle.paris_model.specs.Recipe.{origin}
+use Rattle.paris_exec.specs.Fields.{FieldNumbers}
+use Rattle.paris_exec.specs.Tasks.{Task, field_of}
+use Rattle.paris_book.specs.Kept.{row_of, plan_of, present}
+use Rattle.paris_book.specs.Machine.{Inputs, Row, is_firm, is_waiting, shown_of}
+use Rattle.paris_book.specs.Whole.{shape_in}
+use Rattle.paris_book.specs.declared.inputs.InputData.{InputData}
+use Rattle.paris_book.specs.declared.rows.Entry.{Entry}
+use Rattle.paris_book.specs.declared.rows.Status.TheVariants.{Out, Settled}
+use Rattle.paris_book.specs.declared.events.Look.{Look}
+use Rattle.paris_book.specs.declared.events.Look.TheVariants.{Settled as LookSettled, Pending as LookPending}
+use Rattle.paris_book.specs.declared.events.Shown.{Shown}
+use Rattle.paris_book.specs.declared.events.Shown.TheVariants.{Settled as ShownSettled, Pending}
+
+abbrev pub inputs_of : InputData → Inputs
+inputs_of d = record { fields = d.fields.items; flags = d.flags.items }
+
+-- the last entry before a place that writes a key
+abbrev pub origin_among : List Entry → ℕ → Key → Option Entry
+origin_among es place k = origin plan_of k (take place es)
+
+abbrev pub width_in_shape : Option (ℕ × ℕ) → ℕ
+width_in_shape None = 0
+width_in_shape (Some s) = s.0
+
+-- the value of a key at a place
+abbrev pub value_among : Inputs → List Entry → ℕ → Key → FieldNumbers
+value_among inputs es place k = record { width = width_in_shape (shape_in inputs k); numbers = present inputs es place k }
+
+-- what is shown of it
+abbrev pub look_among : Inputs → List Entry → ℕ → Key → Shown
+look_among inputs es place k = shown_of (option_map row_of (origin_among es place k)) (value_among inputs es place k)
+
+-- a look, with the value that it lends
+abbrev pub look_shown : Look → Shown
+look_shown (LookSettled v) = ShownSettled v.now
+look_shown (LookPending id) = Pending id
+
+-- a value that is lent has this width and this number of processors
+abbrev pub LookFits : Look → Option (ℕ × ℕ) → Type 0
+LookFits (LookSettled v) shape = shape ≡ Some (v.now.width, length v.now.numbers)
+LookFits (LookPending id) shape = Unit {0}
+
+-- whether the origin of a key is the start or settled
+abbrev pub firm_among : List Entry → ℕ → Key → Bool
+firm_among es place k = is_firm (option_map row_of (origin_among es place k))
+
+abbrev pub ready_among : List Entry → ℕ × Row → Bool
+ready_among es e = is_waiting e.1.status && list_all (firm_among es e.0) (reads e.1.plan)
+
+abbrev pub next_among : List Entry → Option (ℕ × Row)
+next_among es = find (ready_among es) (enumerate_from 0 (map row_of es))
+
+-- the values at the keys that a plan reads
+abbrev pub inputs_among : Inputs → List Entry → ℕ → Plan → List FieldNumbers
+inputs_among inputs es place p = map (λ k. field_of p k (present inputs es place k)) (reads p)
+
+abbrev pub order_among : Inputs → List Entry → ℕ → Entry → Task
+order_among inputs es place e = record { id = e.id; edition = e.edition; plan = e.plan; inputs = inputs_among inputs es place e.plan }
+
+-- an entry of which an order is out
+abbrev pub out_entry : Entry → Entry
+out_entry e = record e { status = Out }
+
+-- an entry with the result that it keeps
+abbrev pub kept_entry : Entry → Task → Entry
+kept_entry e t = record e { status = Settled; done = Some t }

@@ -1,0 +1,48 @@
+-- Looks at a row, and verdicts, said of the entries.
+use Rattle.std.specs.Prelude.{◌≡◌, ℕ, ◌==◌, Bool, true, false, ◌&&◌, List, length, Some, if◌then◌else◌}
+use Rattle.std.specs.List.{list_all}
+use Rattle.std.specs.Cmp.Lexicographic.{pointwise}
+use Rattle.paris_names.specs.declared.faults.Fault.{Fault}
+use Rattle.paris_names.specs.declared.faults.Fault.TheVariants.{NoMemory}
+use Rattle.paris_names.specs.declared.keys.Key.{Key}
+use Rattle.paris_names.specs.Keys.{has_key}
+use Rattle.paris_geometry.specs.Geometry.{processor_count}
+use Rattle.paris_model.specs.Instructions.{reads, writes}
+use Rattle.paris_instr.specs.PlanEq.{plan_eq}
+use Rattle.paris_exec.specs.Fields.{field_eq}
+use Rattle.paris_exec.specs.Tasks.{Task, task_value}
+use Rattle.paris_book.specs.Machine.{Inputs, is_settled}
+use Rattle.paris_book.specs.Among.{firm_among, inputs_among}
+use Rattle.paris_book.specs.declared.rows.Entry.{Entry}
+use Rattle.paris_book.specs.declared.events.Look.{Look}
+use Rattle.paris_book.specs.declared.events.Look.TheVariants.{Settled, Pending}
+use Rattle.paris_book.specs.declared.events.Verdict.{Verdict}
+use Rattle.paris_book.specs.declared.events.Verdict.TheVariants.{Stale, Repeated, Foreign, Kept}
+
+-- a settled row keeps a result that holds the key
+abbrev pub KeptFor : Entry → Key → Type 0
+KeptFor e k = is_settled e.status ≡ true → (d : Task) × (e.done ≡ Some d) × (has_key (writes d.plan) k ≡ true)
+
+-- a look at a row: its result's value where it is settled, else its id
+abbrev pub LooksAt : Look → Entry → Key → Type 0
+LooksAt (Settled v) e k = (is_settled e.status ≡ true) × ((d : Task) × (e.done ≡ Some d) × (v.now ≡ task_value d k) × (length v.now.numbers ≡ processor_count d.plan.axes))
+LooksAt (Pending id) e k = (is_settled e.status ≡ false) × (id ≡ e.id)
+
+-- whether a result is of the entry's plan and of the present values
+abbrev pub present_among : Inputs → List Entry → ℕ → Entry → Task → Bool
+present_among inputs es place e t = plan_eq e.plan t.plan && (list_all (firm_among es place) (reads e.plan) && pointwise field_eq (inputs_among inputs es place e.plan) t.inputs)
+
+abbrev pub verdict_among : Inputs → List Entry → ℕ → Entry → Task → Verdict
+verdict_among inputs es place e t =
+    if e.edition.0 == t.edition.0
+    then (if is_settled e.status then Repeated else (if present_among inputs es place e t then Kept else Foreign))
+    else Stale e.edition
+
+abbrev pub is_kept_verdict : Verdict → Bool
+is_kept_verdict Kept = true
+is_kept_verdict _ = false
+
+-- whether a fault is want of memory
+abbrev pub is_no_memory : Fault → Bool
+is_no_memory NoMemory = true
+is_no_memory _ = false

@@ -1,0 +1,63 @@
+-- What is always true of a book.
+use Rattle.std.specs.Prelude.{◌≡◌, ℕ, ◌+◌, ◌<◌, ◌≤◌, List, [], ◌∷◌, true, false, ◌==◌, ◌||◌, map, length, Option, Some, None, if◌then◌else◌}
+use Rattle.std.specs.List.{list_any}
+use Rattle.paris_names.specs.declared.keys.Key.{Key}
+use Rattle.paris_names.specs.Keys.{has_key}
+use Rattle.paris_geometry.specs.Geometry.{processor_count}
+use Rattle.paris_board.specs.Board.{Board, is_declared, width_of, count_of}
+use Rattle.paris_model.specs.Instructions.{Plan, reads, writes, key_width}
+use Rattle.paris_book.specs.Kept.{Sound}
+use Rattle.paris_book.specs.Machine.{Inputs, input_of, number_in, start_world}
+use Rattle.paris_book.specs.declared.inputs.Input.{Input}
+use Rattle.paris_book.specs.declared.rows.Entry.{Entry}
+
+-- the width of a key and how many numbers it has, if it is declared
+abbrev pub shape_on : Board → Key → Option (ℕ × ℕ)
+shape_on b k = if is_declared b k then Some (width_of b k, count_of b k) else None
+
+abbrev pub shape_of : Option Input → Option (ℕ × ℕ)
+shape_of None = None
+shape_of (Some i) = Some (i.value.width, length i.value.numbers)
+
+abbrev pub shape_in : Inputs → Key → Option (ℕ × ℕ)
+shape_in inputs k = shape_of (input_of inputs k)
+
+-- the input data is that of the declared keys
+abbrev pub Shaped : Board → Inputs → Type 0
+Shaped b inputs = (k : Key) → shape_in inputs k ≡ shape_on b k
+
+-- no number is above the count of edits
+abbrev pub InputsBelow : ℕ → Inputs → Type 0
+InputsBelow n inputs = (k : Key) → number_in (input_of inputs k) ≤ n
+
+abbrev pub RowsBelow : ℕ → ℕ → List Entry → Type 0
+RowsBelow n next [] = Unit {0}
+RowsBelow n next (e ∷ es) = (e.set_by ≤ n) × (e.id.0 < next) × RowsBelow n next es
+
+-- each id stands once
+abbrev pub IdsApart : List ℕ → Type 0
+IdsApart [] = Unit {0}
+IdsApart (i ∷ is) = (list_any (λ j. j == i) is ≡ false) × IdsApart is
+
+abbrev pub ids_of : List Entry → List ℕ
+ids_of es = map (λ (e : Entry). e.id.0) es
+
+-- the keys of a plan have input data, of the plan's widths and its number of processors
+abbrev pub Fitted : Inputs → Plan → Type 0
+Fitted inputs p = (k : Key) → (has_key (reads p) k || has_key (writes p) k) ≡ true → shape_in inputs k ≡ Some (key_width p k, processor_count p.axes)
+
+abbrev pub AllFitted : Inputs → List Entry → Type 0
+AllFitted inputs [] = Unit {0}
+AllFitted inputs (e ∷ es) = Fitted inputs e.plan × AllFitted inputs es
+
+pub record IsWhole (board : Board) (edits next : ℕ) (inputs : Inputs) (rows : List Entry) : Type 0 where
+  pub next_few : next ≤ edits + 1
+  pub edits_few : edits < 9223372036854775808
+  pub as_many_fields : length inputs.fields ≡ length board.fields
+  pub as_many_flags : length inputs.flags ≡ length board.sets
+  pub shaped : Shaped board inputs
+  pub inputs_below : InputsBelow edits inputs
+  pub rows_below : RowsBelow edits next rows
+  pub ids_apart : IdsApart (ids_of rows)
+  pub fitted : AllFitted inputs rows
+  pub sound : Sound (start_world inputs) (λ _. true) rows

@@ -1,0 +1,78 @@
+//! What is asked of a book, and what it answers.
+
+use paris_exec::{Done, FieldValue, Order};
+use paris_instr::Instr;
+use paris_names::{Edition, Fault, Items, KeyName, Name, RowId, Spot};
+
+/// An edit of the declarations, the input data or the program.
+#[derive(Debug, Drop)]
+pub enum Edit {
+    /// Declares a set of this name, with the lengths of its axes.
+    AddSet(Name, Items<u64>),
+    /// Declares a field of this name in the set of that name, with its width in bits.
+    AddField(Name, Name, u64),
+    /// Gives a key these values, from a processor on.
+    Input(KeyName, u64, Items<u128>),
+    /// Puts an instruction into the program.
+    Insert(Spot, Instr),
+}
+
+/// The answer to an edit that is accepted.
+#[derive(Clone, Copy, PartialEq, Eq, Debug)]
+pub enum EditReply {
+    Accepted,
+    /// The id of the row that was put in.
+    Row(RowId),
+}
+
+/// What became of a result.
+#[derive(Clone, Copy, PartialEq, Eq, Debug)]
+pub enum Verdict {
+    /// No row has its id.
+    Gone,
+    /// The row has another edition, which is given.
+    Stale(Edition),
+    /// The row is settled.
+    Repeated,
+    /// The plan or an input differs from the present one, or an origin isn't settled.
+    Foreign,
+    /// The row is settled by it.
+    Kept,
+}
+
+/// What is shown of a key, with its value.
+#[derive(Debug, Drop)]
+pub enum Shown {
+    Settled(FieldValue),
+    /// The row that has to be settled first.
+    Pending(RowId),
+}
+
+/// What is shown of a key, with its value lent.
+#[derive(Debug, Drop)]
+pub enum Look<'a> {
+    Settled(&'a FieldValue),
+    /// The row that has to be settled first.
+    Pending(RowId),
+}
+
+/// What is asked of a book.
+#[derive(Debug, Drop)]
+pub enum Event {
+    Edit(Edit),
+    /// Asks for an order for the first ready row.
+    Take,
+    /// Brings the result of an order.
+    Bring(Done),
+    /// Looks at a key at a place of the program.
+    Show(KeyName, Spot),
+}
+
+/// What a book answers.
+#[derive(Debug, Drop)]
+pub enum Reply {
+    Edit(Result<EditReply, Fault>),
+    Take(Option<Order>),
+    Bring(Verdict),
+    Show(Result<Shown, Fault>),
+}

@@ -1,0 +1,203 @@
+//! The input data: what each key holds at the start of the program.
+
+ghost use Rattle.std.specs.Prelude.{◌≡◌, ◌<◌, ◌≤◌, ◌+◌, ◌^◌, ◌++◌, ◌∷◌, [], ℕ, nat_le, length, replicate, position, None, IfOk, IfErr, IsSome, vec_len, vec_capacity};
+ghost use Rattle.paris_names.specs.Faults.{IsFaultOf};
+ghost use Rattle.paris_exec.specs.Fields.{AllFit, overwritten};
+ghost use Rattle.std.specs.Option.{option_copied};
+ghost use Rattle.paris_book.specs.Machine.{fault_of_values, flag_input, with_flag_input, input_of, with_input, declared_input, declared_flags};
+ghost use Rattle.paris_book.specs.Among.{inputs_of};
+
+use paris_exec::FieldValue;
+use paris_names::{Fault, FlagName, Key};
+use std::alloc::{AllocError, Global};
+
+/// A key's value at the start of the program, and the number of the edit that last gave or declared it.
+#[derive(Debug, Drop)]
+pub struct Input {
+    pub value: FieldValue,
+    pub number: u64,
+}
+
+/// The input data of a set's flags.
+#[derive(Debug, Drop)]
+pub struct FlagInputs {
+    pub context: Input,
+    pub test: Input,
+    pub carry: Input,
+    pub overflow: Input,
+}
+
+/// The input data of all fields, and of the flags of all sets, in the order of their declaration.
+#[derive(Debug, Drop)]
+pub(crate) struct InputData {
+    pub(crate) fields: Vec<Input>,
+    pub(crate) flags: Vec<FlagInputs>,
+}
+
+impl FlagInputs {
+    /// The input data of a flag.
+    pub fn flag(&self, flag: FlagName) -> &Input
+        ensures { result.now ≡ flag_input self.now flag }
+    {
+        match flag {
+            FlagName::Context => &self.context,
+            FlagName::Test => &self.test,
+            FlagName::Carry => &self.carry,
+            FlagName::Overflow => &self.overflow,
+        }
+    }
+
+    /// Gives a flag other input data.
+    fn set_flag(&mut self, flag: FlagName, input: Input)
+        ensures { self.new ≡ with_flag_input self.old flag input }
+    {
+        match flag {
+            FlagName::Context => self.context = input,
+            FlagName::Test => self.test = input,
+            FlagName::Carry => self.carry = input,
+            FlagName::Overflow => self.overflow = input,
+        }
+    }
+}
+
+/// The input data of a key.
+pub(crate) fn input_at<'a>(inputs: &'a InputData, key: &Key) -> Option<&'a Input>
+    ensures { option_copied result ≡ input_of (inputs_of inputs.entry.now) key.now }
+{
+    match *key {
+        Key::Field(field) => inputs.fields.get(field.number() as usize),
+        Key::Flag(set, flag) => match inputs.flags.get(set.number() as usize) {
+            Some(flags) => Some(flags.flag(flag)),
+            None => None,
+        },
+    }
+}
+
+/// Gives a key other input data.
+pub(crate) fn set_input(inputs: &mut InputData, key: &Key, input: Input)
+    requires declared { IsSome (input_of (inputs_of inputs.old) key.now) }
+    ensures { inputs_of inputs.new ≡ with_input (inputs_of inputs.old) key.now input }
+{
+    match *key {
+        Key::Field(field) => {
+            let i = field.number() as usize;
+            inputs.fields[i] = input;
+        }
+        Key::Flag(set, flag) => {
+            let i = set.number() as usize;
+            inputs.flags[i].set_flag(flag, input);
+        }
+    }
+}
+
+/// The place of the first number that doesn't fit a width.
+fn first_too_wide(width: u64, numbers: &[u128]) -> Option<usize>
+    requires { width ≤ 64 }
+    ensures place { result ≡ position (λ x. nat_le (2 ^ width) x) numbers.now }
+    ensures fit { result ≡ None → AllFit width numbers.now }
+{
+    let bound = 1u128 << width;
+    numbers.iter().position(|x| *x >= bound)
+}
+
+/// Why values can't be given from a processor on in place of numbers of a key, if they can't.
+fn values_fault(value: &FieldValue, from: u64, values: &[u128]) -> Option<Fault>
+    ensures fault { result ≡ fault_of_values (length value.now.numbers) value.now.width from values.now }
+    ensures within { result ≡ None → from + length values.now ≤ length value.now.numbers }
+    ensures fit { result ≡ None → AllFit value.now.width values.now }
+{
+    let count = value.len() as u64;
+    if values.is_empty() || from > count || values.len() as u64 > count - from {
+        return Some(Fault::WrongCount);
+    }
+    first_too_wide(value.width(), values).map(|i| Fault::TooWide(from + i as u64))
+}
+
+/// Input data with values in place of as many from a processor on, as an edit gives it.
+pub(crate) fn given_input(
+    input: &Input,
+    number: u64,
+    from: u64,
+    values: &[u128],
+) -> Result<Input, Fault>
+    ensures ok { IfOk result (λ given. (fault_of_values (length input.now.value.numbers) input.now.value.width from values.now ≡ None)
+        × (given ≡ record { value = record { width = input.now.value.width; numbers = overwritten input.now.value.numbers from values.now }; number = number })) }
+    ensures err { IfErr result (IsFaultOf (fault_of_values (length input.now.value.numbers) input.now.value.width from values.now)) }
+{
+    if let Some(fault) = values_fault(&input.value, from, values) {
+        return Err(fault);
+    }
+    match input.value.with_numbers(from as usize, values) {
+        Ok(value) => Ok(Input { value, number }),
+        Err(_) => Err(Fault::NoMemory),
+    }
+}
+
+/// The same number for each processor.
+fn repeated(alloc: Global, number: u128, count: usize) -> Result<Vec<u128>, AllocError>
+    ensures { IfOk result (λ numbers. numbers.items ≡ replicate count number) }
+{
+    vec![in alloc; number; count]
+}
+
+/// The input data of a key as it is declared: the same number everywhere.
+pub(crate) fn declare_input(
+    alloc: Global,
+    number: u64,
+    width: u64,
+    count: usize,
+    start: u128,
+) -> Result<Input, AllocError>
+    requires narrow { width ≤ 64 }
+    requires wide { 0 < width }
+    requires bit { start ≤ 1 }
+    ensures { IfOk result (λ input. input ≡ declared_input number width count start) }
+{
+    let numbers = repeated(alloc, start, count)?;
+    Ok(Input {
+        value: FieldValue::from_vec(width, numbers),
+        number,
+    })
+}
+
+/// The input data of a set's flags as they are declared.
+pub(crate) fn declare_flags(
+    alloc: Global,
+    number: u64,
+    count: usize,
+) -> Result<FlagInputs, AllocError>
+    ensures { IfOk result (λ flags. flags ≡ declared_flags number count) }
+{
+    let context = declare_input(alloc, number, 1, count, 1)?;
+    let test = declare_input(alloc, number, 1, count, 0)?;
+    let carry = declare_input(alloc, number, 1, count, 0)?;
+    let overflow = declare_input(alloc, number, 1, count, 0)?;
+    Ok(FlagInputs {
+        context,
+        test,
+        carry,
+        overflow,
+    })
+}
+
+/// Adds the input data of a field, for which there is room.
+pub(crate) fn push_field(fields: &mut Vec<Input>, input: Input)
+    requires { vec_len fields.old < vec_capacity fields.old }
+    ensures { fields.new.items ≡ fields.old.items ++ input ∷ [] }
+{
+    match fields.push(input) {
+        Ok(()) => {}
+        Err(_) => unreachable!(),
+    }
+}
+
+/// Adds the input data of a set's flags, for which there is room.
+pub(crate) fn push_flags(all: &mut Vec<FlagInputs>, flags: FlagInputs)
+    requires { vec_len all.old < vec_capacity all.old }
+    ensures { all.new.items ≡ all.old.items ++ flags ∷ [] }
+{
+    match all.push(flags) {
+        Ok(()) => {}
+        Err(_) => unreachable!(),
+    }
+}
