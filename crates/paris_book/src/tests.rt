@@ -61,15 +61,55 @@ fn input(
     ))
 }
 
-/// A book with a set of four processors, the fields `a`, `b` and `c`, and input data of the first two.
-fn small_book(rt: &impl Abort, alloc: Global) -> Result<Book, Fail> {
+/// Makes an edit that is accepted.
+fn accept(rt: &impl Abort, book: &mut Book, edit: Edit) {
+    assert_eq!(rt; book.edit(edit), Ok(EditReply::Accepted));
+}
+
+/// Makes an edit that is refused.
+fn refuse(rt: &impl Abort, book: &mut Book, edit: Edit, fault: Fault) {
+    let count = book.edits();
+    assert_eq!(rt; book.edit(edit), Err(fault));
+    assert_eq!(rt; book.edits(), count);
+}
+
+/// Puts an instruction into the program, which becomes the row of this id.
+fn insert(rt: &impl Abort, book: &mut Book, spot: Spot, instr: Instr, id: u64) {
+    assert_eq!(rt;
+        book.edit(Edit::Insert(spot, instr)),
+        Ok(EditReply::Row(RowId(id)))
+    );
+}
+
+/// Gives a field these values, from a processor on.
+fn give(
+    rt: &impl Abort,
+    alloc: Global,
+    book: &mut Book,
+    text: &[u8],
+    from: u64,
+    values: &[u128],
+) -> Result<(), Fail> {
+    accept(rt, book, input(rt, alloc, text, from, values)?);
+    Ok(())
+}
+
+/// A book with a set of four processors and the fields `a`, `b` and `c`.
+fn declared_book(rt: &impl Abort, alloc: Global) -> Result<Book, Fail> {
     let mut book = Book::new(alloc);
-    book.edit(set(rt, alloc, b"s", &[4])?)?;
-    book.edit(declare(rt, b"a"))?;
-    book.edit(declare(rt, b"b"))?;
-    book.edit(declare(rt, b"c"))?;
-    book.edit(input(rt, alloc, b"a", 0, &[1, 2, 3, 4])?)?;
-    book.edit(input(rt, alloc, b"b", 0, &[10, 20, 30, 0])?)?;
+    accept(rt, &mut book, set(rt, alloc, b"s", &[4])?);
+    accept(rt, &mut book, declare(rt, b"a"));
+    accept(rt, &mut book, declare(rt, b"b"));
+    accept(rt, &mut book, declare(rt, b"c"));
+    Ok(book)
+}
+
+/// A book with input data of `a` and `b`, and the sum of both as its one row.
+fn book_of_sum(rt: &impl Abort, alloc: Global) -> Result<Book, Fail> {
+    let mut book = declared_book(rt, alloc)?;
+    give(rt, alloc, &mut book, b"a", 0, &[1, 2, 3, 4])?;
+    give(rt, alloc, &mut book, b"b", 0, &[10, 20, 30, 0])?;
+    insert(rt, &mut book, Spot::End, sum(rt), 1);
     Ok(book)
 }
 
@@ -83,132 +123,176 @@ fn run(rt: &impl Abort, alloc: Global, order: Order) -> Result<Done, Fail> {
     Ok(execute(alloc, order).ok().expect(rt, "there is memory"))
 }
 
-/// The numbers that are shown of a field at the end of the program, if they are settled.
-fn shown(rt: &impl Abort, book: &Book, text: &[u8]) -> Result<Option<Vec<u128>>, Fail> {
+fn takes_nothing(rt: &impl Abort, book: &mut Book) -> Result<(), Fail> {
+    assert!(rt; book.take()?.is_none());
+    Ok(())
+}
+
+/// Brings a result, which is judged so.
+fn bring(rt: &impl Abort, book: &mut Book, done: Done, verdict: Verdict) {
+    assert_eq!(rt; book.bring(done), verdict);
+}
+
+/// Settles the row of this id, which is the next one.
+fn settle_next(rt: &impl Abort, alloc: Global, book: &mut Book, id: u64) -> Result<(), Fail> {
+    let done = next_done(rt, alloc, book)?;
+    assert_eq!(rt; done.order().id(), RowId(id));
+    bring(rt, book, done, Verdict::Kept);
+    Ok(())
+}
+
+/// What is shown of a field at the end of the program is settled, and these numbers.
+fn shows(rt: &impl Abort, book: &Book, text: &[u8], wanted: &[u128]) -> Result<(), Fail> {
     match book.show(field(rt, text), Spot::End)? {
-        Look::Settled(value) => Ok(Some(value.numbers()?)),
-        Look::Pending(_) => Ok(None),
+        Look::Settled(value) => assert_eq!(rt; value.numbers()?.as_slice(), wanted),
+        Look::Pending(_) => assert!(rt; false),
     }
+    Ok(())
+}
+
+/// A field is pending at the end of the program, for the row of this id.
+fn waits(rt: &impl Abort, book: &Book, text: &[u8], id: u64) -> Result<(), Fail> {
+    match book.show(field(rt, text), Spot::End)? {
+        Look::Settled(_) => assert!(rt; false),
+        Look::Pending(row) => assert_eq!(rt; row, RowId(id)),
+    }
+    Ok(())
+}
+
+/// Just so many edits were accepted.
+fn has_edits(rt: &impl Abort, book: &Book, count: u64) {
+    assert_eq!(rt; book.edits(), count);
+}
+
+/// Just so many rows aren't settled.
+fn has_unsettled(rt: &impl Abort, book: &Book, count: usize) {
+    assert_eq!(rt; book.unsettled_count(), count);
 }
 
 #[test]
 fn a_sum_is_pending_until_its_result_is_brought(rt: HostRuntime) -> Result<(), Fail> {
-    let mut book = small_book(&rt, rt.alloc())?;
-    assert_eq!(rt; book.edits(), 6);
-    let row = book.edit(Edit::Insert(Spot::End, sum(&rt)))?;
-    assert_eq!(rt; row, EditReply::Row(RowId(1)));
-    assert_eq!(rt; book.unsettled_count(), 1);
-    assert!(rt; shown(&rt, &book, b"c")?.is_none());
+    let mut book = book_of_sum(&rt, rt.alloc())?;
+    has_edits(&rt, &book, 7);
+    has_unsettled(&rt, &book, 1);
+    waits(&rt, &book, b"c", 1)?;
     let done = next_done(&rt, rt.alloc(), &mut book)?;
-    assert!(rt; book.take()?.is_none());
-    let again = done.copy()?;
-    assert_eq!(rt; book.bring(done), Verdict::Kept);
-    assert_eq!(rt; book.bring(again), Verdict::Repeated);
-    let c = shown(&rt, &book, b"c")?.expect(&rt, "it is settled");
-    assert_eq!(rt; c.as_slice(), [11, 22, 33, 4].as_slice());
-    assert_eq!(rt; book.unsettled_count(), 0);
+    takes_nothing(&rt, &mut book)?;
+    waits(&rt, &book, b"c", 1)?;
+    bring(&rt, &mut book, done, Verdict::Kept);
+    shows(&rt, &book, b"c", &[11, 22, 33, 4])?;
+    has_unsettled(&rt, &book, 0);
     Ok(())
 }
 
 #[test]
+fn a_copy_of_a_kept_result_is_repeated(rt: HostRuntime) -> Result<(), Fail> {
+    let mut book = book_of_sum(&rt, rt.alloc())?;
+    let done = next_done(&rt, rt.alloc(), &mut book)?;
+    let again = done.copy()?;
+    bring(&rt, &mut book, done, Verdict::Kept);
+    bring(&rt, &mut book, again, Verdict::Repeated);
+    shows(&rt, &book, b"c", &[11, 22, 33, 4])?;
+    Ok(())
+}
+
+/// The result of the same row, with the same edition, of a book with other input data.
+fn done_of_other_input(rt: &impl Abort, alloc: Global) -> Result<Done, Fail> {
+    let mut other = declared_book(rt, alloc)?;
+    give(rt, alloc, &mut other, b"a", 0, &[1, 2, 3, 5])?;
+    give(rt, alloc, &mut other, b"b", 0, &[10, 20, 30, 0])?;
+    insert(rt, &mut other, Spot::End, sum(rt), 1);
+    next_done(rt, alloc, &mut other)
+}
+
+#[test]
 fn a_result_of_another_book_is_foreign(rt: HostRuntime) -> Result<(), Fail> {
-    let mut own = small_book(&rt, rt.alloc())?;
-    let mut other = small_book(&rt, rt.alloc())?;
-    own.edit(input(&rt, rt.alloc(), b"a", 3, &[5])?)?;
-    other.edit(input(&rt, rt.alloc(), b"a", 3, &[6])?)?;
-    own.edit(Edit::Insert(Spot::End, sum(&rt)))?;
-    other.edit(Edit::Insert(Spot::End, sum(&rt)))?;
-    let mine = next_done(&rt, rt.alloc(), &mut own)?;
-    let foreign = next_done(&rt, rt.alloc(), &mut other)?;
-    assert_eq!(rt; own.bring(foreign), Verdict::Foreign);
-    assert_eq!(rt; own.unsettled_count(), 1);
-    assert!(rt; shown(&rt, &own, b"c")?.is_none());
-    assert_eq!(rt; own.bring(mine), Verdict::Kept);
-    let c = shown(&rt, &own, b"c")?.expect(&rt, "it is settled");
-    assert_eq!(rt; c.as_slice(), [11, 22, 33, 5].as_slice());
+    let mut book = book_of_sum(&rt, rt.alloc())?;
+    let done = next_done(&rt, rt.alloc(), &mut book)?;
+    bring(
+        &rt,
+        &mut book,
+        done_of_other_input(&rt, rt.alloc())?,
+        Verdict::Foreign,
+    );
+    has_unsettled(&rt, &book, 1);
+    waits(&rt, &book, b"c", 1)?;
+    bring(&rt, &mut book, done, Verdict::Kept);
+    shows(&rt, &book, b"c", &[11, 22, 33, 4])?;
     Ok(())
 }
 
 #[test]
 fn a_result_of_no_row_is_gone(rt: HostRuntime) -> Result<(), Fail> {
-    let mut own = small_book(&rt, rt.alloc())?;
-    let mut other = small_book(&rt, rt.alloc())?;
-    other.edit(Edit::Insert(Spot::End, sum(&rt)))?;
+    let mut own = declared_book(&rt, rt.alloc())?;
+    let mut other = book_of_sum(&rt, rt.alloc())?;
     let foreign = next_done(&rt, rt.alloc(), &mut other)?;
-    assert_eq!(rt; own.bring(foreign), Verdict::Gone);
+    bring(&rt, &mut own, foreign, Verdict::Gone);
     Ok(())
 }
 
 #[test]
 fn the_same_input_again_makes_a_result_stale(rt: HostRuntime) -> Result<(), Fail> {
-    let mut book = small_book(&rt, rt.alloc())?;
-    book.edit(Edit::Insert(Spot::End, sum(&rt)))?;
+    let mut book = book_of_sum(&rt, rt.alloc())?;
     let done = next_done(&rt, rt.alloc(), &mut book)?;
-    book.edit(input(&rt, rt.alloc(), b"a", 0, &[1, 2, 3, 4])?)?;
-    assert_eq!(rt; book.bring(done), Verdict::Stale(Edition(8)));
-    assert_eq!(rt; book.unsettled_count(), 1);
+    give(&rt, rt.alloc(), &mut book, b"a", 0, &[1, 2, 3, 4])?;
+    bring(&rt, &mut book, done, Verdict::Stale(Edition(8)));
+    has_unsettled(&rt, &book, 1);
+    settle_next(&rt, rt.alloc(), &mut book, 1)?;
+    shows(&rt, &book, b"c", &[11, 22, 33, 4])?;
     Ok(())
 }
 
 #[test]
 fn an_input_touches_only_the_rows_that_read_it(rt: HostRuntime) -> Result<(), Fail> {
-    let mut book = small_book(&rt, rt.alloc())?;
-    book.edit(Edit::Insert(Spot::End, sum(&rt)))?;
-    book.edit(Edit::Insert(Spot::Start, constant(&rt, 7)))?;
-    for _ in 0..2 {
-        let done = next_done(&rt, rt.alloc(), &mut book)?;
-        assert_eq!(rt; book.bring(done), Verdict::Kept);
-    }
-    let c = shown(&rt, &book, b"c")?.expect(&rt, "it is settled");
-    assert_eq!(rt; c.as_slice(), [17, 27, 37, 7].as_slice());
-    book.edit(input(&rt, rt.alloc(), b"b", 0, &[1])?)?;
-    assert_eq!(rt; book.unsettled_count(), 1);
-    let done = next_done(&rt, rt.alloc(), &mut book)?;
-    assert_eq!(rt; done.order().id(), RowId(1));
-    assert_eq!(rt; book.bring(done), Verdict::Kept);
-    let c = shown(&rt, &book, b"c")?.expect(&rt, "it is settled");
-    assert_eq!(rt; c.as_slice(), [8, 27, 37, 7].as_slice());
+    let mut book = book_of_sum(&rt, rt.alloc())?;
+    insert(&rt, &mut book, Spot::Start, constant(&rt, 7), 2);
+    settle_next(&rt, rt.alloc(), &mut book, 2)?;
+    settle_next(&rt, rt.alloc(), &mut book, 1)?;
+    shows(&rt, &book, b"c", &[17, 27, 37, 7])?;
+    give(&rt, rt.alloc(), &mut book, b"b", 0, &[1])?;
+    has_unsettled(&rt, &book, 1);
+    settle_next(&rt, rt.alloc(), &mut book, 1)?;
+    shows(&rt, &book, b"c", &[8, 27, 37, 7])?;
     Ok(())
 }
 
 #[test]
 fn the_last_edit_is_followed_by_refusals(rt: HostRuntime) -> Result<(), Fail> {
     let mut book = Book::starting_at(rt.alloc(), 9_223_372_036_854_775_806);
-    assert_eq!(rt;
-        book.edit(set(&rt, rt.alloc(), b"s", &[4])?),
-        Ok(EditReply::Accepted)
-    );
-    assert_eq!(rt; book.edits(), 9_223_372_036_854_775_807);
-    assert_eq!(rt; book.edit(declare(&rt, b"a")), Err(Fault::EditionsSpent));
+    accept(&rt, &mut book, set(&rt, rt.alloc(), b"s", &[4])?);
+    has_edits(&rt, &book, 9_223_372_036_854_775_807);
+    refuse(&rt, &mut book, declare(&rt, b"a"), Fault::EditionsSpent);
     assert_eq!(rt; Fault::EditionsSpent.number(), 17);
-    assert_eq!(rt; book.edits(), 9_223_372_036_854_775_807);
     Ok(())
 }
 
 #[test]
 fn an_input_is_refused_by_its_first_fault(rt: HostRuntime) -> Result<(), Fail> {
-    let mut book = small_book(&rt, rt.alloc())?;
-    assert_eq!(rt;
-        book.edit(input(&rt, rt.alloc(), b"d", 0, &[1])?),
-        Err(Fault::NoField)
+    let mut book = declared_book(&rt, rt.alloc())?;
+    let (none, wide) = (
+        input(&rt, rt.alloc(), b"a", 0, &[])?,
+        input(&rt, rt.alloc(), b"a", 2, &[1, 256])?,
     );
-    assert_eq!(rt;
-        book.edit(input(&rt, rt.alloc(), b"a", 0, &[])?),
-        Err(Fault::WrongCount)
+    refuse(
+        &rt,
+        &mut book,
+        input(&rt, rt.alloc(), b"d", 0, &[1])?,
+        Fault::NoField,
     );
-    assert_eq!(rt;
-        book.edit(input(&rt, rt.alloc(), b"a", 3, &[1, 256])?),
-        Err(Fault::WrongCount)
+    refuse(&rt, &mut book, none, Fault::WrongCount);
+    refuse(
+        &rt,
+        &mut book,
+        input(&rt, rt.alloc(), b"a", 3, &[1, 256])?,
+        Fault::WrongCount,
     );
-    assert_eq!(rt;
-        book.edit(input(&rt, rt.alloc(), b"a", 2, &[1, 256])?),
-        Err(Fault::TooWide(3))
+    refuse(&rt, &mut book, wide, Fault::TooWide(3));
+    refuse(
+        &rt,
+        &mut book,
+        input(&rt, rt.alloc(), b"a", u64::MAX, &[1])?,
+        Fault::WrongCount,
     );
-    assert_eq!(rt;
-        book.edit(input(&rt, rt.alloc(), b"a", u64::MAX, &[1])?),
-        Err(Fault::WrongCount)
-    );
-    assert_eq!(rt; book.edits(), 6);
     Ok(())
 }
 
@@ -227,44 +311,82 @@ fn first_events(rt: &impl Abort, alloc: Global) -> Result<Vec<Event>, Fail> {
     Ok(events)
 }
 
-#[test]
-fn events_are_answered_together_or_one_by_one(rt: HostRuntime) -> Result<(), Fail> {
-    let mut book = Book::new(rt.alloc());
-    let replies = book
-        .run_events(first_events(&rt, rt.alloc())?)
-        .ok()
-        .expect(&rt, "there is memory");
-    assert_eq!(rt; replies.len(), 9);
-    assert_eq!(rt; book.edits(), 7);
-    let mut other = Book::new(rt.alloc());
+/// A reply to a first event before a result is brought, and the order that it holds.
+fn order_of(rt: &impl Abort, reply: Reply) -> Option<Order> {
+    match reply {
+        Reply::Take(taken) => return taken,
+        Reply::Show(Ok(Shown::Pending(id))) => assert_eq!(rt; id, RowId(1)),
+        Reply::Edit(answer) => assert!(rt; answer.is_ok()),
+        _ => assert!(rt; false),
+    }
+    None
+}
+
+/// The order that the replies to the first events hold.
+fn order_among(rt: &impl Abort, replies: Vec<Reply>) -> Option<Order> {
     let mut order = None;
-    for event in first_events(&rt, rt.alloc())? {
-        match other.step(event).ok().expect(&rt, "there is memory") {
-            Reply::Take(taken) => order = taken,
-            Reply::Show(Ok(Shown::Pending(id))) => assert_eq!(rt; id, RowId(1)),
-            Reply::Edit(answer) => assert!(rt; answer.is_ok()),
-            _ => assert!(rt; false),
+    for reply in replies {
+        if let Some(taken) = order_of(rt, reply) {
+            order = Some(taken);
         }
     }
-    let done = run(&rt, rt.alloc(), order.expect(&rt, "an order was taken"))?;
-    match other
-        .step(Event::Bring(done))
-        .ok()
-        .expect(&rt, "there is memory")
-    {
+    order
+}
+
+fn answer(rt: &impl Abort, book: &mut Book, event: Event) -> Reply {
+    book.step(event).ok().expect(rt, "there is memory")
+}
+
+/// The value that is shown as settled in a reply.
+fn settled_in(reply: Reply) -> Option<FieldValue> {
+    let Reply::Show(Ok(shown)) = reply else {
+        return None;
+    };
+    match shown {
+        Shown::Settled(value) => Some(value),
+        Shown::Pending(_) => None,
+    }
+}
+
+/// Brings the result of an order as an event.
+fn bring_as_event(rt: &impl Abort, book: &mut Book, done: Done) {
+    match answer(rt, book, Event::Bring(done)) {
         Reply::Bring(verdict) => assert_eq!(rt; verdict, Verdict::Kept),
         _ => assert!(rt; false),
     }
-    match other
-        .step(Event::Show(field(&rt, b"c"), Spot::End))
-        .ok()
-        .expect(&rt, "there is memory")
-    {
-        Reply::Show(Ok(Shown::Settled(value))) => {
-            let numbers = value.numbers()?;
-            assert_eq!(rt; numbers.as_slice(), [11, 22, 33, 4].as_slice());
-        }
-        _ => assert!(rt; false),
-    }
+}
+
+/// Looks at the sum as an event.
+fn look_as_event(rt: &impl Abort, book: &mut Book) -> Result<(), Fail> {
+    let reply = answer(rt, book, Event::Show(field(rt, b"c"), Spot::End));
+    let value = settled_in(reply).expect(rt, "it is settled");
+    assert_eq!(rt; value.numbers()?.as_slice(), [11, 22, 33, 4].as_slice());
     Ok(())
+}
+
+#[test]
+fn events_are_answered_together(rt: HostRuntime) -> Result<(), Fail> {
+    let mut book = Book::new(rt.alloc());
+    let events = first_events(&rt, rt.alloc())?;
+    let replies = book.run_events(events).ok().expect(&rt, "there is memory");
+    assert_eq!(rt; replies.len(), 9);
+    has_edits(&rt, &book, 7);
+    let order = order_among(&rt, replies.into_vec()).expect(&rt, "an order was taken");
+    let done = run(&rt, rt.alloc(), order)?;
+    bring_as_event(&rt, &mut book, done);
+    look_as_event(&rt, &mut book)
+}
+
+#[test]
+fn events_are_answered_one_by_one(rt: HostRuntime) -> Result<(), Fail> {
+    let mut book = Book::new(rt.alloc());
+    let mut order = None;
+    for event in first_events(&rt, rt.alloc())? {
+        if let Some(taken) = order_of(&rt, answer(&rt, &mut book, event)) {
+            order = Some(taken);
+        }
+    }
+    let done = run(&rt, rt.alloc(), order.expect(&rt, "an order was taken"))?;
+    bring_as_event(&rt, &mut book, done);
+    look_as_event(&rt, &mut book)
 }

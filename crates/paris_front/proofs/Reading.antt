@@ -23,17 +23,17 @@ pub record Reading (reader_old reader_new writer_old writer_new : Option (List �
 pub reading_nothing : (r w : Option (List ℕ)) (session : Sitting) (line : List ℕ) → session ≡ start → line ≡ [] → Reading r r w w session line
 reading_nothing r w session line same none = record { read = []; consumed = Consumes-nil r; written = Appends-nil w; session_is = same; line_is = none }
 
-pub reading_kept : (r0 r1 r2 w0 w1 : Option (List ℕ)) (s : Sitting) (line : List ℕ) → Keeps r1 r2 → Reading r0 r1 w0 w1 s line → Reading r0 r2 w0 w1 s line
-reading_kept r0 r1 r2 w0 w1 s line same old =
-    record { read = old.read; consumed = Consumes-kept r0 r1 r2 old.read old.consumed same; written = old.written; session_is = old.session_is; line_is = old.line_is }
+pub reading_kept : (reader0 reader1 reader2 writer0 writer1 : Option (List ℕ)) (s : Sitting) (line : List ℕ) → Keeps reader1 reader2 → Reading reader0 reader1 writer0 writer1 s line → Reading reader0 reader2 writer0 writer1 s line
+reading_kept reader0 reader1 reader2 writer0 writer1 s line same old =
+    record { read = old.read; consumed = Consumes-kept reader0 reader1 reader2 old.read old.consumed same; written = old.written; session_is = old.session_is; line_is = old.line_is }
 
-pub reading_more : (r0 r1 r2 w0 w1 w2 : Option (List ℕ)) (s t : Sitting) (line going bytes : List ℕ) → Reading r0 r1 w0 w1 s line
-    → Consumes r1 r2 bytes → Appends w1 w2 (said s line bytes) → t ≡ sitting_at s line bytes → going ≡ open_line line bytes
-    → Reading r0 r2 w0 w2 t going
-reading_more r0 r1 r2 w0 w1 w2 s t line going bytes old consumed written session_is line_is = record {
+pub reading_more : (reader0 reader1 reader2 writer0 writer1 writer2 : Option (List ℕ)) (s t : Sitting) (line going bytes : List ℕ) → Reading reader0 reader1 writer0 writer1 s line
+    → Consumes reader1 reader2 bytes → Appends writer1 writer2 (said s line bytes) → t ≡ sitting_at s line bytes → going ≡ open_line line bytes
+    → Reading reader0 reader2 writer0 writer2 t going
+reading_more reader0 reader1 reader2 writer0 writer1 writer2 s t line going bytes old consumed written session_is line_is = record {
   read = old.read ++ bytes;
-  consumed = Consumes-trans r0 r1 r2 old.read bytes old.consumed consumed;
-  written = more_said start s [] line old.read bytes w0 w1 w2 old.session_is old.line_is old.written written;
+  consumed = Consumes-trans reader0 reader1 reader2 old.read bytes old.consumed consumed;
+  written = more_said start s [] line old.read bytes writer0 writer1 writer2 old.session_is old.line_is old.written written;
   session_is = more_session start s t [] line old.read bytes old.session_is old.line_is session_is;
   line_is = more_line [] line going old.read bytes old.line_is line_is;
 }
@@ -49,9 +49,9 @@ pub sitting_after-is : (bytes : List ℕ) → sitting_after bytes ≡ (answer (s
 sitting_after-is bytes = sitting_lines bytes ∙ after-append start (ended_lines [] bytes) (open_line [] bytes ∷ [])
 
 -- the run stops while it reads
-pub stops_reading : (r0 r1 w0 w1 : Option (List ℕ)) (s : Sitting) (line : List ℕ) (fault : RunFault)
-    → ((read : List ℕ) → AnswersEnded fault read (said start [] read)) → Reading r0 r1 w0 w1 s line → StopsShort r0 r1 w0 w1 fault
-stops_reading r0 r1 w0 w1 s line fault answers old = record {
+pub stops_reading : (reader0 reader1 writer0 writer1 : Option (List ℕ)) (s : Sitting) (line : List ℕ) (fault : RunFault)
+    → ((read : List ℕ) → AnswersEnded fault read (said start [] read)) → Reading reader0 reader1 writer0 writer1 s line → StopsShort reader0 reader1 writer0 writer1 fault
+stops_reading reader0 reader1 writer0 writer1 s line fault answers old = record {
   read = old.read;
   text = said start [] old.read;
   consumed = old.consumed;
@@ -61,10 +61,10 @@ stops_reading r0 r1 w0 w1 s line fault answers old = record {
 }
 
 -- the run stops while it answers
-pub stops_answering : (r0 r1 r2 w0 w1 w2 : Option (List ℕ)) (s : Sitting) (line bytes : List ℕ) (fault : RunFault)
-    → ((read text : List ℕ) → AnswersEnded fault read text) → Reading r0 r1 w0 w1 s line → Consumes r1 r2 bytes → WritesFront w1 w2 (said s line bytes)
-    → StopsShort r0 r2 w0 w2 fault
-stops_answering r0 r1 r2 w0 w1 w2 s line bytes fault answers old consumed (front, appended, (more, split)) =
+pub stops_answering : (reader0 reader1 reader2 writer0 writer1 writer2 : Option (List ℕ)) (s : Sitting) (line bytes : List ℕ) (fault : RunFault)
+    → ((read text : List ℕ) → AnswersEnded fault read text) → Reading reader0 reader1 writer0 writer1 s line → Consumes reader1 reader2 bytes → WritesFront writer1 writer2 (said s line bytes)
+    → StopsShort reader0 reader2 writer0 writer2 fault
+stops_answering reader0 reader1 reader2 writer0 writer1 writer2 s line bytes fault answers old consumed (front, appended, (more, split)) =
     let read = old.read ++ bytes in
     let last = (answer (sitting_at start [] read) (open_line [] read)).1 in
     let whole : said start [] read ≡ said start [] old.read ++ (front ++ more) =
@@ -72,8 +72,8 @@ stops_answering r0 r1 r2 w0 w1 w2 s line bytes fault answers old consumed (front
     record {
       read = read;
       text = said start [] old.read ++ front;
-      consumed = Consumes-trans r0 r1 r2 old.read bytes old.consumed consumed;
-      written = Appends-trans w0 w1 w2 (said start [] old.read) front old.written appended;
+      consumed = Consumes-trans reader0 reader1 reader2 old.read bytes old.consumed consumed;
+      written = Appends-trans writer0 writer1 writer2 (said start [] old.read) front old.written appended;
       front = (
         more ++ last,
         transcript-is read
@@ -85,27 +85,27 @@ stops_answering r0 r1 r2 w0 w1 w2 s line bytes fault answers old consumed (front
     }
 
 -- the run ends
-pub ends_well : (r0 r1 r2 w0 w1 w2 : Option (List ℕ)) (s : Sitting) (line : List ℕ) (summary : Summary) → Reading r0 r1 w0 w1 s line
-    → Keeps r1 r2 → IsAtEnd r2 → Appends w1 w2 (answer s line).1
+pub ends_well : (reader0 reader1 reader2 writer0 writer1 writer2 : Option (List ℕ)) (s : Sitting) (line : List ℕ) (summary : Summary) → Reading reader0 reader1 writer0 writer1 s line
+    → Keeps reader1 reader2 → IsAtEnd reader2 → Appends writer1 writer2 (answer s line).1
     → summary ≡ record { commands = (answer s line).0.commands; refused = (answer s line).0.refusals }
-    → EndsWell r0 r2 w0 w2 summary
-ends_well r0 r1 r2 w0 w1 w2 s line summary old same end appended counted = record {
+    → EndsWell reader0 reader2 writer0 writer2 summary
+ends_well reader0 reader1 reader2 writer0 writer1 writer2 s line summary old same end appended counted = record {
   read = old.read;
-  consumed = Consumes-kept r0 r1 r2 old.read old.consumed same;
+  consumed = Consumes-kept reader0 reader1 reader2 old.read old.consumed same;
   at_end = end;
-  written = rw (transcript-is, ← old.session_is, ← old.line_is) (Appends-trans w0 w1 w2 (said start [] old.read) (answer s line).1 old.written appended);
+  written = rw (transcript-is, ← old.session_is, ← old.line_is) (Appends-trans writer0 writer1 writer2 (said start [] old.read) (answer s line).1 old.written appended);
   counted = rw (sitting_after-is, ← old.session_is, ← old.line_is) counted;
 }
 
 -- the last reply was cut short
-pub stops_at_last : (r0 r1 r2 w0 w1 w2 : Option (List ℕ)) (s : Sitting) (line : List ℕ) (fault : RunFault)
-    → ((read text : List ℕ) → AnswersEnded fault read text) → Reading r0 r1 w0 w1 s line → Keeps r1 r2 → WritesFront w1 w2 (answer s line).1
-    → StopsShort r0 r2 w0 w2 fault
-stops_at_last r0 r1 r2 w0 w1 w2 s line fault answers old same (front, appended, (more, split)) = record {
+pub stops_at_last : (reader0 reader1 reader2 writer0 writer1 writer2 : Option (List ℕ)) (s : Sitting) (line : List ℕ) (fault : RunFault)
+    → ((read text : List ℕ) → AnswersEnded fault read text) → Reading reader0 reader1 writer0 writer1 s line → Keeps reader1 reader2 → WritesFront writer1 writer2 (answer s line).1
+    → StopsShort reader0 reader2 writer0 writer2 fault
+stops_at_last reader0 reader1 reader2 writer0 writer1 writer2 s line fault answers old same (front, appended, (more, split)) = record {
   read = old.read;
   text = said start [] old.read ++ front;
-  consumed = Consumes-kept r0 r1 r2 old.read old.consumed same;
-  written = Appends-trans w0 w1 w2 (said start [] old.read) front old.written appended;
+  consumed = Consumes-kept reader0 reader1 reader2 old.read old.consumed same;
+  written = Appends-trans writer0 writer1 writer2 (said start [] old.read) front old.written appended;
   front = (more, rw (transcript-is, ← old.session_is, ← old.line_is, split) (sym (append_assoc (said start [] old.read) front more)));
   answered = answers old.read (said start [] old.read ++ front);
 }
