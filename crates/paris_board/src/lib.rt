@@ -4,6 +4,3 @@
 pub mod declarations;
 
 pub use declarations::Board;
-
-#[cfg(test)]
-mod tests;

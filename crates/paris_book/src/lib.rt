@@ -11,6 +11,3 @@ mod sweeps;
 pub use book::Book;
 pub use events::{Edit, EditReply, Event, Look, Reply, Shown, Verdict};
 pub use rows::Status;
-
-#[cfg(test)]
-mod tests;

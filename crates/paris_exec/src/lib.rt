@@ -9,6 +9,3 @@ mod plain;
 pub use execution::execute;
 pub use fields::FieldValue;
 pub use orders::{Done, Order, Outcome};
-
-#[cfg(test)]
-mod tests;

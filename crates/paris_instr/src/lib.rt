@@ -6,6 +6,3 @@ pub mod resolving;
 
 pub use plans::{Instr, Plan};
 pub use resolving::resolve;
-
-#[cfg(test)]
-mod tests;

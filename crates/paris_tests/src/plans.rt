@@ -1,15 +1,12 @@
-use super::*;
+use crate::common::*;
 use paris_board::Board;
 use paris_geometry::Geometry;
+use paris_instr::{Instr, resolve};
 use paris_model::{Action, BinaryOperator, Conditional, Operand};
 use paris_names::{Fault, FieldNo, FlagName, Key, Name, SetNo};
 use std::alloc::Global;
 use std::process::Abort;
 use std::test::*;
-
-fn name(rt: &impl Abort, text: &[u8]) -> Name {
-    Name::new(text).expect(rt, "it is a name")
-}
 
 /// `u-add-3-1L` of 8-bit fields, or of another length.
 fn sum(rt: &impl Abort, to: &[u8], left: &[u8], right: &[u8], length: u64) -> Instr {
@@ -125,7 +122,7 @@ fn the_first_fault_of_a_sum_is_answered(rt: HostRuntime) -> Result<(), Fail> {
     ];
     for (to, left, right, length, fault) in refused {
         let result = resolve(rt.alloc(), &board, sum(&rt, to, left, right, length));
-        assert!(rt; result.err() == Some(fault), "{fault}");
+        assert!(rt; result.err() == Some(fault));
     }
     Ok(())
 }
@@ -143,7 +140,7 @@ fn the_first_fault_of_a_constant_is_answered(rt: HostRuntime) -> Result<(), Fail
     ];
     for (to, value, length, fault) in refused {
         let result = resolve(rt.alloc(), &board, constant(&rt, to, value, length));
-        assert!(rt; result.err() == Some(fault), "{fault}");
+        assert!(rt; result.err() == Some(fault));
     }
     Ok(())
 }
@@ -154,7 +151,7 @@ fn the_limits_are_met(rt: HostRuntime) -> Result<(), Fail> {
     assert!(rt; resolve(rt.alloc(), &board, sum(&rt, b"c", b"a", b"b", 64)).is_ok());
     for (value, length) in [(0, 1), (1, 1), (255, 8), (18_446_744_073_709_551_615, 64)] {
         let result = resolve(rt.alloc(), &board, constant(&rt, b"c", value, length));
-        assert!(rt; result.is_ok(), "{value} at {length}");
+        assert!(rt; result.is_ok());
     }
     let above = constant(&rt, b"c", 18_446_744_073_709_551_616, 64);
     assert!(rt; resolve(rt.alloc(), &board, above).err() == Some(Fault::BadOperand));

@@ -1,4 +1,5 @@
-use super::*;
+use crate::common::*;
+use paris_book::{Book, Edit, EditReply, Event, Look, Reply, Shown, Verdict};
 use paris_exec::{Done, FieldValue, Order, execute};
 use paris_instr::Instr;
 use paris_model::{Action, BinaryOperator, Conditional};
@@ -6,10 +7,6 @@ use paris_names::{Edition, Fault, FlagName, Items, KeyName, Name, RowId, Spot};
 use std::alloc::{AllocError, Global};
 use std::process::Abort;
 use std::test::*;
-
-fn name(rt: &impl Abort, text: &[u8]) -> Name {
-    Name::new(text).expect(rt, "it is a name")
-}
 
 /// The key of a field.
 fn field(rt: &impl Abort, text: &[u8]) -> KeyName {

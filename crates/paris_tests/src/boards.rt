@@ -1,17 +1,19 @@
-use super::*;
+use crate::common::name;
+use paris_board::Board;
 use paris_geometry::Geometry;
 use paris_names::{Fault, FlagName, KeyName, Name};
 use std::alloc::Global;
 use std::process::Abort;
 use std::test::*;
 
-fn name(rt: &impl Abort, text: &str) -> Name {
-    Name::new(text.as_bytes()).expect(rt, "it is a name")
+/// The name of this text.
+fn named(rt: &impl Abort, text: &str) -> Name {
+    name(rt, text.as_bytes())
 }
 
 fn key_name(rt: &impl Abort, text: &str, flag: Option<FlagName>) -> KeyName {
     KeyName {
-        name: name(rt, text),
+        name: named(rt, text),
         flag,
     }
 }
@@ -19,10 +21,10 @@ fn key_name(rt: &impl Abort, text: &str, flag: Option<FlagName>) -> KeyName {
 /// A set `plane` of 4 by 2 and a set `line` of 8, with a field `x` of 8 bits in `line` and a field `y` of 64 in `plane`.
 fn small_board(rt: &impl Abort, alloc: Global) -> Result<Board, Fault> {
     let mut board = Board::new(alloc);
-    board.add_set(name(rt, "plane"), Geometry::new(&[4, 2])?)?;
-    board.add_set(name(rt, "line"), Geometry::new(&[8])?)?;
-    board.add_field(name(rt, "x"), name(rt, "line"), 8)?;
-    board.add_field(name(rt, "y"), name(rt, "plane"), 64)?;
+    board.add_set(named(rt, "plane"), Geometry::new(&[4, 2])?)?;
+    board.add_set(named(rt, "line"), Geometry::new(&[8])?)?;
+    board.add_field(named(rt, "x"), named(rt, "line"), 8)?;
+    board.add_field(named(rt, "y"), named(rt, "plane"), 64)?;
     Ok(board)
 }
 
@@ -36,11 +38,11 @@ fn a_new_board_is_empty(rt: HostRuntime) {
 fn sets_are_found(rt: HostRuntime) -> Result<(), Fail> {
     let board = small_board(&rt, rt.alloc())?;
     for (text, number, axes) in [("plane", 0, 2), ("line", 1, 1)] {
-        let set = board.set_of(name(&rt, text))?;
-        assert_eq!(rt; set.number(), number, "of {text}");
-        assert_eq!(rt; board.geometry(set).axes(), axes, "of {text}");
+        let set = board.set_of(named(&rt, text))?;
+        assert_eq!(rt; set.number(), number);
+        assert_eq!(rt; board.geometry(set).axes(), axes);
     }
-    assert!(rt; board.set_of(name(&rt, "x")) == Err(Fault::NoSet));
+    assert!(rt; board.set_of(named(&rt, "x")) == Err(Fault::NoSet));
     Ok(())
 }
 
@@ -55,11 +57,11 @@ fn fields_are_found(rt: HostRuntime) -> Result<(), Fail> {
     let board = small_board(&rt, rt.alloc())?;
     for (text, set, width) in [("x", 1, 8), ("y", 0, 64)] {
         let found = set_and_width(&board, key_name(&rt, text, None))?;
-        assert_eq!(rt; found, (set, width), "of {text}");
+        assert_eq!(rt; found, (set, width));
     }
     for text in ["plane", "z"] {
         let key = board.key_of(key_name(&rt, text, None));
-        assert!(rt; key == Err(Fault::NoField), "of {text}");
+        assert!(rt; key == Err(Fault::NoField));
     }
     Ok(())
 }
@@ -69,7 +71,7 @@ fn flags_are_found(rt: HostRuntime) -> Result<(), Fail> {
     let board = small_board(&rt, rt.alloc())?;
     for (text, set) in [("plane", 0), ("line", 1)] {
         let found = set_and_width(&board, key_name(&rt, text, Some(FlagName::Carry)))?;
-        assert_eq!(rt; found, (set, 1), "of {text}");
+        assert_eq!(rt; found, (set, 1));
     }
     let key = board.key_of(key_name(&rt, "x", Some(FlagName::Test)));
     assert!(rt; key == Err(Fault::NoField));
@@ -81,13 +83,10 @@ fn a_ninth_set_is_refused(rt: HostRuntime) -> Result<(), Fail> {
     let mut board = Board::new(rt.alloc());
     let line = Geometry::new(&[2])?;
     for text in ["a", "b", "c", "d", "e", "f", "g", "h"] {
-        board.add_set(name(&rt, text), line)?;
+        board.add_set(named(&rt, text), line)?;
     }
     for (text, fault) in [("i", Fault::SetsFull), ("h", Fault::NameTaken)] {
-        assert!(rt;
-            board.add_set(name(&rt, text), line) == Err(fault),
-            "of {text}"
-        );
+        assert!(rt; board.add_set(named(&rt, text), line) == Err(fault));
     }
     assert_eq!(rt; board.sets(), 8);
     Ok(())
@@ -96,7 +95,7 @@ fn a_ninth_set_is_refused(rt: HostRuntime) -> Result<(), Fail> {
 #[test]
 fn a_65th_field_is_refused(rt: HostRuntime) -> Result<(), Fail> {
     let mut board = small_board(&rt, rt.alloc())?;
-    let line = name(&rt, "line");
+    let line = named(&rt, "line");
     for first in b"abcdefgh" {
         for second in b"abcdefgh" {
             if board.fields() < 64 {
@@ -110,8 +109,8 @@ fn a_65th_field_is_refused(rt: HostRuntime) -> Result<(), Fail> {
         ("aa", "line", 0, Fault::NameTaken),
         ("aa", "z", 0, Fault::NoSet),
     ] {
-        let answer = board.add_field(name(&rt, text), name(&rt, set), width);
-        assert!(rt; answer == Err(fault), "of {text} in {set}");
+        let answer = board.add_field(named(&rt, text), named(&rt, set), width);
+        assert!(rt; answer == Err(fault));
     }
     assert_eq!(rt; board.fields(), 64);
     Ok(())
@@ -122,8 +121,8 @@ fn the_first_fault_is_answered(rt: HostRuntime) -> Result<(), Fail> {
     let mut board = small_board(&rt, rt.alloc())?;
     let line = Geometry::new(&[2])?;
     for text in ["plane", "y"] {
-        let answer = board.add_set(name(&rt, text), line);
-        assert!(rt; answer == Err(Fault::NameTaken), "of {text}");
+        let answer = board.add_set(named(&rt, text), line);
+        assert!(rt; answer == Err(Fault::NameTaken));
     }
     for (text, set, width, fault) in [
         ("x", "z", 0, Fault::NoSet),
@@ -132,8 +131,8 @@ fn the_first_fault_is_answered(rt: HostRuntime) -> Result<(), Fail> {
         ("z", "line", 0, Fault::BadWidth),
         ("z", "line", 65, Fault::BadWidth),
     ] {
-        let answer = board.add_field(name(&rt, text), name(&rt, set), width);
-        assert!(rt; answer == Err(fault), "of {text} in {set}");
+        let answer = board.add_field(named(&rt, text), named(&rt, set), width);
+        assert!(rt; answer == Err(fault));
     }
     assert_eq!(rt; (board.sets(), board.fields()), (2, 2));
     Ok(())
@@ -142,13 +141,15 @@ fn the_first_fault_is_answered(rt: HostRuntime) -> Result<(), Fail> {
 #[test]
 fn no_fault_is_foreseen_where_there_is_none(rt: HostRuntime) -> Result<(), Fail> {
     let board = small_board(&rt, rt.alloc())?;
-    assert!(rt; board.set_fault(name(&rt, "z")).is_none());
-    assert!(rt; board.set_fault(name(&rt, "x")) == Some(Fault::NameTaken));
+    assert!(rt; board.set_fault(named(&rt, "z")).is_none());
+    assert!(rt; board.set_fault(named(&rt, "x")) == Some(Fault::NameTaken));
     assert!(rt;
         board
-            .field_fault(name(&rt, "z"), name(&rt, "line"), 64)
+            .field_fault(named(&rt, "z"), named(&rt, "line"), 64)
             .is_none()
     );
-    assert!(rt; board.field_fault(name(&rt, "z"), name(&rt, "line"), 65) == Some(Fault::BadWidth));
+    assert!(rt;
+        board.field_fault(named(&rt, "z"), named(&rt, "line"), 65) == Some(Fault::BadWidth)
+    );
     Ok(())
 }

@@ -1,5 +1,6 @@
-use super::*;
+use crate::common::*;
 use paris_board::Board;
+use paris_exec::{Done, FieldValue, Order, Outcome, execute};
 use paris_geometry::Geometry;
 use paris_instr::{Instr, Plan, resolve};
 use paris_model::{Action, BinaryOperator, Conditional};
@@ -8,10 +9,6 @@ use paris_names::{Edition, Fault, FieldNo, FlagName, Key, Name, RowId, SetNo};
 use std::alloc::{AllocError, Global};
 use std::process::Abort;
 use std::test::*;
-
-fn name(rt: &impl Abort, text: &[u8]) -> Name {
-    Name::new(text).expect(rt, "it is a name")
-}
 
 /// The plan of an instruction where the fields `a`, `b` and `c` have this width, in a set of this many processors.
 fn plan_of(
