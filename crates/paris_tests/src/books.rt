@@ -2,7 +2,6 @@ use crate::common::*;
 use paris_book::{Book, Edit, EditReply, Event, Look, Reply, Shown, Verdict};
 use paris_exec::{Done, FieldValue, Order, execute};
 use paris_instr::Instr;
-use paris_model::{Action, BinaryOperator, Conditional};
 use paris_names::{Edition, Fault, FlagName, Items, KeyName, Name, RowId, Spot};
 use std::alloc::{AllocError, Global};
 use std::process::Abort;
@@ -17,23 +16,8 @@ fn field(rt: &impl Abort, text: &[u8]) -> KeyName {
 }
 
 /// `u-add-3-1L c a b 8`.
-fn sum(rt: &impl Abort) -> Instr {
-    Action::OnSelected(Conditional::Binary {
-        operator: BinaryOperator::UnsignedAdd,
-        to: name(rt, b"c"),
-        left: name(rt, b"a"),
-        right: name(rt, b"b"),
-        length: 8,
-    })
-}
-
-/// `u-move-constant-1L a`, of 8 bits.
-fn constant(rt: &impl Abort, value: u128) -> Instr {
-    Action::OnSelected(Conditional::MoveConstant {
-        to: name(rt, b"a"),
-        value,
-        length: 8,
-    })
+fn sum_of_both(rt: &impl Abort) -> Instr {
+    sum(rt, b"c", b"a", b"b", 8)
 }
 
 fn set(rt: &impl Abort, alloc: Global, text: &[u8], axes: &[u64]) -> Result<Edit, AllocError> {
@@ -106,7 +90,7 @@ fn book_of_sum(rt: &impl Abort, alloc: Global) -> Result<Book, Fail> {
     let mut book = declared_book(rt, alloc)?;
     give(rt, alloc, &mut book, b"a", 0, &[1, 2, 3, 4])?;
     give(rt, alloc, &mut book, b"b", 0, &[10, 20, 30, 0])?;
-    insert(rt, &mut book, Spot::End, sum(rt), 1);
+    insert(rt, &mut book, Spot::End, sum_of_both(rt), 1);
     Ok(book)
 }
 
@@ -197,7 +181,7 @@ fn done_of_other_input(rt: &impl Abort, alloc: Global) -> Result<Done, Fail> {
     let mut other = declared_book(rt, alloc)?;
     give(rt, alloc, &mut other, b"a", 0, &[1, 2, 3, 5])?;
     give(rt, alloc, &mut other, b"b", 0, &[10, 20, 30, 0])?;
-    insert(rt, &mut other, Spot::End, sum(rt), 1);
+    insert(rt, &mut other, Spot::End, sum_of_both(rt), 1);
     next_done(rt, alloc, &mut other)
 }
 
@@ -242,7 +226,7 @@ fn the_same_input_again_makes_a_result_stale(rt: HostRuntime) -> Result<(), Fail
 #[test]
 fn an_input_touches_only_the_rows_that_read_it(rt: HostRuntime) -> Result<(), Fail> {
     let mut book = book_of_sum(&rt, rt.alloc())?;
-    insert(&rt, &mut book, Spot::Start, constant(&rt, 7), 2);
+    insert(&rt, &mut book, Spot::Start, constant(&rt, b"a", 7, 8), 2);
     settle_next(&rt, rt.alloc(), &mut book, 2)?;
     settle_next(&rt, rt.alloc(), &mut book, 1)?;
     shows(&rt, &book, b"c", &[17, 27, 37, 7])?;
@@ -302,7 +286,7 @@ fn first_events(rt: &impl Abort, alloc: Global) -> Result<Vec<Event>, Fail> {
     events.push(Event::Edit(declare(rt, b"c")))?;
     events.push(Event::Edit(input(rt, alloc, b"a", 0, &[1, 2, 3, 4])?))?;
     events.push(Event::Edit(input(rt, alloc, b"b", 0, &[10, 20, 30, 0])?))?;
-    events.push(Event::Edit(Edit::Insert(Spot::End, sum(rt))))?;
+    events.push(Event::Edit(Edit::Insert(Spot::End, sum_of_both(rt))))?;
     events.push(Event::Take)?;
     events.push(Event::Show(field(rt, b"c"), Spot::End))?;
     Ok(events)

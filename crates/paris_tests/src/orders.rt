@@ -3,7 +3,6 @@ use paris_board::Board;
 use paris_exec::{Done, FieldValue, Order, Outcome, execute};
 use paris_geometry::Geometry;
 use paris_instr::{Instr, Plan, resolve};
-use paris_model::{Action, BinaryOperator, Conditional};
 use paris_names::keys::has_key;
 use paris_names::{Edition, Fault, FieldNo, FlagName, Key, Name, RowId, SetNo};
 use std::alloc::{AllocError, Global};
@@ -27,19 +26,18 @@ fn plan_of(
 }
 
 /// The plan of `u-add-3-1L c a b`.
-fn sum(alloc: Global, rt: &impl Abort, length: u64, width: u64, count: u64) -> Result<Plan, Fault> {
-    let instr = Action::OnSelected(Conditional::Binary {
-        operator: BinaryOperator::UnsignedAdd,
-        to: name(rt, b"c"),
-        left: name(rt, b"a"),
-        right: name(rt, b"b"),
-        length,
-    });
-    plan_of(alloc, rt, instr, width, count)
+fn plan_of_sum(
+    alloc: Global,
+    rt: &impl Abort,
+    length: u64,
+    width: u64,
+    count: u64,
+) -> Result<Plan, Fault> {
+    plan_of(alloc, rt, sum(rt, b"c", b"a", b"b", length), width, count)
 }
 
 /// The plan of `u-move-constant-1L c`.
-fn constant(
+fn plan_of_constant(
     alloc: Global,
     rt: &impl Abort,
     number: u128,
@@ -47,12 +45,7 @@ fn constant(
     width: u64,
     count: u64,
 ) -> Result<Plan, Fault> {
-    let instr = Action::OnSelected(Conditional::MoveConstant {
-        to: name(rt, b"c"),
-        value: number,
-        length,
-    });
-    plan_of(alloc, rt, instr, width, count)
+    plan_of(alloc, rt, constant(rt, b"c", number, length), width, count)
 }
 
 fn value(
@@ -128,7 +121,7 @@ fn overflow(rt: &impl Abort, done: &Done) -> Result<Vec<u128>, AllocError> {
 
 #[test]
 fn a_sum_sets_its_flags(rt: HostRuntime) -> Result<(), Fail> {
-    let plan = sum(rt.alloc(), &rt, 8, 8, 4)?;
+    let plan = plan_of_sum(rt.alloc(), &rt, 8, 8, 4)?;
     let done = executed(
         rt.alloc(),
         &rt,
@@ -158,7 +151,7 @@ fn a_sum_sets_its_flags(rt: HostRuntime) -> Result<(), Fail> {
 
 #[test]
 fn unselected_processors_keep_what_they_have(rt: HostRuntime) -> Result<(), Fail> {
-    let plan = sum(rt.alloc(), &rt, 8, 8, 4)?;
+    let plan = plan_of_sum(rt.alloc(), &rt, 8, 8, 4)?;
     let done = executed(
         rt.alloc(),
         &rt,
@@ -186,7 +179,7 @@ fn unselected_processors_keep_what_they_have(rt: HostRuntime) -> Result<(), Fail
 
 #[test]
 fn a_sum_of_64_bits_wraps(rt: HostRuntime) -> Result<(), Fail> {
-    let plan = sum(rt.alloc(), &rt, 64, 64, 1)?;
+    let plan = plan_of_sum(rt.alloc(), &rt, 64, 64, 1)?;
     let done = executed(
         rt.alloc(),
         &rt,
@@ -208,7 +201,7 @@ fn a_sum_of_64_bits_wraps(rt: HostRuntime) -> Result<(), Fail> {
 
 #[test]
 fn a_store_keeps_the_bits_above_its_length(rt: HostRuntime) -> Result<(), Fail> {
-    let plan = sum(rt.alloc(), &rt, 4, 8, 1)?;
+    let plan = plan_of_sum(rt.alloc(), &rt, 4, 8, 1)?;
     let done = executed(
         rt.alloc(),
         &rt,
@@ -225,7 +218,7 @@ fn a_store_keeps_the_bits_above_its_length(rt: HostRuntime) -> Result<(), Fail> 
     assert_eq!(rt; destination(&rt, &done)?.as_slice(), [0xa1u128].as_slice());
     assert_eq!(rt; carry(&rt, &done)?.as_slice(), [1u128].as_slice());
 
-    let plan = constant(rt.alloc(), &rt, 5, 4, 8, 2)?;
+    let plan = plan_of_constant(rt.alloc(), &rt, 5, 4, 8, 2)?;
     let done = executed(rt.alloc(), &rt, plan, &[(8, &[0xab, 0xab]), (1, &[0, 1])])?;
     assert_eq!(rt;
         destination(&rt, &done)?.as_slice(),
@@ -236,7 +229,7 @@ fn a_store_keeps_the_bits_above_its_length(rt: HostRuntime) -> Result<(), Fail> 
 
 /// Whether these are the inputs of an order of `u-move-constant-1L c 5 4`, of 8 bits and 2 processors.
 fn is_order(alloc: Global, rt: &impl Abort, parts: &[(u64, &[u128])]) -> Result<bool, Fault> {
-    let plan = constant(alloc, rt, 5, 4, 8, 2)?;
+    let plan = plan_of_constant(alloc, rt, 5, 4, 8, 2)?;
     let Ok(inputs) = values(alloc, rt, parts) else {
         return Err(Fault::NoMemory);
     };
@@ -259,7 +252,7 @@ fn an_order_has_an_input_for_each_key(rt: HostRuntime) -> Result<(), Fail> {
 
 #[test]
 fn copies_are_equal(rt: HostRuntime) -> Result<(), Fail> {
-    let plan = constant(rt.alloc(), &rt, 5, 4, 8, 2)?;
+    let plan = plan_of_constant(rt.alloc(), &rt, 5, 4, 8, 2)?;
     let done = executed(rt.alloc(), &rt, plan, &[(8, &[0xab, 0xab]), (1, &[0, 1])])?;
     let copy = done.copy()?;
     assert!(rt; same_outcomes(copy.outcome(), done.outcome()));

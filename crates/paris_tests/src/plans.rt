@@ -2,31 +2,11 @@ use crate::common::*;
 use paris_board::Board;
 use paris_geometry::Geometry;
 use paris_instr::{Instr, resolve};
-use paris_model::{Action, BinaryOperator, Conditional, Operand};
+use paris_model::{Action, Conditional, Operand};
 use paris_names::{Fault, FieldNo, FlagName, Key, Name, SetNo};
 use std::alloc::Global;
 use std::process::Abort;
 use std::test::*;
-
-/// `u-add-3-1L` of 8-bit fields, or of another length.
-fn sum(rt: &impl Abort, to: &[u8], left: &[u8], right: &[u8], length: u64) -> Instr {
-    Action::OnSelected(Conditional::Binary {
-        operator: BinaryOperator::UnsignedAdd,
-        to: name(rt, to),
-        left: name(rt, left),
-        right: name(rt, right),
-        length,
-    })
-}
-
-/// `u-move-constant-1L`.
-fn constant(rt: &impl Abort, to: &[u8], value: u128, length: u64) -> Instr {
-    Action::OnSelected(Conditional::MoveConstant {
-        to: name(rt, to),
-        value,
-        length,
-    })
-}
 
 /// The sets `t` of 2 processors with the field `d`, and `s` of 4 with the fields `a`, `b` and `c`. The fields have this width.
 fn board(alloc: Global, rt: &impl Abort, width: u64) -> Result<Board, Fault> {
