@@ -14,3 +14,9 @@ pub mod Takes
 pub mod Brings
 pub mod Calls
 pub mod Runs
+pub mod Releases
+pub mod ReflexivePlans
+pub mod OrderRuns
+pub mod Countdown
+pub mod RefusalHere
+pub mod RefusedRows

@@ -1,20 +1,22 @@
 -- What the machine shows, said of the entries.
-use Rattle.std.specs.Prelude.{◌≡◌, ℕ, Bool, List, take, map, length, Option, Some, None, ◌&&◌}
+use Rattle.std.specs.Prelude.{◌≡◌, ℕ, Bool, List, take, map, length, Option, Some, None, ◌&&◌, [], ◌∷◌, ◌++◌, if◌then◌else◌}
 use Rattle.std.specs.Option.{option_map}
 use Rattle.std.specs.List.{list_all, find, enumerate_from}
 use Rattle.paris_names.specs.declared.keys.Key.{Key}
-use Rattle.paris_model.specs.Instructions.{Plan, reads}
+use Rattle.paris_model.specs.declared.actions.Refusal.{Refusal}
+use Rattle.paris_model.specs.Instructions.{Plan, reads, refusal, value_at}
 use Rattle.paris_model.specs.Recipe.{origin}
 use Rattle.paris_exec.specs.Fields.{FieldNumbers}
-use Rattle.paris_exec.specs.Tasks.{Task, field_of}
+use Rattle.paris_exec.specs.Tasks.{Task, field_of, numbers_of}
 use Rattle.paris_book.specs.Kept.{row_of, plan_of, present}
-use Rattle.paris_book.specs.Machine.{Inputs, Row, is_firm, is_waiting, shown_of}
+use Rattle.paris_book.specs.Machine.{Inputs, Row, is_firm, is_waiting, is_settled, shown_of, recalled_status, fault_by}
 use Rattle.paris_book.specs.Whole.{shape_in}
 use Rattle.paris_book.specs.declared.inputs.InputData.{InputData}
 use Rattle.paris_book.specs.declared.rows.Entry.{Entry}
 use Rattle.paris_book.specs.declared.rows.Status.TheVariants.{Out, Settled}
 use Rattle.paris_book.specs.declared.events.Look.{Look}
 use Rattle.paris_book.specs.declared.events.Look.TheVariants.{Settled as LookSettled, Pending as LookPending}
+use Rattle.paris_book.specs.declared.events.RowFault.{RowFault}
 use Rattle.paris_book.specs.declared.events.Shown.{Shown}
 use Rattle.paris_book.specs.declared.events.Shown.TheVariants.{Settled as ShownSettled, Pending}
 
@@ -71,3 +73,21 @@ out_entry e = record e { status = Out }
 -- an entry with the result that it keeps
 abbrev pub kept_entry : Entry → Task → Entry
 kept_entry e t = record e { status = Settled; done = Some t }
+
+-- an entry of which no order is out any more
+abbrev pub recalled_entry : Entry → Entry
+recalled_entry e = record e { status = recalled_status e.status }
+
+-- why a result was refused, if it was
+abbrev pub cause_told : Option Task → Option Refusal
+cause_told None = None
+cause_told (Some t) = refusal t.plan (value_at (reads t.plan) (numbers_of t.inputs))
+
+-- why the result that a settled entry keeps was refused, if it was
+abbrev pub cause_kept : Entry → Option Refusal
+cause_kept e = if is_settled e.status then cause_told e.done else None
+
+-- the settled entries whose results were refused
+abbrev pub faults_kept : List Entry → List RowFault
+faults_kept [] = []
+faults_kept (e ∷ es) = fault_by e.id (cause_kept e) ++ faults_kept es

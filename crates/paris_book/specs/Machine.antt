@@ -1,5 +1,5 @@
 -- The machine: what a book is, and what each event does to it and answers.
-use Rattle.std.specs.Prelude.{ℕ, ◌+◌, ◌^◌, ◌==◌, List, [], ◌∷◌, ◌++◌, Bool, true, false, ◌&&◌, ◌||◌, Option, Some, None, Result, Ok, Err, if◌then◌else◌, map, slice_set, slice_get, insert, take, length, replicate, position, nat_le, nat_lt}
+use Rattle.std.specs.Prelude.{ℕ, zero, suc, ◌+◌, ◌^◌, ◌==◌, List, [], ◌∷◌, ◌++◌, Bool, true, false, ◌&&◌, ◌||◌, Option, Some, None, Result, Ok, Err, if◌then◌else◌, map, slice_set, slice_get, insert, take, length, replicate, position, nat_le, nat_lt}
 use Rattle.std.specs.List.{list_all, find, enumerate_from}
 use Rattle.std.specs.Option.{option_or, option_map}
 use Rattle.std.specs.Cmp.Lexicographic.{pointwise}
@@ -16,8 +16,9 @@ use Rattle.paris_names.specs.declared.keys.Spot.TheVariants.{Start as AtStart, E
 use Rattle.paris_names.specs.declared.names.KeyName.{KeyName}
 use Rattle.paris_geometry.specs.Geometry.{is_geometry, processor_count}
 use Rattle.paris_board.specs.Board.{Board, empty_board, key_named, set_named, set_fault, field_fault, with_set, with_field, width_of, count_of, axes_of}
+use Rattle.paris_model.specs.declared.actions.Refusal.{Refusal}
 use Rattle.paris_model.specs.Frame.{World}
-use Rattle.paris_model.specs.Instructions.{Plan, reads}
+use Rattle.paris_model.specs.Instructions.{Plan, reads, refusal, one}
 use Rattle.paris_model.specs.Run.{run}
 use Rattle.paris_model.specs.Recipe.{Recipe, origin, recipe, past, same}
 use Rattle.paris_model.specs.Recipe.Recipe.{Start}
@@ -35,6 +36,7 @@ use Rattle.paris_book.specs.declared.events.EditReply.{EditReply}
 use Rattle.paris_book.specs.declared.events.EditReply.TheVariants.{Accepted, Row as NewRow}
 use Rattle.paris_book.specs.declared.events.Verdict.{Verdict}
 use Rattle.paris_book.specs.declared.events.Verdict.TheVariants.{Gone, Stale, Repeated, Foreign, Kept}
+use Rattle.paris_book.specs.declared.events.RowFault.{RowFault}
 use Rattle.paris_book.specs.declared.events.Shown.{Shown}
 use Rattle.paris_book.specs.declared.events.Shown.TheVariants.{Settled as ShownSettled, Pending}
 
@@ -357,7 +359,67 @@ after_edit_by s e (Some fault) = s
 abbrev pub after_edit : State → Edit → State
 after_edit s e = after_edit_by s e (edit_fault s e)
 
+-- ---- release
+
+-- the status of a row when the orders that are out are given up
+abbrev pub recalled_status : Status → Status
+recalled_status Waiting = Waiting
+recalled_status Out = Waiting
+recalled_status Settled = Settled
+
+-- a row that is out waits, and every other one is as it was
+abbrev pub recalled_row : Row → Row
+recalled_row r = record r { status = recalled_status r.status }
+
+-- every row that was out waits, with its edition
+abbrev pub after_release : State → State
+after_release s = record s { rows = map recalled_row s.rows }
+
+-- ---- settling
+
 -- how many rows are unsettled
 abbrev pub unsettled_rows : List Row → ℕ
 unsettled_rows [] = 0
 unsettled_rows (r ∷ rs) = (if is_settled r.status then 0 else 1) + unsettled_rows rs
+
+-- a row settled, with its id, plan and edition
+abbrev pub settled_row : Row → Row
+settled_row r = record r { status = Settled }
+
+-- every row settled, and all else as it was
+abbrev pub all_settled : State → State
+all_settled s = record s { rows = map settled_row s.rows }
+
+-- the state after the result of an order is brought, if there is an order
+abbrev pub brought_back : State → Option Task → State
+brought_back s None = s
+brought_back s (Some t) = after_bring s t
+
+-- the state after a take and the bring of the order that it gave
+abbrev pub after_run : State → State
+after_run s = brought_back (after_take s) (take_reply s)
+
+-- the state after so many of these, one after another
+abbrev pub ran_orders : ℕ → State → State
+ran_orders zero s = s
+ran_orders (suc n) s = after_run (ran_orders n s)
+
+-- ---- refused rows
+
+-- why a settled row is refused in the world before it, if it is
+abbrev pub cause_in : World → Row → Option Refusal
+cause_in w r = if is_settled r.status then refusal r.plan w else None
+
+-- a row's id with the cause, if there is one
+abbrev pub fault_by : RowId → Option Refusal → List RowFault
+fault_by id None = []
+fault_by id (Some cause) = record { id = id; cause = cause } ∷ []
+
+-- the settled rows that the run from a world refuses, in program order, with the cause
+abbrev pub faults_in : World → List Row → List RowFault
+faults_in w [] = []
+faults_in w (r ∷ rs) = fault_by r.id (cause_in w r) ++ faults_in (one r.plan w) rs
+
+-- those of running the program once from the input data
+abbrev pub faults_of : State → List RowFault
+faults_of s = faults_in (start_world s.inputs) s.rows

@@ -40,8 +40,8 @@ pub struct Book {
     edits: u64,
     next: u64,
     inputs: InputData,
-    rows: Vec<Entry>,
-    alloc: Global,
+    pub(crate) rows: Vec<Entry>,
+    pub(crate) alloc: Global,
 }
 
 impl Model for Book {
@@ -332,6 +332,10 @@ impl Book {
                 Err(refused) => Err((Event::Take, refused)),
             },
             Event::Bring(done) => Ok(Reply::Bring(self.bring(done))),
+            Event::Release => {
+                self.release();
+                Ok(Reply::Release)
+            }
             Event::Show(name, spot) => match self.step_show(&name, &spot) {
                 Ok(reply) => Ok(reply),
                 Err(refused) => Err((Event::Show(name, spot), refused)),
@@ -416,7 +420,7 @@ fn keep(row: &mut Entry, done: Done)
 }
 
 /// How many of these rows are unsettled.
-fn count_unsettled(rows: &[Entry]) -> usize
+pub(crate) fn count_unsettled(rows: &[Entry]) -> usize
     ensures { result ≡ unsettled_rows (map row_of rows.now) }
 {
     let mut count = 0;

@@ -2,6 +2,7 @@
 
 use paris_exec::{Done, FieldValue, Order};
 use paris_instr::Instr;
+use paris_model::Refusal;
 use paris_names::{Edition, Fault, Items, KeyName, Name, RowId, Spot};
 
 /// An edit of the declarations, the input data or the program.
@@ -56,6 +57,13 @@ pub enum Look<'a> {
     Pending(RowId),
 }
 
+/// A settled row whose instruction is refused, with the cause.
+#[derive(Clone, Copy, PartialEq, Eq, Debug)]
+pub struct RowFault {
+    pub id: RowId,
+    pub cause: Refusal,
+}
+
 /// What is asked of a book.
 #[derive(Debug, Drop)]
 pub enum Event {
@@ -64,6 +72,8 @@ pub enum Event {
     Take,
     /// Brings the result of an order.
     Bring(Done),
+    /// Gives up the orders that are out.
+    Release,
     /// Looks at a key at a place of the program.
     Show(KeyName, Spot),
 }
@@ -74,5 +84,6 @@ pub enum Reply {
     Edit(Result<EditReply, Fault>),
     Take(Option<Order>),
     Bring(Verdict),
+    Release,
     Show(Result<Shown, Fault>),
 }

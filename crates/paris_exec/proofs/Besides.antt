@@ -10,13 +10,8 @@ use Rattle.paris_names.proofs.KeyLists.{key_eq-true}
 use Rattle.paris_geometry.specs.Geometry.{processor_count}
 use Rattle.paris_model.specs.declared.actions.Refusal.{Refusal}
 use Rattle.std.specs.Prelude.{unwrap_or}
-use Rattle.paris_names.specs.declared.keys.Key.TheVariants.{Field, Flag}
-use Rattle.paris_model.specs.declared.actions.Operand.{Operand}
-use Rattle.paris_model.specs.declared.actions.Conditional.TheVariants.{Binary, MoveConstant}
-use Rattle.paris_model.specs.declared.actions.Action.{Action}
-use Rattle.paris_model.specs.declared.actions.Action.TheVariants.{OnSelected}
 use Rattle.paris_model.specs.Frame.{World, Frame}
-use Rattle.paris_model.proofs.Stores.{length-everywhere}
+use Rattle.paris_model.proofs.Counts.{after_count}
 use Rattle.paris_model.specs.Instructions.{Plan, reads, writes, key_width, value_at, after, after_in, frame_of, outcome, outcome_in, refusal, given, held}
 use Rattle.paris_model.proofs.Worlds.{refused_reads, value_at-map}
 use Rattle.paris_exec.specs.Fields.{FieldNumbers}
@@ -95,13 +90,6 @@ abbrev pub HoldsAt : Task → Key → Outcome → Type 0
 HoldsAt t k (Values xs) = (x : FieldNumbers) × (beside (writes t.plan) xs k ≡ Some x) × (x ≡ task_value t k) × (length x.numbers ≡ processor_count t.plan.axes)
 HoldsAt t k (Refused cause) = (has_key (reads t.plan) k ≡ true) × (task_value t k ≡ field_of t.plan k (value_at (reads t.plan) (numbers_of t.inputs) k))
 
--- what a plan leaves at a key has a number for each processor
-after_in_length : (m : Frame) (i : Action Operand) (k : Key) → length (after_in m i k) ≡ processor_count m.axes
-after_in_length m (OnSelected (Binary op D A B L)) (Field f) = length-everywhere (processor_count m.axes) _
-after_in_length m (OnSelected (Binary op D A B L)) (Flag s flag) = length-everywhere (processor_count m.axes) _
-after_in_length m (OnSelected (MoveConstant D K L)) (Field f) = length-everywhere (processor_count m.axes) _
-after_in_length m (OnSelected (MoveConstant D K L)) (Flag s flag) = length-everywhere (processor_count m.axes) _
-
 given_is : (p : Plan) (xs : List (List ℕ)) (k : Key) (o : Option Refusal) → refusal p (value_at (reads p) xs) ≡ o → given p xs k ≡ held (outcome_in p (value_at (reads p) xs) o) p xs k
 unfolding outcome
 given_is p xs k o e = ap (λ z. held (outcome_in p (value_at (reads p) xs) z) p xs k) e
@@ -116,7 +104,7 @@ outcome_holds t k h = by_refusal (refusal t.plan (value_at (reads t.plan) (numbe
           field_of t.plan k (after t.plan w k),
           beside_fields t.plan (writes t.plan) (after t.plan w) k h,
           ap (field_of t.plan k) (sym (given_is t.plan (numbers_of t.inputs) k None e ∙ value_at-map (after t.plan w) (writes t.plan) k h)),
-          after_in_length (frame_of t.plan w) t.plan.action k,
+          after_count t.plan w k h,
         )
     by_refusal (Some cause) e =
         let refused : outcome t.plan (numbers_of t.inputs) ≡ Err cause = ap (outcome_in t.plan (value_at (reads t.plan) (numbers_of t.inputs))) e in

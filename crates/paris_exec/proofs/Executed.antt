@@ -1,154 +1,177 @@
--- What a plan leaves at a key, by the lists that are stored.
-use Rattle.std.proofs.Common.{◌≡◌, ℕ, ◌+◌, ◌^◌, ◌==◌, ◌≤◌, Bool, true, false, List, [], ◌∷◌, ◌++◌, length, map, take, slice_index, refl, sym, ap, ◌∙◌, subst, arith, cond, eqb, Some, None, Ok, Err}
-use Rattle.std.proofs.Math.Path.{ap₂}
-use Rattle.std.proofs.lemmas.Bool.{eqb-true, eq-eqb}
-use Rattle.std.specs.Prelude.{nat_le, nat_lt, ◌||◌}
+-- What executing an order gives: what its instruction sees fits, and what it leaves is the outcome.
+use Rattle.std.proofs.Common.{◌≡◌, ℕ, zero, suc, add-one, get_or, take, take_all, ◌++◌, ◌+◌, ◌^◌, ◌<◌, ◌≤◌, ◌==◌, Bool, true, false, List, [], ◌∷◌, length, map, refl, sym, ap, ◌∙◌, subst, arith, cond, Option, Some, None, Result, Ok, Err}
+use Rattle.std.specs.Prelude.{All, not, ◌&&◌, ◌||◌, nat_lt, nat_le}
+use Rattle.std.specs.List.{list_all}
+use Rattle.std.proofs.lemmas.Bool.{and_parts, eqb-true}
+use Rattle.std.proofs.lemmas.List.{take_more, map-append}
+use Rattle.std.proofs.lemmas.List.Elements.{All-nil, All-push}
 use Rattle.std.proofs.lemmas.Bool.Decides.{nat_tests}
-use Rattle.paris_names.proofs.KeyLists.{key_eq-same, key_eq-true}
-use Rattle.paris_instr.specs.Lengths.{IsFit, has_bad_length, is_bad_length}
+use Rattle.paris_names.specs.declared.keys.FlagName.{FlagName}
 use Rattle.paris_names.specs.declared.keys.Key.{Key}
 use Rattle.paris_names.specs.declared.keys.Key.TheVariants.{Field, Flag}
-use Rattle.paris_names.specs.declared.keys.FlagName.{FlagName}
-use Rattle.paris_names.specs.declared.keys.FlagName.TheVariants.{Context, Test, Carry, Overflow}
 use Rattle.paris_names.specs.Keys.{has_key, key_eq}
+use Rattle.paris_names.proofs.KeyLists.{key_eq-true, key_eq-same}
 use Rattle.paris_geometry.specs.Geometry.{processor_count}
-use Rattle.paris_model.specs.declared.operators.BinaryOperator.TheVariants.{UnsignedAdd}
+use Rattle.paris_model.specs.declared.actions.Refusal.{Refusal}
 use Rattle.paris_model.specs.declared.actions.Operand.{Operand}
-use Rattle.paris_model.specs.declared.actions.Conditional.TheVariants.{Binary, MoveConstant}
 use Rattle.paris_model.specs.declared.actions.Action.{Action}
-use Rattle.paris_model.specs.declared.actions.Action.TheVariants.{OnSelected}
-use Rattle.paris_model.specs.Store.{low, bit, stored}
+use Rattle.paris_model.specs.Fits.{IsFit}
 use Rattle.paris_model.specs.Frame.{World}
-use Rattle.paris_model.specs.Instructions.{Plan, reads, writes, read_keys, target_keys, key_width, width_among, after, after_in, frame_of, operands, outcome, outcome_in, refusal, refusal_in, stores_all_bits, value_at}
-use Rattle.paris_model.proofs.Worlds.{reads_keys, reads_targets, writes_targets, or_false_first, or_false_second}
-use Rattle.paris_exec.specs.Fields.{FieldNumbers}
-use Rattle.paris_exec.specs.Tasks.{Task, field_of, fields_of, numbers_of, told, task_outcome}
-use Rattle.paris_exec.specs.declared.orders.Outcome.TheVariants.{Values}
+use Rattle.paris_model.specs.Instructions.{Plan, reads, writes, key_width, width_among, operands, value_at, after, after_in, frame_of, refusal, refusal_in, outcome, outcome_in}
+use Rattle.paris_model.proofs.Direct.{after_inputs_fit}
+use Rattle.paris_plain.specs.Plain.{Seen, frame_of_seen, is_flag, are_bits, flags_are_bits, unless_refused, plain_outcome}
+use Rattle.paris_exec.specs.Fields.{FieldNumbers, AllFit}
+use Rattle.paris_exec.specs.Seen.{FitKeys, seen_by}
+use Rattle.paris_exec.specs.Tasks.{Task, field_of, fields_of, fits, fits_key, fits_keys, numbers_of, told, task_outcome}
+use Rattle.paris_exec.specs.declared.orders.Outcome.{Outcome}
+use Rattle.paris_exec.specs.declared.orders.Outcome.TheVariants.{Values, Refused}
 
-not_less : (m n : ℕ) → nat_lt m n ≡ false → n ≤ m
-not_less m n e = grind (arith, nat_tests)
+-- each number of a value fits its width
+abbrev pub Fits : FieldNumbers → Type 0
+Fits x = AllFit x.width x.numbers
 
-or_nothing : (b : Bool) → (b || false) ≡ true → b ≡ true
-or_nothing true h = refl
-or_nothing false h = h
+abbrev pub AllNumbersFit : List FieldNumbers → Type 0
+AllNumbersFit xs = All Fits xs
 
-has_first : (k : Key) (ks : List Key) → has_key (k ∷ ks) k ≡ true
-has_first k ks = ap (λ b. b || has_key ks k) (key_eq-same k)
+first_all : {X : Type 0} (P : X → Type 0) (x : X) (xs : List X) → All P (x ∷ xs) → P x
+first_all P x xs h = h 0 x (omega arith)
 
-has_next : (j k : Key) (ks : List Key) → has_key ks k ≡ true → has_key (j ∷ ks) k ≡ true
-has_next j k ks h = by_first (key_eq k j)
+rest_all : {X : Type 0} (P : X → Type 0) (x : X) (xs : List X) → All P (x ∷ xs) → All P xs
+rest_all P x xs h = λ k d within. h (suc k) d (omega arith)
+
+key_fits : (p : Plan) (k : Key) (x : FieldNumbers) → fits_key p k x ≡ true → AllFit x.width x.numbers → AllFit (key_width p k) x.numbers
+key_fits p k x h fit =
+    subst (λ (n : ℕ). AllFit n x.numbers) (eqb-true x.width (key_width p k) (and_parts (x.width == key_width p k) (length x.numbers == processor_count p.axes) h).0) fit
+
+-- the numbers at each key fit its width
+pub beside_fit : (p : Plan) (ks : List Key) (xs : List FieldNumbers) (k : Key) → fits_keys p ks xs ≡ true → AllNumbersFit xs → AllFit (key_width p k) (value_at ks (numbers_of xs) k)
+beside_fit p [] xs k h fit = All-nil (λ x. x < 2 ^ key_width p k)
+beside_fit p (j ∷ js) [] k h fit = All-nil (λ x. x < 2 ^ key_width p k)
+beside_fit p (j ∷ js) (x ∷ xs) k h fit =
+    let parts = and_parts (fits_key p j x) (fits_keys p js xs) h in
+    by_key (key_fits p j x parts.0 (first_all Fits x xs fit)) (beside_fit p js xs k parts.1 (rest_all Fits x xs fit)) (key_eq k j) refl
   where
-    by_first : (b : Bool) → (b || has_key ks k) ≡ true
-    by_first true = refl
-    by_first false = h
+    by_key : AllFit (key_width p j) x.numbers → AllFit (key_width p k) (value_at js (numbers_of xs) k) → (b : Bool) → key_eq k j ≡ b → AllFit (key_width p k) (cond b x.numbers (value_at js (numbers_of xs) k))
+    by_key here rest true e = subst (λ (z : Key). AllFit (key_width p z) x.numbers) (sym (key_eq-true k j e)) here
+    by_key here rest false e = rest
 
--- every instruction so far reads the context
-context_read : (s : ℕ) (i : Action Operand) → has_key (read_keys s i) (Flag s Context) ≡ true
-context_read s (OnSelected (Binary op D A B L)) =
-    let rest : List Key = target_keys s (OnSelected (Binary op D A B L)) in
-    has_next (Field A.field) (Flag s Context) (Field B.field ∷ Flag s Context ∷ rest) (has_next (Field B.field) (Flag s Context) (Flag s Context ∷ rest) (has_first (Flag s Context) rest))
-context_read s (OnSelected (MoveConstant D K L)) = has_first (Flag s Context) (target_keys s (OnSelected (MoveConstant D K L)))
+bits_of : (xs : List ℕ) → AllFit 1 xs → are_bits xs ≡ true
+bits_of [] h = refl
+bits_of (x ∷ xs) h = (let small : nat_lt x 2 ≡ true = (let y : x < 2 ^ 1 = first_all (λ n. n < 2 ^ 1) x xs h in grind (arith, nat_tests)) in rw small (bits_of xs (rest_all (λ n. n < 2 ^ 1) x xs h)))
 
-pub reads_context : (p : Plan) → has_key (reads p) (Flag p.set_no Context) ≡ true
-reads_context p = reads_keys p (Flag p.set_no Context) ∙ context_read p.set_no p.action
-
--- and keeps bits of what it writes, so that it reads that too
-keeps_bits : (i : Action Operand) → stores_all_bits i ≡ false
-keeps_bits (OnSelected i) = refl
-
-pub reads_written : (p : Plan) (k : Key) → has_key (writes p) k ≡ true → has_key (reads p) k ≡ true
-reads_written p k h = reads_targets p k (keeps_bits p.action) (sym (writes_targets p k) ∙ h)
-
-module _ (p : Plan) (D A B : Operand) (L : ℕ) (is : p.action ≡ OnSelected (Binary UnsignedAdd D A B L)) where
-  -- the sources of a sum are read
-  pub sum_reads_left : has_key (reads p) (Field A.field) ≡ true
-  sum_reads_left = reads_keys p (Field A.field) ∙ ap (λ i. has_key (read_keys p.set_no i) (Field A.field)) is ∙ has_first (Field A.field) (Field B.field ∷ Flag p.set_no Context ∷ target_keys p.set_no (OnSelected (Binary UnsignedAdd D A B L)))
-
-  pub sum_reads_right : has_key (reads p) (Field B.field) ≡ true
-  sum_reads_right =
-      let rest : List Key = Flag p.set_no Context ∷ target_keys p.set_no (OnSelected (Binary UnsignedAdd D A B L)) in
-      reads_keys p (Field B.field) ∙ ap (λ i. has_key (read_keys p.set_no i) (Field B.field)) is ∙ has_next (Field A.field) (Field B.field) (Field B.field ∷ rest) (has_first (Field B.field) rest)
-
-  -- the field that it writes is its destination, at least as wide as the sum is long
-  pub sum_short : (f : ℕ) → IsFit p.action → has_key (writes p) (Field f) ≡ true → L ≤ key_width p (Field f)
-  unfolding key_width
-  sum_short f fit h =
-      let target : eqb f D.field ≡ true = or_nothing (eqb f D.field) (ap (λ i. has_key (target_keys p.set_no i) (Field f)) (sym is) ∙ sym (writes_targets p (Field f)) ∙ h) in
-      let same : f ≡ D.field = eqb-true f D.field target in
-      let good : (is_bad_length L D || (is_bad_length L A || is_bad_length L B)) ≡ false = ap has_bad_length (sym is) ∙ fit.lengths in
-      let long : nat_lt D.width L ≡ false = or_false_second (L == 0) (nat_lt D.width L) (or_false_first (is_bad_length L D) (is_bad_length L A || is_bad_length L B) good) in
-      let wide : width_among (operands p.action) f ≡ D.width = ap₂ (λ i g. width_among (operands i) g) is same ∙ ap (λ b. cond b D.width (width_among (A ∷ B ∷ []) D.field)) (eq-eqb D.field D.field refl) in
-      rw wide (not_less D.width L long)
-
-  -- what the sum leaves at a field and at a flag that it writes
-  pub sum_field : (w : World) (f : ℕ) (x context old left right : FieldNumbers) → context ≡ field_of p (Flag p.set_no Context) (w (Flag p.set_no Context)) → old ≡ field_of p (Field f) (w (Field f))
-      → left ≡ field_of p (Field A.field) (w (Field A.field)) → right ≡ field_of p (Field B.field) (w (Field B.field)) → length old.numbers ≡ processor_count p.axes
-      → x ≡ record { width = old.width; numbers = stored (length old.numbers) (λ v. slice_index context.numbers v == 1) (slice_index old.numbers) L (λ v. low L (slice_index left.numbers v) + low L (slice_index right.numbers v)) }
-      → x ≡ field_of p (Field f) (after p w (Field f))
-  sum_field w f x context old left right c o l r n e =
-      let F : ℕ → FieldNumbers → FieldNumbers → FieldNumbers → FieldNumbers → FieldNumbers = λ m c o l r. record { width = o.width; numbers = stored m (λ v. slice_index c.numbers v == 1) (slice_index o.numbers) L (λ v. low L (slice_index l.numbers v) + low L (slice_index r.numbers v)) } in
-      e ∙ ap (λ m. F m context old left right) n ∙ ap₂ (λ a b. F (processor_count p.axes) a b left right) c o ∙ ap₂ (λ a b. F (processor_count p.axes) (field_of p (Flag p.set_no Context) (w (Flag p.set_no Context))) (field_of p (Field f) (w (Field f))) a b) l r
-      ∙ ap (λ i. field_of p (Field f) (after_in (frame_of p w) i (Field f))) (sym is)
-
-  pub sum_flag : (w : World) (s : ℕ) (flag : FlagName) (x context old left right : FieldNumbers) → context ≡ field_of p (Flag p.set_no Context) (w (Flag p.set_no Context)) → old ≡ field_of p (Flag s flag) (w (Flag s flag))
-      → left ≡ field_of p (Field A.field) (w (Field A.field)) → right ≡ field_of p (Field B.field) (w (Field B.field)) → length old.numbers ≡ processor_count p.axes
-      → x ≡ record { width = old.width; numbers = stored (length old.numbers) (λ v. slice_index context.numbers v == 1) (slice_index old.numbers) 1 (λ v. bit (nat_le (2 ^ L) (low L (slice_index left.numbers v) + low L (slice_index right.numbers v)))) }
-      → x ≡ field_of p (Flag s flag) (after p w (Flag s flag))
-  sum_flag w s flag x context old left right c o l r n e =
-      let F : ℕ → FieldNumbers → FieldNumbers → FieldNumbers → FieldNumbers → FieldNumbers = λ m c o l r. record { width = o.width; numbers = stored m (λ v. slice_index c.numbers v == 1) (slice_index o.numbers) 1 (λ v. bit (nat_le (2 ^ L) (low L (slice_index l.numbers v) + low L (slice_index r.numbers v)))) } in
-      e ∙ ap (λ m. F m context old left right) n ∙ ap₂ (λ a b. F (processor_count p.axes) a b left right) c o ∙ ap₂ (λ a b. F (processor_count p.axes) (field_of p (Flag p.set_no Context) (w (Flag p.set_no Context))) (field_of p (Flag s flag) (w (Flag s flag))) a b) l r
-      ∙ each_flag flag
-      ∙ ap (λ i. field_of p (Flag s flag) (after_in (frame_of p w) i (Flag s flag))) (sym is)
-    where
-      each_flag : (flag : FlagName) → field_of p (Flag s flag) (stored (processor_count p.axes) (λ v. slice_index (w (Flag p.set_no Context)) v == 1) (slice_index (w (Flag s flag))) 1 (λ v. bit (nat_le (2 ^ L) (low L (slice_index (w (Field A.field)) v) + low L (slice_index (w (Field B.field)) v)))))
-          ≡ field_of p (Flag s flag) (after_in (frame_of p w) (OnSelected (Binary UnsignedAdd D A B L)) (Flag s flag))
-      each_flag Context = refl
-      each_flag Test = refl
-      each_flag Carry = refl
-      each_flag Overflow = refl
-
--- a flag is one bit wide
-pub flag_wide : (p : Plan) (s : ℕ) (flag : FlagName) → 1 ≤ key_width p (Flag s flag)
+flag_width : (p : Plan) (s : ℕ) (flag : FlagName) → key_width p (Flag s flag) ≡ 1
 unfolding key_width
-flag_wide p s flag = omega arith
+flag_width p s flag = refl
 
-module _ (p : Plan) (D : Operand) (K L : ℕ) (is : p.action ≡ OnSelected (MoveConstant D K L)) where
-  -- the key that a constant writes is its destination
-  pub constant_key : (k : Key) → has_key (writes p) k ≡ true → k ≡ Field D.field
-  constant_key k h = key_eq-true k (Field D.field) (or_nothing (key_eq k (Field D.field)) (ap (λ i. has_key (target_keys p.set_no i) k) (sym is) ∙ sym (writes_targets p k) ∙ h))
+-- so the numbers at a flag are bits
+key_bits : (p : Plan) (k : Key) (x : FieldNumbers) → fits_key p k x ≡ true → AllFit x.width x.numbers → (not (is_flag k) || are_bits x.numbers) ≡ true
+key_bits p (Field f) x h fit = refl
+key_bits p (Flag s flag) x h fit = bits_of x.numbers (subst (λ (n : ℕ). AllFit n x.numbers) (flag_width p s flag) (key_fits p (Flag s flag) x h fit))
 
-  pub constant_short : (k : Key) → IsFit p.action → has_key (writes p) k ≡ true → L ≤ key_width p k
-  unfolding key_width
-  constant_short k fit h =
-      let good : is_bad_length L D ≡ false = ap has_bad_length (sym is) ∙ fit.lengths in
-      let long : nat_lt D.width L ≡ false = or_false_second (L == 0) (nat_lt D.width L) good in
-      let wide : width_among (operands p.action) D.field ≡ D.width = ap (λ i. width_among (operands i) D.field) is ∙ ap (λ b. cond b D.width 0) (eq-eqb D.field D.field refl) in
-      subst (λ j. L ≤ key_width p j) (sym (constant_key k h)) (rw wide (not_less D.width L long))
+pub flags_bits : (p : Plan) (ks : List Key) (xs : List FieldNumbers) → fits_keys p ks xs ≡ true → AllNumbersFit xs → flags_are_bits ks (numbers_of xs) ≡ true
+flags_bits p [] xs h fit = refl
+flags_bits p (k ∷ ks) [] h fit = refl
+flags_bits p (k ∷ ks) (x ∷ xs) h fit =
+    let parts = and_parts (fits_key p k x) (fits_keys p ks xs) h in
+    rw (key_bits p k x parts.0 (first_all Fits x xs fit)) (flags_bits p ks xs parts.1 (rest_all Fits x xs fit))
 
-  pub constant_field : (w : World) (k : Key) (x context old : FieldNumbers) → has_key (writes p) k ≡ true → context ≡ field_of p (Flag p.set_no Context) (w (Flag p.set_no Context)) → old ≡ field_of p k (w k) → length old.numbers ≡ processor_count p.axes
-      → x ≡ record { width = old.width; numbers = stored (length old.numbers) (λ v. slice_index context.numbers v == 1) (slice_index old.numbers) L (λ v. K) }
-      → x ≡ field_of p k (after p w k)
-  constant_field w k x context old h c o n e =
-      let F : ℕ → FieldNumbers → FieldNumbers → FieldNumbers = λ m c o. record { width = o.width; numbers = stored m (λ v. slice_index c.numbers v == 1) (slice_index o.numbers) L (λ v. K) } in
-      e ∙ ap (λ m. F m context old) n ∙ ap₂ (λ a b. F (processor_count p.axes) a b) c o
-      ∙ ap (λ j. F (processor_count p.axes) (field_of p (Flag p.set_no Context) (w (Flag p.set_no Context))) (field_of p j (w j))) (constant_key k h)
-      ∙ ap (λ i. field_of p (Field D.field) (after_in (frame_of p w) i (Field D.field))) (sym is)
-      ∙ ap (λ j. field_of p j (after p w j)) (sym (constant_key k h))
-
--- the values so far, and one more
-pub told_all : (p : Plan) (w : World) (ks : List Key) → fields_of p ks (map w ks) ≡ map (λ k. field_of p k (w k)) ks
-told_all p w [] = refl
-told_all p w (k ∷ ks) = ap (λ xs. field_of p k (w k) ∷ xs) (told_all p w ks)
-
--- an action of the family of those that store in selected processors is never refused
-never_refused : (p : Plan) (w : World) → refusal p w ≡ None
-never_refused p w = by_action p.action
+narrow_among : (os : List Operand) (f : ℕ) → list_all (λ (o : Operand). nat_lt 0 o.width && nat_le o.width 64) os ≡ true → width_among os f ≤ 64
+narrow_among [] f h = omega arith
+narrow_among (o ∷ os) f h =
+    let parts = and_parts (nat_lt 0 o.width && nat_le o.width 64) (list_all (λ (o : Operand). nat_lt 0 o.width && nat_le o.width 64) os) h in
+    let here : o.width ≤ 64 = (let e : nat_le o.width 64 ≡ true = (and_parts (nat_lt 0 o.width) (nat_le o.width 64) parts.0).1 in grind (arith, nat_tests)) in
+    by_first (o.field == f) here (narrow_among os f parts.1)
   where
-    by_action : (i : Action Operand) → refusal_in (frame_of p w) i ≡ None
-    by_action (OnSelected i) = refl
+    by_first : (b : Bool) → o.width ≤ 64 → width_among os f ≤ 64 → cond b o.width (width_among os f) ≤ 64
+    by_first true here rest = here
+    by_first false here rest = rest
 
-pub outcome_is : (t : Task) → task_outcome t ≡ Values (map (λ k. field_of t.plan k (after t.plan (value_at (reads t.plan) (numbers_of t.inputs)) k)) (writes t.plan))
-unfolding outcome
-outcome_is t =
-    let w : World = value_at (reads t.plan) (numbers_of t.inputs) in
-    ap (λ o. told t.plan (outcome_in t.plan w o)) (never_refused t.plan w) ∙ ap Values (told_all t.plan (after t.plan w) (writes t.plan))
+-- no key of a plan is wider than a field may be
+pub key_narrow : (p : Plan) (k : Key) → IsFit p.axes p.action → key_width p k ≤ 64
+unfolding key_width
+key_narrow p (Field f) fit = narrow_among (operands p.action) f fit.widths
+key_narrow p (Flag s flag) fit = omega arith
+
+or_true_rest : (a b : Bool) → b ≡ true → (a || b) ≡ true
+or_true_rest true b e = refl
+or_true_rest false b e = e
+
+-- what a plan leaves at the keys that it writes fits them
+pub left_fit : (p : Plan) (xs : List FieldNumbers) → IsFit p.axes p.action → fits p xs ≡ true → AllNumbersFit xs → FitKeys p (writes p) (map (after p (value_at (reads p) (numbers_of xs))) (writes p))
+left_fit p xs fit h all = each (writes p) (λ k written. written)
+  where
+    each : (ks : List Key) → ((k : Key) → has_key ks k ≡ true → has_key (writes p) k ≡ true) → FitKeys p ks (map (after p (value_at (reads p) (numbers_of xs))) ks)
+    each [] among = tt
+    each (k ∷ ks) among = (
+      key_narrow p k fit,
+      (after_inputs_fit p (numbers_of xs) fit (λ j t. beside_fit p (reads p) xs j h all) k (among k (ap (λ b. b || has_key ks k) (key_eq-same k)))).0,
+      each ks (λ j t. among j (or_true_rest (key_eq j k) (has_key ks j) t)),
+    )
+
+-- the lists that the plain program gives, or its refusal, are the task's outcome
+module _ (t : Task) where
+  seen : World
+  seen = value_at (reads t.plan) (numbers_of t.inputs)
+
+  outcome_by : (o : Option Refusal) → refusal t.plan seen ≡ o → (r : Result (List (List ℕ)) Refusal) → r ≡ unless_refused o (map (after t.plan seen) (writes t.plan)) → task_outcome t ≡ told t.plan r
+  unfolding outcome seen
+  outcome_by None e r is = ap (λ o. told t.plan (outcome_in t.plan seen o)) e ∙ ap (told t.plan) (sym is)
+  outcome_by (Some cause) e r is = ap (λ o. told t.plan (outcome_in t.plan seen o)) e ∙ ap (told t.plan) (sym is)
+
+  pub outcome_given : (r : Result (List (List ℕ)) Refusal) → r ≡ plain_outcome (frame_of_seen (seen_by t.plan t.inputs)) t.plan.action (writes t.plan) → task_outcome t ≡ told t.plan r
+  unfolding seen
+  outcome_given r is = outcome_by (refusal t.plan seen) refl r is
+
+-- where it gives lists, they are those that the plan leaves
+pub lists_left : (o : Option Refusal) (xs lists : List (List ℕ)) → Ok lists ≡ unless_refused o xs → lists ≡ xs
+lists_left None xs lists e = cc
+lists_left (Some cause) xs lists e = absurd (cc)
+
+-- what is answered to parts of a task is answered to the task
+pub answered : (t : Task) (p : Plan) (xs : List FieldNumbers) (x : Seen) (i : Action Operand ℕ) (ks : List Key) (r : Result (List (List ℕ)) Refusal) → r ≡ plain_outcome (frame_of_seen x) i ks
+    → x ≡ seen_by p xs → i ≡ p.action → ks ≡ writes p → p ≡ t.plan → xs ≡ t.inputs → r ≡ plain_outcome (frame_of_seen (seen_by t.plan t.inputs)) t.plan.action (writes t.plan)
+answered t p xs x i ks r is seen_is action_is keys_are plan_is inputs_are =
+    is ∙ rw (seen_is, action_is, keys_are, inputs_are, plan_is) refl
+
+pub lists_given : (t : Task) (r : Result (List (List ℕ)) Refusal) (lists : List (List ℕ)) → r ≡ plain_outcome (frame_of_seen (seen_by t.plan t.inputs)) t.plan.action (writes t.plan) → r ≡ Ok lists
+    → lists ≡ map (after t.plan (value_at (reads t.plan) (numbers_of t.inputs))) (writes t.plan)
+lists_given t r lists is ok =
+    let w = value_at (reads t.plan) (numbers_of t.inputs) in
+    lists_left (refusal t.plan w) (map (after t.plan w) (writes t.plan)) lists (sym ok ∙ is)
+
+-- one value more of those at keys
+fields_next : (p : Plan) (ks : List Key) (xs : List (List ℕ)) (i : ℕ) (k : Key) (x : List ℕ) → i < length ks → length xs ≡ length ks
+    → fields_of p (take (suc i) ks) (take (suc i) xs) ≡ fields_of p (take i ks) (take i xs) ++ field_of p (get_or ks i k) (get_or xs i x) ∷ []
+fields_next p [] xs i k y within e = absurd (omega arith)
+fields_next p (j ∷ js) [] i k y within e = absurd (omega arith)
+fields_next p (j ∷ js) (x ∷ xs) zero k y within e = refl
+fields_next p (j ∷ js) (x ∷ xs) (suc i) k y within e = ap (λ zs. field_of p j x ∷ zs) (fields_next p js xs i k y (omega arith) (omega arith))
+
+pub fields_more : (p : Plan) (ks : List Key) (xs : List (List ℕ)) (i : ℕ) (k : Key) (x : List ℕ) → i < length ks → length xs ≡ length ks → k ≡ get_or ks i k → x ≡ get_or xs i x
+    → fields_of p (take (i + 1) ks) (take (i + 1) xs) ≡ fields_of p (take i ks) (take i xs) ++ field_of p k x ∷ []
+fields_more p ks xs i k x within e at_key at_list =
+    ap (λ n. fields_of p (take n ks) (take n xs)) (add-one i)
+    ∙ fields_next p ks xs i k x within e
+    ∙ ap (λ j. fields_of p (take i ks) (take i xs) ++ field_of p j (get_or xs i x) ∷ []) (sym at_key)
+    ∙ ap (λ y. fields_of p (take i ks) (take i xs) ++ field_of p k y ∷ []) (sym at_list)
+
+fit_next : (p : Plan) (ks : List Key) (xs : List (List ℕ)) (i : ℕ) (k : Key) (x : List ℕ) → FitKeys p ks xs → i < length ks → length xs ≡ length ks
+    → (key_width p (get_or ks i k) ≤ 64) × AllFit (key_width p (get_or ks i k)) (get_or xs i x)
+fit_next p [] xs i k y fit within e = absurd (omega arith)
+fit_next p (j ∷ js) [] i k y fit within e = absurd (omega arith)
+fit_next p (j ∷ js) (x ∷ xs) zero k y fit within e = (fit.0, fit.1)
+fit_next p (j ∷ js) (x ∷ xs) (suc i) k y fit within e = fit_next p js xs i k y fit.2 (omega arith) (omega arith)
+
+-- the list at a place fits its key
+pub fit_at : (p : Plan) (ks : List Key) (xs : List (List ℕ)) (i : ℕ) (k : Key) (x : List ℕ) → FitKeys p ks xs → i < length ks → length xs ≡ length ks → k ≡ get_or ks i k → x ≡ get_or xs i x
+    → (key_width p k ≤ 64) × AllFit (key_width p k) x
+fit_at p ks xs i k x fit within e at_key at_list =
+    let here = fit_next p ks xs i k x fit within e in
+    (subst (λ j. key_width p j ≤ 64) (sym at_key) here.0, subst (λ y. AllFit (key_width p k) y) (sym at_list) (subst (λ j. AllFit (key_width p j) (get_or xs i x)) (sym at_key) here.1))
+
+-- one list more of those of values
+pub lists_more : (xs : List FieldNumbers) (i : ℕ) (x : FieldNumbers) → i < length xs → x ≡ get_or xs i x → numbers_of (take (i + 1) xs) ≡ numbers_of (take i xs) ++ x.numbers ∷ []
+lists_more xs i x within at = ap numbers_of (take_more xs i x within) ∙ map-append _ (take i xs) (get_or xs i x ∷ []) ∙ ap (λ (y : FieldNumbers). numbers_of (take i xs) ++ y.numbers ∷ []) (sym at)
+
+pub fit_more : (xs : List FieldNumbers) (i : ℕ) (x : FieldNumbers) → i < length xs → x ≡ get_or xs i x → Fits x → AllNumbersFit (take i xs) → AllNumbersFit (take (i + 1) xs)
+fit_more xs i x within at here before = rw (take_more xs i x within) (All-push Fits (take i xs) (get_or xs i x) before (subst Fits at here))

@@ -1,4 +1,3 @@
 pub mod Besides
 pub mod Executed
 pub mod Frames
-pub mod PlainStores

@@ -1,94 +1,75 @@
 //! Executing orders: it needs no book and no lock.
 
-ghost use Rattle.std.specs.Prelude.{◌≡◌, true, IfOk, IfErr, Err};
-ghost use Rattle.paris_names.specs.Keys.{has_key};
-ghost use Rattle.paris_model.specs.Instructions.{reads, writes, value_at, after, outcome};
-ghost use Rattle.paris_exec.specs.Tasks.{field_of, numbers_of, task_outcome};
+ghost use Rattle.std.specs.Prelude.{◌≡◌, All, length, slice_index, IfOk, IfErr, true};
+ghost use Rattle.paris_model.specs.Instructions.{reads};
+ghost use Rattle.paris_exec.specs.Fields.{FieldNumbers, AllFit};
+ghost use Rattle.paris_exec.specs.Tasks.{fields_of, fits, numbers_of, task_outcome};
 ghost use Rattle.paris_exec.specs.Frames.{GivesInAnyWorld};
+ghost use Rattle.paris_exec.specs.Seen.{FitKeys, seen_by};
 
 use crate::fields::FieldValue;
 use crate::orders::{Done, Order, Outcome};
-use crate::plain::{carry_stored, constant_stored, sum_stored};
-use paris_model::{Action, BinaryOperator, Conditional, Operand};
-use paris_names::{FlagName, Items, Key};
+use paris_instr::Plan;
+use paris_names::{Items, Key};
+use paris_plain::{Inputs, outcome};
 use std::alloc::{AllocError, Global};
 
-/// What a sum leaves at a key that it writes.
-fn sum_after(
-    alloc: Global,
-    order: &Order,
-    key: &Key,
-    to: Operand,
-    left: Operand,
-    right: Operand,
-    length: u64,
-) -> Result<FieldValue, AllocError>
-    requires plan { order.now.plan.action ≡ Action.OnSelected (Conditional.Binary BinaryOperator.UnsignedAdd to left right length) }
-    requires written { has_key (writes order.now.plan) key.now ≡ true }
-    ensures { IfOk result (λ value. value ≡ field_of order.now.plan key.now (after order.now.plan (value_at (reads order.now.plan) (numbers_of order.now.inputs)) key.now)) }
+/// The numbers of values.
+fn lists_of(alloc: Global, values: &[FieldValue]) -> Result<Vec<Items<u128>>, AllocError>
+    ensures lists { IfOk result (λ lists. lists.items ≡ numbers_of values.now) }
+    ensures fit { IfOk result (λ _. All (λ (x : FieldNumbers). AllFit x.width x.numbers) values.now) }
 {
-    let _action = order.plan().action();
-    let _destination = to.field;
-    let context = order.input(&Key::Flag(order.plan().set(), FlagName::Context));
-    let old = order.input(key);
-    let left = order.input(&Key::Field(left.field));
-    let right = order.input(&Key::Field(right.field));
-    match key {
-        Key::Field(_) => sum_stored(alloc, context, old, left, right, length),
-        Key::Flag(_, _) => carry_stored(alloc, context, old, left, right, length),
+    let mut lists = Vec::new(alloc);
+    for value in values {
+        lists.push(Items::new(value.numbers()?))?;
     }
+    Ok(lists)
 }
 
-/// What a constant leaves at a key that it writes.
-fn constant_after(
-    alloc: Global,
-    order: &Order,
-    key: &Key,
-    to: Operand,
-    number: u128,
-    length: u64,
-) -> Result<FieldValue, AllocError>
-    requires plan { order.now.plan.action ≡ Action.OnSelected (Conditional.MoveConstant to number length) }
-    requires written { has_key (writes order.now.plan) key.now ≡ true }
-    ensures { IfOk result (λ value. value ≡ field_of order.now.plan key.now (after order.now.plan (value_at (reads order.now.plan) (numbers_of order.now.inputs)) key.now)) }
+/// What an instruction sees of these values at the keys that its plan reads.
+fn seen(alloc: Global, plan: &Plan, values: &[FieldValue]) -> Result<Inputs, AllocError>
+    requires { fits plan.now values.now ≡ true }
+    ensures seen { IfOk result (λ inputs. inputs ≡ seen_by plan.now values.now) }
+    ensures fit { IfOk result (λ _. All (λ (x : FieldNumbers). AllFit x.width x.numbers) values.now) }
 {
-    let _action = order.plan().action();
-    let _destination = to.field;
-    let context = order.input(&Key::Flag(order.plan().set(), FlagName::Context));
-    let old = order.input(key);
-    constant_stored(alloc, context, old, number, length)
+    let keys = Vec::from_slice(alloc, plan.reads())?;
+    let lists = lists_of(alloc, values)?;
+    Ok(Inputs::new(plan.set(), plan.geometry(), keys, lists))
 }
 
-/// What the plan of an order leaves at a key that it writes.
-fn value_after(alloc: Global, order: &Order, key: &Key) -> Result<FieldValue, AllocError>
-    requires { has_key (writes order.now.plan) key.now ≡ true }
-    ensures { IfOk result (λ value. value ≡ field_of order.now.plan key.now (after order.now.plan (value_at (reads order.now.plan) (numbers_of order.now.inputs)) key.now)) }
+/// Lists of numbers at keys of a plan, as values of the keys' widths.
+fn fields_at(
+    alloc: Global,
+    plan: &Plan,
+    keys: &[Key],
+    lists: &[Items<u128>],
+) -> Result<Vec<FieldValue>, AllocError>
+    requires counts { length lists.now ≡ length keys.now }
+    requires fit { FitKeys plan.now keys.now lists.now }
+    ensures { IfOk result (λ values. values.items ≡ fields_of plan.now keys.now lists.now) }
 {
-    match order.plan().action() {
-        Action::OnSelected(
-            Conditional::Binary {
-                operator: BinaryOperator::UnsignedAdd,
-                to,
-                left,
-                right,
-                length,
-            },
-        ) => sum_after(alloc, order, key, to, left, right, length),
-        Action::OnSelected(Conditional::MoveConstant { to, value, length }) => {
-            constant_after(alloc, order, key, to, value, length)
-        }
+    let mut values = Vec::new(alloc);
+    for i in 0..keys.len() {
+        let width = plan.width(keys[i]);
+        values.push(FieldValue::from_numbers(alloc, width, lists[i].as_slice())?)?;
     }
+    Ok(values)
 }
 
 /// What the plan of an order gives on its inputs.
 fn outcome_of(alloc: Global, order: &Order) -> Result<Outcome, AllocError>
     ensures { IfOk result (λ outcome. outcome ≡ task_outcome order.now) }
 {
-    let mut values = Vec::new(alloc);
-    for key in order.plan().writes() {
-        values.push(value_after(alloc, order, key)?)?;
+    let plan = order.plan();
+    let inputs = seen(alloc, plan, order.inputs())?;
+    let action = plan.action();
+    match outcome(alloc, &inputs, &action, plan.writes())? {
+        Err(cause) => Ok(Outcome::Refused(cause)),
+        Ok(lists) => {
+            let values = fields_at(alloc, plan, plan.writes(), lists.as_slice())?;
+            Ok(Outcome::Values(Items::new(values)))
+        }
     }
-    Ok(Outcome::Values(Items::new(values)))
 }
 
 /// Executes an order. At want of memory the order comes back.

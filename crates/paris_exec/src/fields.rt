@@ -77,7 +77,8 @@ impl FieldValue {
 
     /// All numbers, by processor.
     pub fn numbers(&self) -> Result<Vec<u128>, AllocError>
-        ensures { IfOk result (λ numbers. numbers.items ≡ self.now.numbers) }
+        ensures value { IfOk result (λ numbers. numbers.items ≡ self.now.numbers) }
+        ensures fit { IfOk result (λ _. AllFit self.now.width self.now.numbers) }
     {
         Vec::from_slice(*self.items.allocator(), self.items.as_slice())
     }

@@ -4,7 +4,6 @@
 pub mod execution;
 pub mod fields;
 pub mod orders;
-mod plain;
 
 pub use execution::execute;
 pub use fields::FieldValue;

@@ -1,1 +1,4 @@
+pub mod Addresses
+pub mod Neighbours
 pub mod Products
+pub mod Strides

@@ -1,3 +1,4 @@
 pub mod Buffer
 pub mod Geometry
 pub mod GeometryFields
+pub mod Laws

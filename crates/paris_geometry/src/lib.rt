@@ -2,6 +2,7 @@
 #![tactic(auto)]
 
 pub mod direction;
+pub mod laws;
 pub mod shape;
 
 pub use direction::Direction;

@@ -3,8 +3,9 @@
 ghost use Rattle.std.specs.Prelude.{◌≡◌, ◌<◌, ◌≤◌, length, slice_index, true, false, IfOk, IfErr};
 ghost use Rattle.std.specs.List.{list_all};
 ghost use Rattle.paris_names.specs.declared.faults.Fault.TheVariants.{BadAxes};
-ghost use Rattle.paris_geometry.specs.Geometry.{is_geometry, is_power_of_two, processor_count};
+ghost use Rattle.paris_geometry.specs.Geometry.{is_geometry, is_power_of_two, processor_count, product, stride, axis_length, coordinate, at_coordinate, neighbour_coordinate, neighbour, address, AreCoordinates};
 
+use crate::direction::Direction;
 use paris_names::Fault;
 use std::marker::Model;
 
@@ -124,6 +125,7 @@ impl Geometry {
     pub fn axes(self) -> usize
         ensures value { result ≡ length self }
         ensures few { result ≤ 4 }
+        ensures sound { is_geometry self ≡ true }
     {
         self.count
     }
@@ -142,5 +144,78 @@ impl Geometry {
         ensures { result.now ≡ self.now }
     {
         &self.lengths[..self.count]
+    }
+
+    /// The coordinate of a processor on an axis, from 0.
+    pub fn coordinate(self, processor: u32, axis: usize) -> u32
+        requires { axis < length self }
+        ensures value { result ≡ coordinate self axis processor }
+        ensures small { result < axis_length self axis }
+    {
+        let place = u128::from(processor) / self.stride(axis);
+        (place % u128::from(self.len(axis))) as u32
+    }
+
+    /// The neighbour of a processor along an axis, which wraps round.
+    pub fn neighbour(self, processor: u32, axis: usize, direction: Direction) -> u32
+        requires axis { axis < length self }
+        requires processor { processor < processor_count self }
+        ensures value { result ≡ neighbour self axis direction processor }
+        ensures small { result < processor_count self }
+    {
+        let own = self.coordinate(processor, axis);
+        let next = next_coordinate(direction, self.len(axis), u64::from(own));
+        self.at_coordinate(processor, axis, next)
+    }
+
+    /// The processor of a processor's line along an axis that has this coordinate.
+    pub fn at_coordinate(self, processor: u32, axis: usize, coordinate: u64) -> u32
+        requires axis { axis < length self }
+        requires processor { processor < processor_count self }
+        requires coordinate { coordinate < axis_length self axis }
+        ensures value { result ≡ at_coordinate self axis processor coordinate }
+        ensures small { result < processor_count self }
+    {
+        let stride = self.stride(axis);
+        let own = self.coordinate(processor, axis);
+        let first = u128::from(processor) - u128::from(own) * stride;
+        (first + u128::from(coordinate) * stride) as u32
+    }
+
+    /// The processor that has these coordinates, one for each axis, axis 0 first.
+    pub fn address(self, coordinates: &[u32]) -> u32
+        requires { AreCoordinates self coordinates.now }
+        ensures value { result ≡ address self coordinates.now }
+        ensures small { result < processor_count self }
+    {
+        let mut address: u128 = 0;
+        for axis in 0..self.axes() {
+            address += u128::from(coordinates[axis]) * self.stride(axis);
+        }
+        address as u32
+    }
+
+    /// How far apart two neighbours along an axis are, in processors.
+    fn stride(self, axis: usize) -> u128
+        requires { axis < length self }
+        ensures value { result ≡ stride self axis }
+        ensures positive { 0 < stride self axis }
+        ensures sound { is_geometry self ≡ true }
+    {
+        let lengths = &self.lengths[..self.count];
+        processor_count(&lengths[..axis])
+    }
+}
+
+/// The next coordinate in a direction on an axis of this length.
+fn next_coordinate(direction: Direction, length: u64, own: u64) -> u64
+    requires small { own < length }
+    requires short { length ≤ 65536 }
+    ensures value { result ≡ neighbour_coordinate direction length own }
+    ensures small { result < length }
+{
+    match direction {
+        Direction::Upward => (own + 1) % length,
+        Direction::Downward => (own + length - 1) % length,
     }
 }

@@ -26,6 +26,37 @@ fn a_geometry_gives_its_lengths_back(rt: HostRuntime) -> Result<(), Fail> {
 }
 
 #[test]
+fn coordinates_count_along_axis_0_fastest(rt: HostRuntime) -> Result<(), Fail> {
+    let square = Geometry::new(&[2, 2])?;
+    assert!(rt; square.axes() == 2);
+    for (processor, first, second) in [(0, 0, 0), (1, 1, 0), (2, 0, 1), (3, 1, 1)] {
+        assert_eq!(rt; square.coordinate(processor, 0), first, "of {processor}");
+        assert_eq!(rt; square.coordinate(processor, 1), second, "of {processor}");
+    }
+    Ok(())
+}
+
+#[test]
+fn axes_wrap_round(rt: HostRuntime) -> Result<(), Fail> {
+    let line = Geometry::new(&[4])?;
+    assert!(rt; line.axes() == 1 && line.vps() == 4);
+    for (processor, up, down) in [(0, 1, 3), (1, 2, 0), (2, 3, 1), (3, 0, 2)] {
+        assert!(rt; processor < 4);
+        assert_eq!(rt;
+            line.neighbour(processor, 0, Direction::Upward),
+            up,
+            "of {processor}"
+        );
+        assert_eq!(rt;
+            line.neighbour(processor, 0, Direction::Downward),
+            down,
+            "of {processor}"
+        );
+    }
+    Ok(())
+}
+
+#[test]
 fn the_directions_differ(rt: HostRuntime) {
     assert!(rt; Direction::Upward != Direction::Downward);
     assert!(rt; Direction::Upward == Direction::Upward);

@@ -1,3 +1,3 @@
-pub mod KeyOrder
 pub mod Resolves
 pub mod SamePlans
+pub mod SameActions

@@ -1,30 +1,22 @@
 -- What is known of a resolved instruction: its operands are declared, and its keys are those of the board.
-use Rattle.std.proofs.Common.{◌≡◌, ℕ, ◌<◌, ◌≤◌, ◌^◌, List, [], ◌∷◌, ◌++◌, Bool, true, false, cond, Option, Some, None, refl, sym, ap, ◌∙◌, subst, arith, zero, suc, length, get_or, nat_le, inl, inr}
-use Rattle.std.specs.Prelude.{◌||◌, ◌⊎◌, ◌==◌, All, option_map, option_and_then}
+use Rattle.std.proofs.Common.{◌≡◌, ℕ, ◌<◌, ◌≤◌, ◌^◌, List, [], ◌∷◌, ◌++◌, Bool, true, false, cond, refl, sym, ap, ◌∙◌, subst, arith, length, nat_lt, nat_le, inl, inr}
+use Rattle.std.specs.Prelude.{◌&&◌, ◌||◌, ◌⊎◌, ◌==◌}
 use Rattle.std.specs.List.{list_all}
 use Rattle.std.proofs.Math.Nat.{pow-le-pow_right}
 use Rattle.std.proofs.Math.Path.{ap₂}
 use Rattle.std.proofs.lemmas.Bool.{and_parts, and_from, or_cases, both_ways, eqb-true, eq-eqb, ne_eqb, lt-ltb, le-leb}
 use Rattle.std.proofs.lemmas.List.{map-append}
-use Rattle.std.proofs.lemmas.List.Elements.{All-nil, All-cons, All-head, All-tail}
-use Rattle.std.proofs.lemmas.List.Quantifiers.{position-Some}
-use Rattle.std.proofs.lemmas.Option.{same_Some}
-use Rattle.std.specs.Str.{bytes_eq}
 use Rattle.paris_names.specs.declared.keys.FlagName.{FlagName}
 use Rattle.paris_names.specs.declared.keys.Key.{Key}
 use Rattle.paris_names.specs.declared.keys.Key.TheVariants.{Field, Flag}
 use Rattle.paris_names.specs.Keys.{flag_place, has_key, key_eq}
 use Rattle.paris_geometry.specs.Geometry.{processor_count}
-use Rattle.paris_board.specs.Board.{Board, DeclaredField, AreFields, IsBoard, field_named, field_at, axes_of, is_declared, width_of, count_of}
+use Rattle.paris_board.specs.Board.{Board, field_at, axes_of, is_declared, width_of, count_of}
 use Rattle.paris_model.specs.declared.actions.Operand.{Operand}
-use Rattle.paris_model.specs.declared.actions.Conditional.{Conditional}
-use Rattle.paris_model.specs.declared.actions.Conditional.TheVariants.{Binary, MoveConstant}
 use Rattle.paris_model.specs.declared.actions.Action.{Action}
-use Rattle.paris_model.specs.declared.actions.Action.TheVariants.{OnSelected}
 use Rattle.paris_model.specs.Instructions.{Plan, operands, read_keys, source_keys, target_keys, field_keys, flag_keys, target_fields, target_flags, source_fields, source_flags, stores_all_bits, key_width, width_among}
 use Rattle.paris_model.proofs.Worlds.{has_key-append, reads_keys, writes_targets}
-use Rattle.paris_instr.specs.Lengths.{has_bad_length, has_bad_operand, IsFit}
-use Rattle.paris_instr.specs.Resolve.{operand_of, operand_named, conditional_named, action_named, set_of_operand, set_of_action, is_in_one_set, IsOperandOf, AreOperands, IsFittedTo}
+use Rattle.paris_instr.specs.Resolve.{set_of_operand, set_of_action, is_in_one_set, IsOperandOf, AreOperandsOf, IsFittedTo}
 
 -- no number of 128 bits needs more than 128 bits
 pub not_too_great : (L K : ℕ) → 128 ≤ L → K < 2 ^ 128 → nat_le (2 ^ L) K ≡ false
@@ -32,62 +24,12 @@ not_too_great L K long small =
     let above : 2 ^ 128 ≤ 2 ^ L = pow-le-pow_right (omega arith) long in
     grind arith
 
--- a field that is found is declared
-operand_known : (b : Board) (name : List ℕ) (o : Operand) → operand_named b name ≡ Some o → IsOperandOf b o
-operand_known b name o h = by_place (field_named b name) refl h
-  where
-    by_place : (f : Option ℕ) → field_named b name ≡ f → option_map (operand_of b) f ≡ Some o → IsOperandOf b o
-    by_place None e g = absurd (cc)
-    by_place (Some f) e g =
-        let within : f < length b.fields = (position-Some (λ (x : DeclaredField). bytes_eq x.name name) b.fields f (record { name = []; set_no = 0; width = 0 }) e).0 in
-        subst (IsOperandOf b) (same_Some (operand_of b f) o g) (lt-ltb f (length b.fields) within, refl)
-
-conditional_known : (b : Board) (instr : Conditional (List ℕ)) (i : Conditional Operand) → conditional_named b instr ≡ Some i → AreOperands b (OnSelected i)
-conditional_known b (Binary op D A B L) i h =
-    by_operands (operand_named b D) (operand_named b A) (operand_named b B) (operand_known b D) (operand_known b A) (operand_known b B) h
-  where
-    by_operands : (d x y : Option Operand) → ((o : Operand) → d ≡ Some o → IsOperandOf b o) → ((o : Operand) → x ≡ Some o → IsOperandOf b o) → ((o : Operand) → y ≡ Some o → IsOperandOf b o)
-        → option_and_then (λ d. option_and_then (λ x. option_map (λ y. Binary op d x y L) y) x) d ≡ Some i → AreOperands b (OnSelected i)
-    by_operands None x y known-d known-x known-y g = absurd (cc)
-    by_operands (Some d) None y known-d known-x known-y g = absurd (cc)
-    by_operands (Some d) (Some x) None known-d known-x known-y g = absurd (cc)
-    by_operands (Some d) (Some x) (Some y) known-d known-x known-y g =
-        subst (λ (v : Conditional Operand). AreOperands b (OnSelected v)) (same_Some (Binary op d x y L) i g) (
-        All-cons (IsOperandOf b) d (x ∷ y ∷ []) (known-d d refl) (All-cons (IsOperandOf b) x (y ∷ []) (known-x x refl) (All-cons (IsOperandOf b) y [] (known-y y refl) (All-nil (IsOperandOf b))))
-        )
-conditional_known b (MoveConstant D K L) i h = by_operand (operand_named b D) (operand_known b D) h
-  where
-    by_operand : (d : Option Operand) → ((o : Operand) → d ≡ Some o → IsOperandOf b o) → option_map (λ d. MoveConstant d K L) d ≡ Some i → AreOperands b (OnSelected i)
-    by_operand None known g = absurd (cc)
-    by_operand (Some d) known g = subst (λ (v : Conditional Operand). AreOperands b (OnSelected v)) (same_Some (MoveConstant d K L) i g) (All-cons (IsOperandOf b) d [] (known d refl) (All-nil (IsOperandOf b)))
-
--- the operands of a resolved action are declared
-pub action_known : (b : Board) (instr : Action (List ℕ)) (i : Action Operand) → action_named b instr ≡ Some i → AreOperands b i
-action_known b (OnSelected instr) i h = by_conditional (conditional_named b instr) (conditional_known b instr) h
-  where
-    by_conditional : (c : Option (Conditional Operand)) → ((v : Conditional Operand) → c ≡ Some v → AreOperands b (OnSelected v)) → option_map OnSelected c ≡ Some i → AreOperands b i
-    by_conditional None known g = absurd (cc)
-    by_conditional (Some c) known g = subst (AreOperands b) (same_Some (OnSelected c) i g) (known c refl)
-
--- a declared field is at most 64 bits wide
-field_narrow : (sets : ℕ) (fields : List DeclaredField) (f : ℕ) (d : DeclaredField) → AreFields sets fields → f < length fields → (get_or fields f d).width ≤ 64
-field_narrow sets [] f d are within = absurd (omega arith)
-field_narrow sets (x ∷ xs) zero d are within = are.2
-field_narrow sets (x ∷ xs) (suc f) d are within = field_narrow sets xs f d are.3 (omega arith)
-
-operand_narrow : (b : Board) (o : Operand) → IsBoard b → IsOperandOf b o → o.width ≤ 64
-operand_narrow b o sound known =
-    let within : o.field < length b.fields = grind (arith, known.0) in
-    subst (λ (x : Operand). x.width ≤ 64) (sym known.1) (field_narrow (length b.sets) b.fields o.field (record { name = []; set_no = 0; width = 0 }) sound within)
-
-all_narrow : (b : Board) (os : List Operand) → IsBoard b → All (IsOperandOf b) os → list_all (λ (o : Operand). nat_le o.width 64) os ≡ true
-all_narrow b [] sound known = refl
-all_narrow b (o ∷ os) sound known =
-    and_from (nat_le o.width 64) (list_all (λ (o : Operand). nat_le o.width 64) os) (le-leb o.width 64 (operand_narrow b o sound (All-head (IsOperandOf b) o os known))) (all_narrow b os sound (All-tail (IsOperandOf b) o os known))
-
--- an action that passes the tests is fit for a plan
-pub action_fit : (b : Board) (i : Action Operand) → IsBoard b → AreOperands b i → has_bad_length i ≡ false → has_bad_operand i ≡ false → IsFit i
-action_fit b i sound known lengths constants = record { lengths = lengths; constants = constants; widths = all_narrow b (operands i) sound known }
+-- each operand is as wide as a field may be
+pub have_widths : (b : Board) (os : List Operand) → AreOperandsOf b os → list_all (λ (o : Operand). nat_lt 0 o.width && nat_le o.width 64) os ≡ true
+have_widths b [] known = refl
+have_widths b (o ∷ os) known =
+    let own : (nat_lt 0 o.width && nat_le o.width 64) ≡ true = and_from (nat_lt 0 o.width) (nat_le o.width 64) (lt-ltb 0 o.width known.0.2) (le-leb o.width 64 known.0.3) in
+    and_from (nat_lt 0 o.width && nat_le o.width 64) (list_all (λ (o : Operand). nat_lt 0 o.width && nat_le o.width 64) os) own (have_widths b os known.1)
 
 -- a field among the operands of one set
 record IsFieldAmong (b : Board) (s : ℕ) (os : List Operand) (f : ℕ) : Type 0 where
@@ -95,15 +37,15 @@ record IsFieldAmong (b : Board) (s : ℕ) (os : List Operand) (f : ℕ) : Type 0
   width : (field_at b f).width ≡ width_among os f
   set_no : (field_at b f).set_no ≡ s
 
-among : (b : Board) (s : ℕ) (os : List Operand) (f : ℕ) → All (IsOperandOf b) os → list_all (λ o. set_of_operand b o == s) os ≡ true → has_key (field_keys os) (Field f) ≡ true → IsFieldAmong b s os f
+among : (b : Board) (s : ℕ) (os : List Operand) (f : ℕ) → AreOperandsOf b os → list_all (λ o. set_of_operand b o == s) os ≡ true → has_key (field_keys os) (Field f) ≡ true → IsFieldAmong b s os f
 among b s [] f known same h = absurd (let e : false ≡ true = h in cc)
 among b s (o ∷ os) f known same h =
-    by_first (among b s os f (All-tail (IsOperandOf b) o os known) (and_parts (set_of_operand b o == s) (list_all (λ o. set_of_operand b o == s) os) same).1) (f == o.field) refl h
+    by_first (among b s os f known.1 (and_parts (set_of_operand b o == s) (list_all (λ o. set_of_operand b o == s) os) same).1) (f == o.field) refl h
   where
     by_first : (has_key (field_keys os) (Field f) ≡ true → IsFieldAmong b s os f) → (t : Bool) → (f == o.field) ≡ t → (t || has_key (field_keys os) (Field f)) ≡ true → IsFieldAmong b s (o ∷ os) f
     by_first rest true e g =
         let here : f ≡ o.field = eqb-true f o.field e in
-        let of_board : IsOperandOf b o = All-head (IsOperandOf b) o os known in
+        let of_board : IsOperandOf b o = known.0 in
         let of_set : set_of_operand b o ≡ s = eqb-true (set_of_operand b o) s (and_parts (set_of_operand b o == s) (list_all (λ o. set_of_operand b o == s) os) same).0 in
         let P : ℕ → Type 0 = λ x. is_declared b (Field x) ≡ true in
         record {
@@ -126,7 +68,7 @@ by_kind true false false false false h = cc
 by_kind false false false false false h = cc
 
 -- a key that an action reads or writes is a field of one of its operands, or one of its flags
-key_kind : (s : ℕ) (i : Action Operand) (k : Key) → (has_key (read_keys s i) k || has_key (target_keys s i) k) ≡ true
+key_kind : (s : ℕ) (i : Action Operand ℕ) (k : Key) → (has_key (read_keys s i) k || has_key (target_keys s i) k) ≡ true
     → (has_key (field_keys (operands i)) k ≡ true) ⊎ (has_key (flag_keys s (target_flags i ++ source_flags i)) k ≡ true)
 key_kind s i k h =
     let t = has_key (field_keys (target_fields i)) k in
@@ -166,7 +108,7 @@ flag_set s (x ∷ xs) t flag h =
 
 -- what is known of a plan that was made on a board
 pub record IsMadeOn (b : Board) (p : Plan) : Type 0 where
-  pub known : AreOperands b p.action
+  pub known : AreOperandsOf b (operands p.action)
   pub one_set : is_in_one_set b p.action ≡ true
   pub set_no : p.set_no ≡ set_of_action b p.action
   pub declared : p.set_no < length b.sets

@@ -1,4 +1,4 @@
-pub mod Lengths
+pub mod KeyLists
 pub mod PlanEq
 pub mod PlanFields
 pub mod Resolve

@@ -1,8 +1,15 @@
 //! Instructions as they are written, and plans: instructions resolved against a board.
 #![tactic(auto)]
 
+mod fits;
+mod key_lists;
+mod naming;
+mod operands;
 pub mod plans;
 pub mod resolving;
 
 pub use plans::{Instr, Plan};
 pub use resolving::resolve;
+
+#[cfg(test)]
+mod tests;

@@ -1,72 +1,48 @@
 //! Resolving an instruction against a board.
 
-ghost use Rattle.std.specs.Prelude.{◌≡◌, ◌==◌, ◌<◌, ◌^◌, ℕ, nat_le, length, Ok, IfOk, IfErr, ok_or};
-ghost use Rattle.paris_names.specs.declared.faults.Fault.TheVariants as Fault;
+ghost use Rattle.std.specs.Prelude.{◌≡◌, ◌==◌, ◌<◌, length, Ok, IfOk, IfErr};
+ghost use Rattle.std.specs.List.{list_all};
 ghost use Rattle.paris_names.specs.Faults.{IsFaultOf};
-ghost use Rattle.paris_board.specs.Board.{IsBoard};
-ghost use Rattle.paris_instr.specs.Lengths.{is_bad_length, has_bad_length, has_bad_operand};
-ghost use Rattle.paris_instr.specs.Resolve.{operand_named, conditional_named, action_named, set_of_operand, set_of_action, is_in_one_set, resolution, fault_in, IsOperandOf, AreOperands, IsFittedTo};
+ghost use Rattle.paris_instr.specs.Resolve.{conditional_set, unconditional_set, action_set, set_of_operand, set_of_action, is_in_one_set, resolution, fault_in, IsOperandOf, AreOperandsOf, IsFoundOn, IsFittedTo};
 
+use crate::fits::{has_bad_axis, has_bad_length, has_bad_operand, has_overlap};
+use crate::naming::action_named;
+use crate::operands::all_operands;
 use crate::plans::{Instr, Plan};
 use paris_board::Board;
-use paris_model::{Action, Conditional, Operand};
-use paris_names::{Fault, Key, KeyName, Name, SetNo};
+use paris_model::{Action, Conditional, Operand, Unconditional};
+use paris_names::{Fault, Key, SetNo};
 use std::alloc::Global;
 
-/// The operand of a field's name.
-fn operand(board: &Board, name: Name) -> Result<Operand, Fault>
-    ensures value { result ≡ ok_or (operand_named board.now name) Fault.NoField }
-    ensures sound { IsBoard board.now }
+/// The set that an action names in place of fields.
+fn action_set(action: &Action<Operand, SetNo>) -> Option<SetNo>
+    ensures { result ≡ action_set action.now }
 {
-    match board.key_of(KeyName { name, flag: None })? {
-        Key::Field(field) => Ok(Operand {
-            field,
-            width: board.width(Key::Field(field)),
-        }),
-        Key::Flag(_, _) => unreachable!(),
+    match action {
+        Action::OnSelected(action) => conditional_set(action),
+        Action::OnAll(action) => unconditional_set(action),
+        Action::ByNews(_) | Action::AlongLine(_) | Action::ByMail(_) => None,
     }
 }
 
-fn conditional_named(
-    board: &Board,
-    instr: &Conditional<Name>,
-) -> Result<Conditional<Operand>, Fault>
-    ensures value { result ≡ ok_or (conditional_named board.now instr.now) Fault.NoField }
-    ensures sound { IsBoard board.now }
+fn conditional_set(action: &Conditional<Operand, SetNo>) -> Option<SetNo>
+    ensures { result ≡ conditional_set action.now }
 {
-    match *instr {
-        Conditional::Binary {
-            operator,
-            to,
-            left,
-            right,
-            length,
-        } => {
-            let to = operand(board, to)?;
-            let left = operand(board, left)?;
-            let right = operand(board, right)?;
-            Ok(Conditional::Binary {
-                operator,
-                to,
-                left,
-                right,
-                length,
-            })
-        }
-        Conditional::MoveConstant { to, value, length } => {
-            let to = operand(board, to)?;
-            Ok(Conditional::MoveConstant { to, value, length })
-        }
+    match *action {
+        Conditional::SetTest(set) | Conditional::ClearTest(set) => Some(set),
+        _ => None,
     }
 }
 
-/// The instruction with operands for its names.
-fn action_named(board: &Board, instr: &Instr) -> Result<Action<Operand>, Fault>
-    ensures value { result ≡ ok_or (action_named board.now instr.now) Fault.NoField }
-    ensures sound { IsBoard board.now }
+fn unconditional_set(action: &Unconditional<Operand, SetNo>) -> Option<SetNo>
+    ensures { result ≡ unconditional_set action.now }
 {
-    match instr {
-        Action::OnSelected(instr) => Ok(Action::OnSelected(conditional_named(board, instr)?)),
+    match *action {
+        Unconditional::SetContext(set)
+        | Unconditional::ClearContext(set)
+        | Unconditional::InvertContext(set)
+        | Unconditional::AndContextWithTest(set) => Some(set),
+        _ => None,
     }
 }
 
@@ -79,96 +55,49 @@ fn set_of_operand(board: &Board, operand: Operand) -> SetNo
     board.set_of_key(Key::Field(operand.field))
 }
 
-/// The set of an action: that of its destination.
-fn set_of_action(board: &Board, action: &Action<Operand>) -> SetNo
-    requires { AreOperands board.now action.now }
+/// The set of an action: the one that it names, else that of its first operand.
+fn set_of_action(board: &Board, action: &Action<Operand, SetNo>) -> SetNo
+    requires { IsFoundOn board.now action.now }
     ensures value { result ≡ set_of_action board.now action.now }
     ensures declared { result < length board.now.sets }
 {
-    match *action {
-        Action::OnSelected(Conditional::Binary { to, .. }) => set_of_operand(board, to),
-        Action::OnSelected(Conditional::MoveConstant { to, .. }) => set_of_operand(board, to),
+    let operands = all_operands(action);
+    match action_set(action) {
+        Some(set) => set,
+        None => match operands.as_slice() {
+            [first, ..] => set_of_operand(board, *first),
+            [] => unreachable!(),
+        },
     }
 }
 
-/// Whether an operand is of a set.
-fn is_of_set(board: &Board, set: SetNo, operand: Operand) -> bool
-    requires { IsOperandOf board.now operand }
-    ensures { result ≡ (set_of_operand board.now operand == set) }
+/// Whether operands are of a set.
+fn are_of_set(board: &Board, set: SetNo, operands: &[Operand]) -> bool
+    requires { AreOperandsOf board.now operands.now }
+    ensures { result ≡ list_all (λ o. set_of_operand board.now o == set) operands.now }
 {
-    set_of_operand(board, operand) == set
+    for operand in operands {
+        if set_of_operand(board, *operand) != set {
+            return false;
+        }
+    }
+    true
 }
 
-/// Whether all operands are of one set.
-fn is_in_one_set(board: &Board, action: &Action<Operand>) -> bool
-    requires { AreOperands board.now action.now }
+/// Whether all operands of an action are of its set.
+fn is_in_one_set(board: &Board, action: &Action<Operand, SetNo>) -> bool
+    requires { IsFoundOn board.now action.now }
     ensures { result ≡ is_in_one_set board.now action.now }
 {
     let set = set_of_action(board, action);
-    match *action {
-        Action::OnSelected(
-            Conditional::Binary {
-                to,
-                left,
-                right,
-                ..
-            },
-        ) => {
-            is_of_set(board, set, to) && is_of_set(board, set, left) && is_of_set(board, set, right)
-        }
-        Action::OnSelected(Conditional::MoveConstant { to, .. }) => is_of_set(board, set, to),
-    }
+    are_of_set(board, set, all_operands(action).as_slice())
 }
 
-/// Whether a length is 0, or above the width of an operand of that length.
-fn is_bad_length(length: u64, operand: Operand) -> bool
-    ensures { result ≡ is_bad_length length operand }
-{
-    length == 0 || operand.width < length
-}
-
-fn has_bad_length(action: &Action<Operand>) -> bool
-    ensures { result ≡ has_bad_length action.now }
-{
-    match *action {
-        Action::OnSelected(
-            Conditional::Binary {
-                to,
-                left,
-                right,
-                length,
-                ..
-            },
-        ) => {
-            is_bad_length(length, to) || is_bad_length(length, left) || is_bad_length(length, right)
-        }
-        Action::OnSelected(Conditional::MoveConstant { to, length, .. }) => {
-            is_bad_length(length, to)
-        }
-    }
-}
-
-/// Whether a number needs more bits than a length.
-fn is_too_great(length: u64, number: u128) -> bool
-    ensures { result ≡ nat_le (2 ^ length) number }
-{
-    length < 128 && number >= 1u128 << length
-}
-
-fn has_bad_operand(action: &Action<Operand>) -> bool
-    ensures { result ≡ has_bad_operand action.now }
-{
-    match *action {
-        Action::OnSelected(Conditional::Binary { .. }) => false,
-        Action::OnSelected(Conditional::MoveConstant { value, length, .. }) => {
-            is_too_great(length, value)
-        }
-    }
-}
-
-/// The plan of an instruction on a board. It is refused by the first of these faults: `NoField` where a name is no field's,
-/// `WrongSet` where its fields are of two sets, `BadLength` where a length is 0 or above the width of an operand, `BadOperand`
-/// where a constant needs more bits than its length; or by `NoMemory` where none of them is due and memory is refused.
+/// The plan of an instruction on a board. It is refused by the first of these faults: `NoSet` where the name of a set is
+/// none's, `NoField` where another name is no field's, `WrongSet` where its fields are of two sets, `BadAxis` where the set
+/// has no axis of its number, `BadLength` where a length is 0 or above the width of an operand, `BadOperand` where a
+/// constant needs more bits than its length, an operand of one bit is wider, or a coordinate is outside its axis, `Overlap`
+/// where the notify field is the destination; or by `NoMemory` where none of them is due and memory is refused.
 pub fn resolve(alloc: Global, board: &Board, instr: Instr) -> Result<Plan, Fault>
     ensures ok { IfOk result (λ plan. resolution board.now instr ≡ Ok plan) }
     ensures err { IfErr result (λ fault. IsFaultOf (fault_in (resolution board.now instr)) fault) }
@@ -178,14 +107,20 @@ pub fn resolve(alloc: Global, board: &Board, instr: Instr) -> Result<Plan, Fault
     if !is_in_one_set(board, &action) {
         return Err(Fault::WrongSet);
     }
+    let set = set_of_action(board, &action);
+    let geometry = board.geometry(set);
+    if has_bad_axis(geometry, &action) {
+        return Err(Fault::BadAxis);
+    }
     if has_bad_length(&action) {
         return Err(Fault::BadLength);
     }
-    if has_bad_operand(&action) {
+    if has_bad_operand(geometry, &action) {
         return Err(Fault::BadOperand);
     }
-    let set = set_of_action(board, &action);
-    let geometry = board.geometry(set);
+    if has_overlap(&action) {
+        return Err(Fault::Overlap);
+    }
     let Ok(plan) = Plan::new(alloc, instr, set, geometry, action) else {
         return Err(Fault::NoMemory);
     };

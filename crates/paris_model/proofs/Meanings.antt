@@ -1,12 +1,11 @@
 -- A recipe says the numbers: two programs that one book of edits explains have the same numbers wherever their recipes are the same.
-use Rattle.std.proofs.Common.{◌≡◌, ℕ, List, [], ◌∷◌, ◌++◌, Bool, true, false, cond, refl, sym, ap, ◌∙◌, map, take, drop}
+use Rattle.std.proofs.Common.{◌≡◌, List, [], ◌∷◌, ◌++◌, Bool, true, false, cond, refl, sym, ap, ◌∙◌, map}
 use Rattle.paris_names.specs.declared.keys.Key.{Key}
 use Rattle.paris_names.specs.Keys.{has_key}
 use Rattle.paris_model.specs.Frame.{World}
 use Rattle.paris_model.specs.Instructions.{Plan, reads, writes, one, given}
 use Rattle.paris_model.specs.Run.{run}
 use Rattle.paris_model.specs.Recipe.{Recipe, chain, recipe, past}
-use Rattle.paris_model.specs.Recipe.Recipe.{Start, Made, End, And}
 use Rattle.paris_model.specs.Laws.{Row, Edits, recipe_values, Means, Explains, past_rows, plans_of}
 use Rattle.paris_model.proofs.Worlds.{one_is}
 

@@ -1,9 +1,9 @@
 -- A store keeps numbers below a power of two, and a list of n processors has n numbers.
-use Rattle.std.proofs.Common.{◌≡◌, ℕ, ◌+◌, ◌-◌, ◌*◌, ◌/◌, ◌%◌, ◌^◌, ◌<◌, ◌≤◌, Bool, true, false, cond, List, [], ◌∷◌, ◌++◌, length, slice_index, refl, sym, ap, ◌∙◌, subst, arith}
+use Rattle.std.proofs.Common.{◌≡◌, ℕ, ◌+◌, ◌-◌, ◌*◌, ◌/◌, ◌%◌, ◌^◌, ◌<◌, ◌≤◌, Bool, cond, List, [], ◌∷◌, ◌++◌, length, slice_index, sym, ap, ◌∙◌, arith}
 use Rattle.std.proofs.lemmas.List.FromFn.{length-map-range_with_len, map-range_with_len_more, get_or-map-range_with_len, fill_by_all}
 use Rattle.std.proofs.Math.Nat.{div-lt_iff_lt-mul, mul-le-mul_right}
 use lib.Pow.{pow-add, pow_pos}
-use Rattle.paris_model.specs.Store.{low, put, everywhere, stored}
+use Rattle.paris_model.specs.Store.{put, everywhere, stored}
 
 pub length-everywhere : (n : ℕ) (f : ℕ → ℕ) → length (everywhere n f) ≡ n
 length-everywhere n f = length-map-range_with_len f 0 n

@@ -1,16 +1,15 @@
 -- What a plan leaves at each key.
 use Rattle.std.proofs.Common.{◌≡◌, ℕ, List, [], ◌∷◌, ◌++◌, Bool, true, false, cond, Option, Some, None, Result, Ok, Err, refl, sym, ap, ◌∙◌, map}
 use Rattle.std.specs.Prelude.{◌||◌}
-use Rattle.std.specs.List.{list_any}
 use Rattle.paris_names.specs.declared.keys.Key.{Key}
 use Rattle.paris_names.specs.Keys.{key_eq, has_key}
-use Rattle.paris_names.proofs.KeyLists.{key_eq-true, key_eq-flip, has_key-in_order}
+use Rattle.paris_names.proofs.KeyLists.{key_eq-true, has_key-in_order}
 use Rattle.paris_model.specs.declared.actions.Refusal.{Refusal}
 use Rattle.paris_model.specs.declared.actions.Operand.{Operand}
 use Rattle.paris_model.specs.declared.actions.Action.{Action}
-use Rattle.paris_model.specs.declared.actions.Action.TheVariants.{OnSelected}
+use Rattle.paris_model.specs.declared.actions.Action.TheVariants.{OnSelected, OnAll, ByNews, AlongLine, ByMail}
 use Rattle.paris_model.specs.Frame.{World, Frame}
-use Rattle.paris_model.specs.Instructions.{Plan, reads, writes, source_keys, target_keys, read_keys, stores_all_bits, value_at, outcome, outcome_in, refusal, refusal_in, frame_of, after, with_outcome, one, held, given}
+use Rattle.paris_model.specs.Instructions.{Plan, reads, writes, source_keys, target_keys, read_keys, stores_all_bits, value_at, outcome, outcome_in, refusal, refusal_in, frame_of, with_outcome, one, held, given}
 
 pub or_false_first : (a b : Bool) → (a || b) ≡ false → a ≡ false
 or_false_first true b h = h
@@ -20,7 +19,7 @@ pub or_false_second : (a b : Bool) → (a || b) ≡ false → b ≡ false
 or_false_second true b h = absurd (let x : true ≡ false = h in cc)
 or_false_second false b h = h
 
-or_true_second : (a b : Bool) → b ≡ true → (a || b) ≡ true
+pub or_true_second : (a b : Bool) → b ≡ true → (a || b) ≡ true
 or_true_second true b h = refl
 or_true_second false b h = h
 
@@ -56,8 +55,12 @@ unfolding reads
 reads_keys p k = has_key-in_order (read_keys p.set_no p.action) k
 
 -- only an action that leaves bits of what it writes is refused
-refused_keeps : (m : Frame) (i : Action Operand) (cause : Refusal) → refusal_in m i ≡ Some cause → stores_all_bits i ≡ false
+refused_keeps : (m : Frame) (i : Action Operand ℕ) (cause : Refusal) → refusal_in m i ≡ Some cause → stores_all_bits i ≡ false
 refused_keeps m (OnSelected i) cause e = refl
+refused_keeps m (OnAll i) cause e = absurd (let none : None ≡ Some cause = e in cc)
+refused_keeps m (ByNews i) cause e = refl
+refused_keeps m (AlongLine i) cause e = refl
+refused_keeps m (ByMail i) cause e = refl
 
 -- a plan that is refused reads all that it writes
 pub refused_reads : (p : Plan) (inputs : List (List ℕ)) (cause : Refusal) (k : Key) → outcome p inputs ≡ Err cause → has_key (writes p) k ≡ true → has_key (reads p) k ≡ true

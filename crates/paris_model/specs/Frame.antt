@@ -21,10 +21,15 @@ pub record Frame : Type 0 where
 abbrev pub at : Frame → Key → ℕ → ℕ
 at m k v = slice_index (m.world k) v
 
+-- the number of a field in processor v
+abbrev pub field_at : Frame → Operand → ℕ → ℕ
+field_at m o v = at m (Field o.field) v
+
 -- the low L bits of a field in processor v
 abbrev pub low_at : Frame → Operand → ℕ → ℕ → ℕ
 low_at m o L v = low L (at m (Field o.field) v)
 
+-- the number of a flag of the set in processor v
 abbrev pub flag_at : Frame → FlagName → ℕ → ℕ
 flag_at m flag v = at m (Flag m.set_no flag) v
 

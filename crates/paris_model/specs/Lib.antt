@@ -1,8 +1,14 @@
+pub mod Combine
 pub mod Conditional
 pub mod Elementwise
+pub mod Fits
 pub mod Frame
 pub mod Instructions
 pub mod Laws
+pub mod Lines
+pub mod Mail
+pub mod News
 pub mod Recipe
 pub mod Run
 pub mod Store
+pub mod Unconditional

@@ -63,12 +63,12 @@ fn a_constant_reads_and_writes_its_keys(rt: HostRuntime) -> Result<(), Fail> {
 }
 
 /// Whether an action puts a constant into the low bits of a field.
-fn is_constant(action: Action<Operand>, field: FieldNo, number: u128, bits: u64) -> bool {
+fn is_constant(action: Action<Operand, SetNo>, field: FieldNo, number: u128, bits: u64) -> bool {
     match action {
         Action::OnSelected(Conditional::MoveConstant { to, value, length }) => {
             to.field == field && value == number && length == bits
         }
-        Action::OnSelected(Conditional::Binary { .. }) => false,
+        _ => false,
     }
 }
 

@@ -1,0 +1,166 @@
+-- Orders run one after another settle every row of a program of which no row is out.
+use Rattle.std.proofs.Common.{◌≡◌, ℕ, ◌+◌, ◌-◌, ◌≤◌, List, [], ◌∷◌, Bool, true, false, cond, Option, Some, None, refl, sym, ap, ◌∙◌, subst, arith, map, zero, suc, set, slice_get, add-zero}
+use Rattle.std.proofs.Math.Path.{ap₂}
+use Rattle.std.specs.List.{list_all}
+use Rattle.paris_board.specs.Board.{Board}
+use Rattle.paris_model.specs.Instructions.{reads}
+use Rattle.paris_book.specs.Machine.{Row, Inputs, State, is_settled, is_waiting, is_firm, is_ready, origin_at, next_ready, taken, after_take, recalled_status, recalled_row, after_release, unsettled_rows, settled_row, all_settled, after_run, ran_orders}
+use Rattle.paris_book.specs.Kept.{row_of}
+use Rattle.paris_book.specs.Whole.{IdsApart, ids_of, IsWhole}
+use Rattle.paris_book.specs.declared.rows.Entry.{Entry}
+use Rattle.paris_book.specs.declared.rows.Status.{Status}
+use Rattle.paris_book.specs.declared.rows.Status.TheVariants.{Waiting, Out, Settled}
+use Rattle.std.specs.List.{enumerate_from}
+use Rattle.paris_book.proofs.Finds.{find_at_place, found_passes}
+use Rattle.paris_book.proofs.Inserts.{state_of}
+use Rattle.paris_book.proofs.Settling.{and_first}
+use Rattle.paris_book.proofs.Takes.{waiting_unsettled}
+use Rattle.paris_book.proofs.Releases.{settled_same}
+use Rattle.paris_book.proofs.OrderRuns.{IsIdle, row_ids, first_settled, run_settles}
+
+-- settling the first unsettled row leaves the ids, and no row is out after it
+ids_first : (rs : List Row) → row_ids (first_settled rs) ≡ row_ids rs
+ids_first [] = refl
+ids_first (r ∷ rs) = by_status (is_settled r.status) (ids_first rs)
+  where
+    by_status : (b : Bool) → row_ids (first_settled rs) ≡ row_ids rs → row_ids (cond b (r ∷ first_settled rs) (settled_row r ∷ rs)) ≡ r.id.0 ∷ row_ids rs
+    by_status true rest = ap (λ is. r.id.0 ∷ is) rest
+    by_status false rest = refl
+
+idle_first : (rs : List Row) → IsIdle rs → IsIdle (first_settled rs)
+idle_first [] h = tt
+idle_first (r ∷ rs) h = by_status (is_settled r.status) (idle_first rs h.1)
+  where
+    by_status : (b : Bool) → IsIdle (first_settled rs) → IsIdle (cond b (r ∷ first_settled rs) (settled_row r ∷ rs))
+    by_status true rest = (h.0, rest)
+    by_status false rest = (λ t. absurd (let x : true ≡ false = t in cc), h.1)
+
+-- the rows with so many of the unsettled ones settled, from the first on
+abbrev pub settled_times : ℕ → List Row → List Row
+settled_times zero rs = rs
+settled_times (suc n) rs = first_settled (settled_times n rs)
+
+ids_times : (n : ℕ) (rs : List Row) → row_ids (settled_times n rs) ≡ row_ids rs
+ids_times zero rs = refl
+ids_times (suc n) rs = ids_first (settled_times n rs) ∙ ids_times n rs
+
+idle_times : (n : ℕ) (rs : List Row) → IsIdle rs → IsIdle (settled_times n rs)
+idle_times zero rs h = h
+idle_times (suc n) rs h = idle_first (settled_times n rs) (idle_times n rs h)
+
+pub ran_is : (n : ℕ) (s : State) → IsIdle s.rows → IdsApart (row_ids s.rows) → ran_orders n s ≡ record s { rows = settled_times n s.rows }
+ran_is zero s idle apart = refl
+ran_is (suc n) s idle apart =
+    ap after_run (ran_is n s idle apart)
+    ∙ run_settles (record s { rows = settled_times n s.rows }) (idle_times n s.rows idle) (subst IdsApart (sym (ids_times n s.rows)) apart)
+
+-- one fewer is unsettled each time
+count_first : (rs : List Row) (m : ℕ) → unsettled_rows rs ≡ suc m → unsettled_rows (first_settled rs) ≡ m
+count_first [] m h = absurd (omega (arith, h))
+count_first (r ∷ rs) m h = by_status (is_settled r.status) refl (count_first rs m) h
+  where
+    by_status : (b : Bool) → is_settled r.status ≡ b → (unsettled_rows rs ≡ suc m → unsettled_rows (first_settled rs) ≡ m) → cond b 0 1 + unsettled_rows rs ≡ suc m → unsettled_rows (cond b (r ∷ first_settled rs) (settled_row r ∷ rs)) ≡ m
+    by_status true t rest e = let one : unsettled_rows (first_settled rs) ≡ m = rest (omega (arith, e)) in rw t (omega (arith, one))
+    by_status false t rest e = omega (arith, e)
+
+pub count_times : (n m : ℕ) (rs : List Row) → n + m ≡ unsettled_rows rs → unsettled_rows (settled_times n rs) ≡ m
+count_times zero m rs h = omega (arith, h)
+count_times (suc n) m rs h = count_first (settled_times n rs) m (count_times n (suc m) rs (omega (arith, h)))
+
+-- the rows of which none is unsettled are all settled
+settled_is : (s : Status) → is_settled s ≡ true → s ≡ Settled
+settled_is Waiting h = absurd (let x : false ≡ true = h in cc)
+settled_is Out h = absurd (let x : false ≡ true = h in cc)
+settled_is Settled h = refl
+
+none_left : (rs : List Row) → unsettled_rows rs ≡ 0 → rs ≡ map settled_row rs
+none_left [] h = refl
+none_left (r ∷ rs) h = by_status (is_settled r.status) refl (none_left rs) h
+  where
+    by_status : (b : Bool) → is_settled r.status ≡ b → (unsettled_rows rs ≡ 0 → rs ≡ map settled_row rs) → cond b 0 1 + unsettled_rows rs ≡ 0 → r ∷ rs ≡ settled_row r ∷ map settled_row rs
+    by_status true t rest e =
+        let row : r ≡ settled_row r = λ i. record r { status = settled_is r.status t i } in
+        ap₂ (λ x xs. x ∷ xs) row (rest (omega (arith, e)))
+    by_status false t rest e = absurd (omega (arith, e))
+
+settled_first : (rs : List Row) → map settled_row (first_settled rs) ≡ map settled_row rs
+settled_first [] = refl
+settled_first (r ∷ rs) = by_status (is_settled r.status) (settled_first rs)
+  where
+    by_status : (b : Bool) → map settled_row (first_settled rs) ≡ map settled_row rs → map settled_row (cond b (r ∷ first_settled rs) (settled_row r ∷ rs)) ≡ settled_row r ∷ map settled_row rs
+    by_status true rest = ap (λ xs. settled_row r ∷ xs) rest
+    by_status false rest = refl
+
+settled_all : (n : ℕ) (rs : List Row) → map settled_row (settled_times n rs) ≡ map settled_row rs
+settled_all zero rs = refl
+settled_all (suc n) rs = settled_first (settled_times n rs) ∙ settled_all n rs
+
+pub times_all : (rs : List Row) → settled_times (unsettled_rows rs) rs ≡ map settled_row rs
+times_all rs = none_left (settled_times (unsettled_rows rs) rs) (count_times (unsettled_rows rs) 0 rs (add-zero (unsettled_rows rs))) ∙ settled_all (unsettled_rows rs) rs
+
+-- after a release no row is out, and the same rows are unsettled
+idle_recalled : (rs : List Row) → IsIdle (map recalled_row rs)
+idle_recalled [] = tt
+idle_recalled (r ∷ rs) = (by_status r.status, idle_recalled rs)
+  where
+    by_status : (s : Status) → is_settled (recalled_status s) ≡ false → is_waiting (recalled_status s) ≡ true
+    by_status Waiting t = refl
+    by_status Out t = refl
+    by_status Settled t = absurd (let x : true ≡ false = t in cc)
+
+ids_recalled : (rs : List Row) → row_ids (map recalled_row rs) ≡ row_ids rs
+ids_recalled [] = refl
+ids_recalled (r ∷ rs) = ap (λ is. r.id.0 ∷ is) (ids_recalled rs)
+
+pub count_recalled : (rs : List Row) → unsettled_rows (map recalled_row rs) ≡ unsettled_rows rs
+count_recalled [] = refl
+count_recalled (r ∷ rs) = ap₂ (λ b n. cond b 0 1 + n) (settled_same r.status) (count_recalled rs)
+
+settled_recalled : (rs : List Row) → map settled_row (map recalled_row rs) ≡ map settled_row rs
+settled_recalled [] = refl
+settled_recalled (r ∷ rs) = ap (λ xs. settled_row r ∷ xs) (settled_recalled rs)
+
+-- so many orders run after a release
+pub ran_released : (n : ℕ) (s : State) → IdsApart (row_ids s.rows) → ran_orders n (after_release s) ≡ record s { rows = settled_times n (map recalled_row s.rows) }
+ran_released n s apart = ran_is n (after_release s) (idle_recalled s.rows) (subst IdsApart (sym (ids_recalled s.rows)) apart)
+
+-- as many orders as there are unsettled rows settle every row
+pub ran_all : (s : State) → IdsApart (row_ids s.rows) → ran_orders (unsettled_rows s.rows) (after_release s) ≡ all_settled s
+ran_all s apart =
+    let rows = map recalled_row s.rows in
+    ran_released (unsettled_rows s.rows) s apart
+    ∙ ap (λ (xs : List Row). record s { rows = xs }) (ap (λ n. settled_times n rows) (sym (count_recalled s.rows)) ∙ times_all rows ∙ settled_recalled s.rows)
+
+-- each order run leaves one unsettled row fewer
+pub ran_left : (n : ℕ) (s : State) → IdsApart (row_ids s.rows) → n ≤ unsettled_rows s.rows → unsettled_rows (ran_orders n (after_release s)).rows + n ≡ unsettled_rows s.rows
+ran_left n s apart few =
+    let rows : List Row = map recalled_row s.rows in
+    let m : ℕ = unsettled_rows s.rows - n in
+    let all : n + m ≡ unsettled_rows rows = let same = count_recalled s.rows in omega (arith, same, few) in
+    let here : unsettled_rows (ran_orders n (after_release s)).rows ≡ m = ap (λ (z : State). unsettled_rows z.rows) (ran_released n s apart) ∙ count_times n m rows all in
+    omega (arith, here, few)
+
+-- the ids of the rows of a book
+pub ids_seen : (es : List Entry) → row_ids (map row_of es) ≡ ids_of es
+ids_seen [] = refl
+ids_seen (e ∷ es) = ap (λ is. e.id.0 ∷ is) (ids_seen es)
+
+pub rows_apart : (b : Board) (n m : ℕ) (inputs : Inputs) (es : List Entry) (s : State) → state_of b n m inputs es ≡ s → IsWhole b n m inputs es → IdsApart (row_ids s.rows)
+rows_apart b n m inputs es s y w = subst (λ (z : State). IdsApart (row_ids z.rows)) y (subst IdsApart (sym (ids_seen es)) w.ids_apart)
+
+-- a take leaves as many rows unsettled
+count_out : (rs : List Row) (k : ℕ) (r : Row) → slice_get rs k ≡ Some r → is_settled r.status ≡ false → unsettled_rows (set rs k (record r { status = Out })) ≡ unsettled_rows rs
+count_out [] k r x u = refl
+count_out (y ∷ rs) zero r x u = let same : y ≡ r = cc in ap (λ b. cond b 0 1 + unsettled_rows rs) (sym (ap (λ (z : Row). is_settled z.status) same ∙ u))
+count_out (y ∷ rs) (suc k) r x u = ap (λ n. cond (is_settled y.status) 0 1 + n) (count_out rs k r x u)
+
+pub take_left : (s : State) → unsettled_rows (after_take s).rows ≡ unsettled_rows s.rows
+take_left s = by_next (next_ready s) refl
+  where
+    by_next : (o : Option (ℕ × Row)) → next_ready s ≡ o → unsettled_rows (taken s o).rows ≡ unsettled_rows s.rows
+    by_next None e = refl
+    by_next (Some (k, r)) e =
+        let at = find_at_place (λ (x : ℕ × Row). is_ready s x.0 x.1) s.rows 0 k r e in
+        let ready : is_ready s k r ≡ true = found_passes (λ (x : ℕ × Row). is_ready s x.0 x.1) (enumerate_from 0 s.rows) (k, r) e in
+        let place : at.0 ≡ k = omega (arith, at.1) in
+        count_out s.rows k r (subst (λ i. slice_get s.rows i ≡ Some r) place at.2) (waiting_unsettled r.status (and_first (is_waiting r.status) (list_all (λ j. is_firm (origin_at s k j)) (reads r.plan)) ready))

@@ -1,0 +1,69 @@
+-- A book of which no order is out any more is as whole as it was.
+use Rattle.std.proofs.Common.{◌≡◌, ℕ, List, [], ◌∷◌, Bool, true, cond, refl, sym, ap, ◌∙◌, map}
+use Rattle.paris_names.specs.declared.keys.Key.{Key}
+use Rattle.paris_names.specs.Keys.{has_key}
+use Rattle.paris_board.specs.Board.{Board}
+use Rattle.paris_model.specs.Frame.{World}
+use Rattle.paris_model.specs.Instructions.{writes, one}
+use Rattle.paris_book.specs.Machine.{Row, Inputs, State, start_world, is_settled, recalled_status, recalled_row, after_release}
+use Rattle.paris_book.specs.Kept.{row_of, ripen, Sound}
+use Rattle.paris_book.specs.Whole.{RowsBelow, ids_of, AllFitted, IsWhole}
+use Rattle.paris_book.specs.Among.{recalled_entry}
+use Rattle.paris_book.specs.declared.rows.Entry.{Entry}
+use Rattle.paris_book.specs.declared.rows.Status.{Status}
+use Rattle.paris_book.specs.declared.rows.Status.TheVariants.{Waiting, Out, Settled}
+use Rattle.paris_book.proofs.Inserts.{state_of}
+use Rattle.paris_book.proofs.Settling.{sound_more}
+
+-- what is settled stays so, and nothing else becomes so
+pub settled_same : (s : Status) → is_settled (recalled_status s) ≡ is_settled s
+settled_same Waiting = refl
+settled_same Out = refl
+settled_same Settled = refl
+
+ripen_same : (h : Key → Bool) (e : Entry) (f : Key) → ripen h (recalled_entry e) f ≡ ripen h e f
+unfolding ripen
+ripen_same h e f = ap (λ b. cond (has_key (writes e.plan) f) b (h f)) (settled_same e.status)
+
+sound_recalled : (w : World) (h : Key → Bool) (es : List Entry) → Sound w h es → Sound w h (map recalled_entry es)
+sound_recalled w h [] s = tt
+sound_recalled w h (e ∷ es) s =
+    let same = settled_same e.status in (
+      record { kept = λ t. s.0.kept (sym same ∙ t); origins = λ t. s.0.origins (sym same ∙ t) },
+      sound_more (one e.plan w) (ripen h e) (ripen h (recalled_entry e)) (λ f t. ripen_same h e f ∙ t) (map recalled_entry es) (sound_recalled (one e.plan w) (ripen h e) es s.1),
+    )
+
+rows_recalled : (n m : ℕ) (es : List Entry) → RowsBelow n m es → RowsBelow n m (map recalled_entry es)
+rows_recalled n m [] r = tt
+rows_recalled n m (e ∷ es) r = (r.0, r.1, rows_recalled n m es r.2)
+
+ids_recalled : (es : List Entry) → ids_of (map recalled_entry es) ≡ ids_of es
+ids_recalled [] = refl
+ids_recalled (e ∷ es) = ap (λ is. e.id.0 ∷ is) (ids_recalled es)
+
+fitted_recalled : (inputs : Inputs) (es : List Entry) → AllFitted inputs es → AllFitted inputs (map recalled_entry es)
+fitted_recalled inputs [] f = tt
+fitted_recalled inputs (e ∷ es) f = (f.0, fitted_recalled inputs es f.1)
+
+pub release_whole : (b : Board) (n m : ℕ) (inputs : Inputs) (es : List Entry) → IsWhole b n m inputs es → IsWhole b n m inputs (map recalled_entry es)
+release_whole b n m inputs es w = record {
+  next_few = w.next_few;
+  edits_few = w.edits_few;
+  as_many_fields = w.as_many_fields;
+  as_many_flags = w.as_many_flags;
+  shaped = w.shaped;
+  inputs_below = w.inputs_below;
+  rows_below = rows_recalled n m es w.rows_below;
+  ids_apart = rw (ids_recalled es) w.ids_apart;
+  fitted = fitted_recalled inputs es w.fitted;
+  sound = sound_recalled (start_world inputs) (λ _. true) es w.sound;
+}
+
+view_recalled : (es : List Entry) → map row_of (map recalled_entry es) ≡ map recalled_row (map row_of es)
+view_recalled [] = refl
+view_recalled (e ∷ es) = ap (λ rs. recalled_row (row_of e) ∷ rs) (view_recalled es)
+
+pub release_view : (b : Board) (n m : ℕ) (inputs : Inputs) (es zs : List Entry) (s : State) → zs ≡ map recalled_entry es → state_of b n m inputs es ≡ s → state_of b n m inputs zs ≡ after_release s
+release_view b n m inputs es zs s z y =
+    ap (λ (rs : List Row). record { board = b; edits = n; inputs = inputs; next = m; rows = rs }) (ap (map row_of) z ∙ view_recalled es)
+    ∙ ap after_release y

@@ -1,0 +1,53 @@
+//! The settled rows whose instructions are refused.
+
+ghost use Rattle.std.specs.Prelude.{◌≡◌, IfOk};
+ghost use Rattle.paris_book.specs.Machine.{faults_of};
+ghost use Rattle.paris_book.specs.Among.{cause_kept, faults_kept};
+
+use crate::book::Book;
+use crate::events::RowFault;
+use crate::rows::Entry;
+use paris_exec::Outcome;
+use paris_model::Refusal;
+use paris_names::Items;
+use std::alloc::{AllocError, Global};
+
+/// Why the result that a settled row keeps was refused, if it was.
+fn cause_of(row: &Entry) -> Option<Refusal>
+    ensures { result ≡ cause_kept row.now }
+{
+    if !row.status.is_settled() {
+        return None;
+    }
+    match &row.done {
+        Some(done) => match done.outcome() {
+            Outcome::Refused(cause) => Some(*cause),
+            Outcome::Values(_) => None,
+        },
+        None => None,
+    }
+}
+
+/// The settled rows whose results were refused, in order, with the cause.
+fn faults_among(alloc: Global, rows: &[Entry]) -> Result<Vec<RowFault>, AllocError>
+    ensures { IfOk result (λ faults. faults.items ≡ faults_kept rows.now) }
+{
+    let mut faults = Vec::new(alloc);
+    for row in rows {
+        if let Some(cause) = cause_of(row) {
+            faults.push(RowFault { id: row.id, cause })?;
+        }
+    }
+    Ok(faults)
+}
+
+impl Book {
+    /// The settled rows whose instructions are refused where the program is run once from the input data, in program order, with
+    /// the cause. The error says that memory for the list was refused.
+    pub fn faults(&self) -> Result<Items<RowFault>, AllocError>
+        ensures { IfOk result (λ faults. faults ≡ faults_of self.now) }
+    {
+        let faults = faults_among(self.alloc, self.rows.as_slice())?;
+        Ok(Items::new(faults))
+    }
+}

@@ -1,0 +1,7 @@
+pub mod Beside
+pub mod Flags
+pub mod Lengths
+pub mod Plans
+pub mod Post
+pub mod Segments
+pub mod Values
