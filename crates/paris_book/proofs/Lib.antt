@@ -15,7 +15,6 @@ pub mod Brings
 pub mod Calls
 pub mod Runs
 pub mod Releases
-pub mod ReflexivePlans
 pub mod OrderRuns
 pub mod Countdown
 pub mod RefusalHere

@@ -24,7 +24,7 @@ use Rattle.paris_book.specs.declared.events.Verdict.TheVariants.{Kept}
 use Rattle.paris_book.proofs.Finds.{find_here, eqb_apart}
 use Rattle.paris_book.proofs.Settling.{and_first, and_second}
 use Rattle.paris_book.proofs.Edits.{or_first, or_second}
-use Rattle.paris_book.proofs.ReflexivePlans.{plan_same}
+use Rattle.paris_instr.proofs.ReflexivePlans.{plan_same}
 
 abbrev pub are_settled : List Row → Bool
 are_settled rs = list_all (λ (r : Row). is_settled r.status) rs

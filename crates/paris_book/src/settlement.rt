@@ -8,9 +8,11 @@ use crate::book::{Book, count_unsettled};
 use crate::rows::{Entry, Status};
 use paris_exec::{Order, execute};
 use std::alloc::AllocError;
+use thiserror::Error;
 
 /// Memory was refused while a book was settled.
-#[derive(Clone, Copy, PartialEq, Eq, Debug)]
+#[derive(Clone, Copy, PartialEq, Eq, Debug, Error)]
+#[error("no memory after {ran} orders were run")]
 pub struct SettleFault {
     /// How many orders were run before that, each of which settled its row.
     pub ran: u64,

@@ -1,7 +1,1 @@
-pub mod Calls
-pub mod Grammar
-pub mod Progress
-pub mod Replies
-pub mod Run
-pub mod Transcript
-pub mod Words
+pub mod Program

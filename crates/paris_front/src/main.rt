@@ -1,13 +1,7 @@
 //! Reads a script from standard input, line by line, and writes the reply to each of its commands to standard output.
 #![tactic(auto)]
 
-mod answers;
-mod calls;
-mod commands;
-mod grammar;
-mod replies;
-mod run;
-mod words;
+mod program;
 
 use std::process::ExitCode;
 
@@ -16,7 +10,7 @@ fn main(rt: HostRuntime) -> ExitCode {
     let mut reader = rt.stdin();
     let mut writer = rt.stdout();
     let mut errors = rt.stderr();
-    let status = run::run_words(&rt, words.as_slice(), &mut reader, &mut writer, &mut errors);
+    let status = program::run_words(&rt, words.as_slice(), &mut reader, &mut writer, &mut errors);
     ExitCode::from(status)
 }
 

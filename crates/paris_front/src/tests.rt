@@ -2,8 +2,8 @@
 
 ghost use Rattle.std.specs.Prelude.{Some};
 
-use crate::calls::Tally;
-use crate::run::{RunFault, Summary, run_counted, run_words};
+use crate::program::run_words;
+use paris_session::{RunFault, Summary, Tally, run_counted};
 use std::io;
 use std::io::{ErrorKind, Read, Write};
 use std::process::Abort;

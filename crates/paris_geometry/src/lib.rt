@@ -7,6 +7,3 @@ pub mod shape;
 
 pub use direction::Direction;
 pub use shape::Geometry;
-
-#[cfg(test)]
-mod tests;

@@ -1,3 +1,4 @@
 pub mod Resolves
 pub mod SamePlans
 pub mod SameActions
+pub mod ReflexivePlans

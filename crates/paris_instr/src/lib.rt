@@ -8,8 +8,6 @@ mod operands;
 pub mod plans;
 pub mod resolving;
 
-pub use plans::{Instr, Plan};
+pub use paris_model::Instr;
+pub use plans::Plan;
 pub use resolving::resolve;
-
-#[cfg(test)]
-mod tests;

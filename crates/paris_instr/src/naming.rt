@@ -3,11 +3,10 @@
 ghost use Rattle.std.specs.Prelude.{◌≡◌, ◌<◌, length, IfOk, IfSome};
 ghost use Rattle.paris_instr.specs.Resolve.{operand_named, set_no_named, operand_if_named, conditional_named, unconditional_named, news_named, line_named, mail_named, action_named, IsOperandOf, IsFoundOn};
 
-use crate::plans::Instr;
 use paris_board::Board;
 use paris_geometry::Direction;
 use paris_model::{
-    Action, BinaryOperator, Combiner, Comparison, Conditional, Inclusion, Line, Mail, News,
+    Action, BinaryOperator, Combiner, Comparison, Conditional, Inclusion, Instr, Line, Mail, News,
     Operand, Sign, UnaryOperator, Unconditional,
 };
 use paris_names::{Fault, Key, KeyName, Name, SetNo};

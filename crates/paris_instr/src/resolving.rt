@@ -8,9 +8,9 @@ ghost use Rattle.paris_instr.specs.Resolve.{conditional_set, unconditional_set, 
 use crate::fits::{has_bad_axis, has_bad_length, has_bad_operand, has_overlap};
 use crate::naming::action_named;
 use crate::operands::all_operands;
-use crate::plans::{Instr, Plan};
+use crate::plans::Plan;
 use paris_board::Board;
-use paris_model::{Action, Conditional, Operand, Unconditional};
+use paris_model::{Action, Conditional, Instr, Operand, Unconditional};
 use paris_names::{Fault, Key, SetNo};
 use std::alloc::Global;
 

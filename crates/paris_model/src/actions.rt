@@ -3,7 +3,7 @@
 
 use crate::operators::{BinaryOperator, Combiner, Comparison, Inclusion, Sign, UnaryOperator};
 use paris_geometry::Direction;
-use paris_names::FieldNo;
+use paris_names::{FieldNo, Name};
 
 /// A field operand with its whole width in bits.
 #[derive(Clone, Copy, PartialEq, Eq, Debug)]
@@ -218,3 +218,6 @@ pub enum Refusal {
     /// This processor holds an address outside its set.
     BadAddress(u32),
 }
+
+/// An instruction as it is written, with names for its fields and sets.
+pub type Instr = Action<Name, Name>;

@@ -5,5 +5,5 @@ pub mod actions;
 pub mod laws;
 pub mod operators;
 
-pub use actions::{Action, Conditional, Line, Mail, News, Operand, Refusal, Unconditional};
+pub use actions::{Action, Conditional, Instr, Line, Mail, News, Operand, Refusal, Unconditional};
 pub use operators::{BinaryOperator, Combiner, Comparison, Inclusion, Sign, UnaryOperator};

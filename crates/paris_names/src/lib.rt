@@ -11,6 +11,3 @@ pub use faults::Fault;
 pub use items::Items;
 pub use keys::{Edition, FieldNo, FlagName, Key, RowId, SetNo, Spot};
 pub use names::{KeyName, Name};
-
-#[cfg(test)]
-mod tests;

@@ -1,7 +1,6 @@
 pub mod Beside
 pub mod Flags
 pub mod Lengths
-pub mod Plans
 pub mod Post
 pub mod Segments
 pub mod Values

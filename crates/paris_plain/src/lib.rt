@@ -21,6 +21,3 @@ pub use lines::line_after;
 pub use mail::{mail_after, mail_refusal};
 pub use news::news_after;
 pub use unconditional::unconditional_after;
-
-#[cfg(test)]
-mod tests;

@@ -1,4 +1,4 @@
-use crate::common::name;
+use crate::common::*;
 use paris_board::Board;
 use paris_geometry::Geometry;
 use paris_names::{Fault, FlagName, KeyName, Name};
@@ -20,12 +20,9 @@ fn key_name(rt: &impl Abort, text: &str, flag: Option<FlagName>) -> KeyName {
 
 /// A set `plane` of 4 by 2 and a set `line` of 8, with a field `x` of 8 bits in `line` and a field `y` of 64 in `plane`.
 fn small_board(rt: &impl Abort, alloc: Global) -> Result<Board, Fault> {
-    let mut board = Board::new(alloc);
-    board.add_set(named(rt, "plane"), Geometry::new(&[4, 2])?)?;
-    board.add_set(named(rt, "line"), Geometry::new(&[8])?)?;
-    board.add_field(named(rt, "x"), named(rt, "line"), 8)?;
-    board.add_field(named(rt, "y"), named(rt, "plane"), 64)?;
-    Ok(board)
+    let sets: [SetGiven<'_>; 2] = [(b"plane", &[4, 2]), (b"line", &[8])];
+    let fields: [FieldGiven<'_>; 2] = [(b"x", b"line", 8), (b"y", b"plane", 64)];
+    board_of(alloc, rt, &sets, &fields)
 }
 
 #[test]

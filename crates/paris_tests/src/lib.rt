@@ -1,13 +1,20 @@
-//! Tests of the public calls of the libraries. It has no code of its own, so that each library is proved without them.
+//! Tests of the public calls of the libraries below the book. Its own code is what tests share.
 #![tactic(auto)]
 
 #[cfg(test)]
 mod boards;
+pub mod common;
 #[cfg(test)]
-mod books;
+mod families;
 #[cfg(test)]
-mod common;
+mod geometries;
+#[cfg(test)]
+mod names;
 #[cfg(test)]
 mod orders;
 #[cfg(test)]
 mod plans;
+#[cfg(test)]
+mod programs;
+#[cfg(test)]
+mod resolving;

@@ -1,10 +1,8 @@
 use crate::common::*;
-use paris_board::Board;
 use paris_exec::{Done, FieldValue, Order, Outcome, execute};
-use paris_geometry::Geometry;
 use paris_instr::{Instr, Plan, resolve};
 use paris_names::keys::has_key;
-use paris_names::{Edition, Fault, FieldNo, FlagName, Key, Name, RowId, SetNo};
+use paris_names::{Edition, Fault, FieldNo, FlagName, Key, RowId, SetNo};
 use std::alloc::{AllocError, Global};
 use std::process::Abort;
 use std::test::*;
@@ -17,11 +15,14 @@ fn plan_of(
     width: u64,
     count: u64,
 ) -> Result<Plan, Fault> {
-    let mut board = Board::new(alloc);
-    board.add_set(name(rt, b"s"), Geometry::new(&[count])?)?;
-    for letter in b"abc" {
-        board.add_field(name(rt, &[*letter]), name(rt, b"s"), width)?;
-    }
+    let axes = [count];
+    let sets: [SetGiven<'_>; 1] = [(b"s", &axes)];
+    let fields: [FieldGiven<'_>; 3] = [
+        (b"a", b"s", width),
+        (b"b", b"s", width),
+        (b"c", b"s", width),
+    ];
+    let board = board_of(alloc, rt, &sets, &fields)?;
     resolve(alloc, &board, instr)
 }
 

@@ -1,23 +1,22 @@
 use crate::common::*;
 use paris_board::Board;
-use paris_geometry::Geometry;
 use paris_instr::{Instr, resolve};
 use paris_model::{Action, Conditional, Operand};
-use paris_names::{Fault, FieldNo, FlagName, Key, Name, SetNo};
+use paris_names::{Fault, FieldNo, FlagName, Key, SetNo};
 use std::alloc::Global;
 use std::process::Abort;
 use std::test::*;
 
 /// The sets `t` of 2 processors with the field `d`, and `s` of 4 with the fields `a`, `b` and `c`. The fields have this width.
 fn board(alloc: Global, rt: &impl Abort, width: u64) -> Result<Board, Fault> {
-    let mut board = Board::new(alloc);
-    board.add_set(name(rt, b"t"), Geometry::new(&[2])?)?;
-    board.add_set(name(rt, b"s"), Geometry::new(&[4])?)?;
-    for letter in b"abc" {
-        board.add_field(name(rt, &[*letter]), name(rt, b"s"), width)?;
-    }
-    board.add_field(name(rt, b"d"), name(rt, b"t"), width)?;
-    Ok(board)
+    let sets: [SetGiven<'_>; 2] = [(b"t", &[2]), (b"s", &[4])];
+    let fields: [FieldGiven<'_>; 4] = [
+        (b"a", b"s", width),
+        (b"b", b"s", width),
+        (b"c", b"s", width),
+        (b"d", b"t", width),
+    ];
+    board_of(alloc, rt, &sets, &fields)
 }
 
 #[test]

@@ -1,0 +1,13 @@
+//! Tests of the book, and of every instruction through it. It has no code of its own.
+#![tactic(auto)]
+
+#[cfg(test)]
+mod books;
+#[cfg(test)]
+mod instructions;
+#[cfg(test)]
+mod programs;
+#[cfg(test)]
+mod sizes;
+#[cfg(test)]
+mod spellings;

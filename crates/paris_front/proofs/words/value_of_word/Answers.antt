@@ -1,9 +1,0 @@
-use Rattle.std.proofs.Common.{◌≡◌, rules}
-use Rattle.paris_front.specs.Words.{value_word}
-use Rattle.paris_front.proofs.NumberLemmas.{value_spelled}
-use Rattle.paris_front.proofs.words.value_of_word.Goals as goal
-
-pub returns-clause-spelled : goal.returns-clause-spelled
-returns-clause-spelled c =
-    let same : c.value_of_digits.result ≡ value_word c.args.word.now = search rules in
-    rw same (value_spelled c.args.word.now)

@@ -1,0 +1,125 @@
+-- What a session answers, by what its book said.
+use Rattle.std.proofs.Common.{◌≡◌, ℕ, ◌+◌, List, [], ◌∷◌, ◌++◌, length, Option, None, Some, Result, Ok, Err, sym, ap, ◌∙◌, ◌≤◌, arith, nat_eq, nat_lt, true, false, if◌then◌else◌}
+use Rattle.std.specs.Prelude.{slice_index}
+use Rattle.paris_text.specs.Grammar.{command_of}
+use Rattle.paris_text.specs.declared.commands.Command.{Command}
+use Rattle.paris_text.specs.declared.commands.Command.TheVariants.{Set, Field, Input, InsertEnd, Take, Bring, Show}
+use Rattle.paris_names.specs.declared.faults.Fault.{Fault}
+use Rattle.paris_names.specs.declared.faults.Fault.TheVariants.{NoMemory, NoOrder, Syntax}
+use Rattle.paris_names.specs.declared.keys.Spot.{Spot}
+use Rattle.paris_names.specs.declared.names.KeyName.{KeyName}
+use Rattle.paris_names.specs.Faults.{IsFaultOf}
+use Rattle.paris_exec.specs.Tasks.{Task}
+use Rattle.paris_book.specs.Machine.{State, edit_fault, edit_answer, accepted, take_reply, after_take, verdict_of, after_bring, show_reply}
+use Rattle.paris_book.specs.declared.events.Edit.{Edit}
+use Rattle.paris_book.specs.declared.events.EditReply.{EditReply}
+use Rattle.paris_book.specs.declared.events.Verdict.{Verdict}
+use Rattle.paris_book.specs.declared.events.Shown.{Shown}
+use Rattle.paris_session.specs.Replies.{edit_text, order_text, nothing_text, verdict_text, shown_text}
+use Rattle.paris_session.specs.Transcript.{Sitting, moved, refused, edited, edited_by, taken, taken_by, brought, brought_by, shown, shown_by, order_at, commanded_by, longest_line, answer}
+
+pub edit_accepted : (s : Sitting) (e : Edit) (new : State) (reply : EditReply) (text : List ℕ) → edit_fault s.state e ≡ None
+    → reply ≡ edit_answer s.state e → new ≡ accepted s.state e → text ≡ edit_text reply → (moved s new s.tray, text) ≡ edited s e
+unfolding edited
+edit_accepted s e new reply text none answer after said =
+    ap (λ (x : State). (moved s x s.tray, text)) after ∙ ap (λ (t : List ℕ). (moved s (accepted s.state e) s.tray, t)) (said ∙ ap edit_text answer)
+    ∙ ap (edited_by s e) (sym none)
+
+pub edit_refused : (s : Sitting) (e : Edit) (fault : Fault) (out : Sitting × List ℕ) → IsFaultOf (edit_fault s.state e) fault
+    → (fault ≡ NoMemory → ⊥) → out ≡ refused s fault → out ≡ edited s e
+unfolding edited
+edit_refused s e fault out due other said = go (edit_fault s.state e) due
+  where
+    go : (o : Option Fault) → IsFaultOf o fault → out ≡ edited_by s e o
+    go None h = absurd (other h)
+    go (Some f) h = said ∙ ap (refused s) h
+
+pub take_none : (s : Sitting) (new : State) (text : List ℕ) → None ≡ take_reply s.state → new ≡ after_take s.state → text ≡ nothing_text
+    → (moved s new s.tray, text) ≡ taken s
+unfolding taken
+take_none s new text none after said =
+    ap (λ (x : State). (moved s x s.tray, text)) after ∙ ap (λ (t : List ℕ). (moved s (after_take s.state) s.tray, t)) said ∙ ap (taken_by s) none
+
+pub take_some : (s : Sitting) (new : State) (tray : List Task) (t : Task) (number : ℕ) (text : List ℕ) → Some t ≡ take_reply s.state
+    → new ≡ after_take s.state → tray ≡ s.tray ++ t ∷ [] → number ≡ length s.tray + 1 → text ≡ order_text number t → (moved s new tray, text) ≡ taken s
+unfolding taken
+take_some s new tray t number text some after more count said =
+    ap (λ (x : State). (moved s x tray, text)) after ∙ ap (λ (x : List Task). (moved s (after_take s.state) x, text)) more
+    ∙ ap (λ (x : List ℕ). (moved s (after_take s.state) (s.tray ++ t ∷ []), x)) (said ∙ ap (λ (n : ℕ). order_text n t) count) ∙ ap (taken_by s) some
+
+pub bring_none : (s : Sitting) (number : ℕ) (out : Sitting × List ℕ) → None ≡ order_at s.tray number → out ≡ refused s NoOrder → out ≡ brought s number
+unfolding brought
+bring_none s number out none said = said ∙ ap (brought_by s) none
+
+pub bring_some : (s : Sitting) (number : ℕ) (t u : Task) (new : State) (verdict : Verdict) (text : List ℕ) → Some t ≡ order_at s.tray number → u ≡ t
+    → new ≡ after_bring s.state u → verdict ≡ verdict_of s.state u → text ≡ verdict_text verdict → (moved s new s.tray, text) ≡ brought s number
+unfolding brought
+bring_some s number t u new verdict text some same after answer said =
+    ap (λ (x : State). (moved s x s.tray, text)) (after ∙ ap (after_bring s.state) same)
+    ∙ ap (λ (x : List ℕ). (moved s (after_bring s.state t) s.tray, x)) (said ∙ ap verdict_text (answer ∙ ap (verdict_of s.state) same))
+    ∙ ap (brought_by s) some
+
+pub show_accepted : (s : Sitting) (name : KeyName) (spot : Spot) (x : Shown) (text : List ℕ) → Ok x ≡ show_reply s.state name spot → text ≡ shown_text x
+    → (moved s s.state s.tray, text) ≡ shown s name spot
+unfolding shown
+show_accepted s name spot x text ok said = ap (λ (t : List ℕ). (moved s s.state s.tray, t)) said ∙ ap (shown_by s) ok
+
+pub show_refused : (s : Sitting) (name : KeyName) (spot : Spot) (fault : Fault) (out : Sitting × List ℕ) → Err fault ≡ show_reply s.state name spot
+    → out ≡ refused s fault → out ≡ shown s name spot
+unfolding shown
+show_refused s name spot fault out err said = said ∙ ap (shown_by s) err
+
+edited_count : (s : Sitting) (e : Edit) → (edited s e).0.commands ≤ s.commands + 1
+unfolding edited
+edited_count s e = go (edit_fault s.state e)
+  where
+    go : (o : Option Fault) → (edited_by s e o).0.commands ≤ s.commands + 1
+    go None = omega arith
+    go (Some fault) = omega arith
+
+taken_count : (s : Sitting) → (taken s).0.commands ≤ s.commands + 1
+unfolding taken
+taken_count s = go (take_reply s.state)
+  where
+    go : (o : Option Task) → (taken_by s o).0.commands ≤ s.commands + 1
+    go None = omega arith
+    go (Some t) = omega arith
+
+brought_count : (s : Sitting) (number : ℕ) → (brought s number).0.commands ≤ s.commands + 1
+unfolding brought
+brought_count s number = go (order_at s.tray number)
+  where
+    go : (o : Option Task) → (brought_by s o).0.commands ≤ s.commands + 1
+    go None = omega arith
+    go (Some t) = omega arith
+
+shown_count : (s : Sitting) (name : KeyName) (spot : Spot) → (shown s name spot).0.commands ≤ s.commands + 1
+unfolding shown
+shown_count s name spot = go (show_reply s.state name spot)
+  where
+    go : (r : Result Shown Fault) → (shown_by s r).0.commands ≤ s.commands + 1
+    go (Ok x) = omega arith
+    go (Err fault) = omega arith
+
+commanded_count : (s : Sitting) (c : Option Command) → (commanded_by s c).0.commands ≤ s.commands + 1
+commanded_count s None = omega arith
+commanded_count s (Some (Set name len)) = edited_count s _
+commanded_count s (Some (Field name set width)) = edited_count s _
+commanded_count s (Some (Input key from values)) = edited_count s _
+commanded_count s (Some (InsertEnd instr)) = edited_count s _
+commanded_count s (Some Take) = taken_count s
+commanded_count s (Some (Bring number)) = brought_count s number
+commanded_count s (Some (Show key spot)) = shown_count s key spot
+
+-- a line is one command at most
+pub answer_count : (s : Sitting) (line : List ℕ) → (answer s line).0.commands ≤ s.commands + 1
+unfolding answer
+answer_count s line =
+    elim (nat_eq (length line) 0) as (λ t. (if t then (s, []) else if nat_eq (slice_index line 0) 35 then (s, []) else if nat_lt longest_line (length line) then refused s (Syntax 1) else commanded_by s (command_of line)).0.commands ≤ s.commands + 1) [
+      | true ↦ omega arith
+      | false ↦ elim (nat_eq (slice_index line 0) 35) as (λ t. (if t then (s, []) else if nat_lt longest_line (length line) then refused s (Syntax 1) else commanded_by s (command_of line)).0.commands ≤ s.commands + 1) [
+        | true ↦ omega arith
+        | false ↦ elim (nat_lt longest_line (length line)) as (λ t. (if t then refused s (Syntax 1) else commanded_by s (command_of line)).0.commands ≤ s.commands + 1)
+            [ true ↦ omega arith | false ↦ commanded_count s (command_of line) ]
+      ]
+    ]

@@ -1,0 +1,10 @@
+use Rattle.std.proofs.Common.{◌≡◌, ℕ, List, ap}
+use Rattle.paris_session.specs.Transcript.{Sitting, answer}
+use Rattle.paris_session.proofs.AnswerLemmas.{answer_count}
+use Rattle.paris_session.proofs.run.Script.end_line.Goals as goal
+
+pub returns-in-Ok-clause-count : goal.returns-in-Ok-clause-count
+returns-in-Ok-clause-count c =
+    let s = c.args.self.now.session in
+    let same : c.answer.new.self.commands ≡ (answer s c.as_slice.result.now).0.commands = ap (λ (p : Sitting × List ℕ). p.0.commands) c.in-Ok.ensures in
+    rw same (answer_count s c.as_slice.result.now)

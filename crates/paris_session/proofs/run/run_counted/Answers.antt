@@ -1,0 +1,65 @@
+use Rattle.std.proofs.Common.{◌≡◌, ◌+◌, rules, arith, ap, ◌∙◌, length, take, ◌≤◌}
+use Rattle.std.proofs.lemmas.Grind.{common_steps}
+use Rattle.std.proofs.lemmas.Result.{err_from_is_err_and, IfOk-weaker, IfErr-weaker}
+use Rattle.paris_session.specs.Calls.{Marks}
+use Rattle.paris_session.proofs.LineLemmas.{ended_said}
+use Rattle.paris_session.proofs.Reading.{reading_kept, reading_more, stops_reading, stops_answering, stops_at_last, ends_well, answers_nothing}
+use Rattle.paris_session.proofs.run.run_counted.Goals as goal
+use Rattle.paris_session.proofs.run.run_counted.Goals.{in-Bytes+in_ok-take_bytes-in-Bytes, in-Interrupted}
+
+pub returns-in_err-take_bytes-in-Bytes-clause-short : goal.returns-in_err-take_bytes-in-Bytes-clause-short
+returns-in_err-take_bytes-in-Bytes-clause-short g c =
+    let p = err_from_is_err_and c.from_residual.result c.from_residual.ensures.1 in
+    let e = c.in_err-take_bytes-in-Bytes.ensures.err in
+    let f = c.in_err-take_bytes-in-Bytes.ensures.fault in
+    let b = c.in-Bytes.ensures.bytes in
+    rw (p.1, p.2) (stops_answering _ _ _ _ _ _ c.loop.script.session c.loop.script.line.items _ _ (answers_nothing _ _ f) c.loop.invariant.reading b.2 e)
+
+pub returns-in-End-clause-ok : goal.returns-in-End-clause-ok
+returns-in-End-clause-ok g c =
+    IfOk-weaker c.finish.result _ _
+    (λ summary done. ends_well _ _ _ _ _ _ _ _ summary c.loop.invariant.reading c.in-End.ensures.bytes.0 c.in-End.ensures.bytes.1 done.0 done.1)
+    c.finish.ensures.ok
+
+pub returns-in-End-clause-short : goal.returns-in-End-clause-short
+returns-in-End-clause-short g c =
+    IfErr-weaker c.finish.result _ _
+    (λ fault short. stops_at_last _ _ _ _ _ _ _ _ fault (answers_nothing fault _ short.0) c.loop.invariant.reading c.in-End.ensures.bytes.0 short.1)
+    c.finish.ensures.err
+
+pub returns-in-Failed-clause-short : goal.returns-in-Failed-clause-short
+returns-in-Failed-clause-short g c =
+    let old = reading_kept _ _ _ _ _ _ _ c.in-Failed.ensures.bytes c.loop.invariant.reading in
+    stops_reading _ _ _ _ _ _ _ ended_said old
+
+pub returns-clause-short : goal.returns-clause-short
+returns-clause-short g c = stops_reading _ _ _ _ _ _ _ ended_said c.loop.invariant.reading
+
+pub loop-preserved : goal.loop-preserved
+loop-preserved g c =
+    let kept = c.loop.invariant in
+    let same : length c.read_once.new.room ≡ length c.loop.room = search rules in
+    elim c.match-read_once.branch [
+      | in-Bytes+in_ok-take_bytes-in-Bytes w ↦
+          let given = w.in-Bytes.ensures in
+          let taken = w.in_ok-take_bytes-in-Bytes.ensures in
+          let asked : c.read_once.new.tally.reads ≡ c.loop.tally.reads + 1 = ap (λ (m : Marks). m.reads) given.marks in
+          let bytes = take w.in-Bytes.n c.read_once.new.room in
+          let few : length bytes ≤ 4096 = grind (arith, common_steps) in
+          record {
+            reading = rw (w.script-is, w.writer-is) (reading_more _ _ _ _ _ _ c.loop.script.session _ c.loop.script.line.items _ bytes
+                kept.reading given.bytes.2 taken.written taken.session taken.line);
+            reads = cc (w.tally-is, taken.reads.0, asked, kept.reads);
+            count = rw w.script-is (omega (arith, taken.count, kept.count, few));
+            room = same ∙ kept.room;
+          }
+      | in-Interrupted w ↦
+          let given = w.in-Interrupted.ensures in
+          let asked : c.read_once.new.tally.reads ≡ c.loop.tally.reads + 1 = ap (λ (m : Marks). m.reads) given.marks in
+          record {
+            reading = rw (w.script-is, w.writer-is) (reading_kept _ _ _ _ _ _ _ given.bytes kept.reading);
+            reads = cc (w.tally-is, asked, kept.reads);
+            count = rw w.script-is (omega (arith, kept.count));
+            room = same ∙ kept.room;
+          }
+    ]

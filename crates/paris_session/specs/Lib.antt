@@ -1,0 +1,5 @@
+pub mod Calls
+pub mod Replies
+pub mod Transcript
+pub mod Progress
+pub mod Run

@@ -1,0 +1,11 @@
+//! A session: reads a script line by line from any reader, and writes the reply to each of its commands to any writer.
+#![tactic(auto)]
+
+pub mod answers;
+pub mod calls;
+pub mod replies;
+pub mod run;
+
+pub use answers::{Session, Summary};
+pub use calls::Tally;
+pub use run::{RunFault, run_counted, run_script, write_out};

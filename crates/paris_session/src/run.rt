@@ -1,0 +1,215 @@
+//! Runs a script: reads it from any reader, and writes the reply to each of its commands to any writer.
+
+ghost use Rattle.std.specs.Prelude.{◌≡◌, ℕ, ◌+◌, ◌^◌, ◌<◌, ◌≤◌, List, [], ◌∷◌, length, true, false, IfOk, IfErr, OnOk, OnErr};
+ghost use Rattle.std.specs.String.{string_bytes};
+ghost use Rattle.std.specs.Io.KnownBytes.{Appends, Keeps};
+ghost use Rattle.paris_session.specs.Calls.{no_marks, SameReads};
+ghost use Rattle.paris_session.specs.Transcript.{answer, start};
+ghost use Rattle.paris_session.specs.Progress.{open_line, said, sitting_at};
+ghost use Rattle.paris_session.specs.Run.{WritesFront, IsWriteFault, IsFaultOf, EndsWell, StopsShort};
+
+use crate::answers::{Session, Summary};
+use crate::calls::{self, Given, Sent, Tally};
+use paris_names::limits::{MAX_LINE, MAX_READS};
+use std::alloc::Global;
+use std::io::{Read, Write};
+use std::sync::Wait;
+
+/// Why a run stops before its script ends.
+#[derive(Clone, Copy, Debug, PartialEq, Eq)]
+pub enum RunFault {
+    /// The reader failed.
+    Read,
+    /// The writer failed.
+    Write,
+    /// The reader was asked as often as a run may ask it, and has not ended.
+    TooLong,
+    /// There is no memory left.
+    NoMemory,
+}
+
+/// Writes the whole text, by as many writes as the writer takes.
+pub fn write_out<W: Write>(
+    rt: &impl Wait,
+    writer: &mut W,
+    tally: &mut Tally,
+    text: &[u8],
+) -> Result<(), RunFault>
+    ensures ok { OnOk result (Appends (W.contents writer.old) (W.contents writer.new) text.now) }
+    ensures err { OnErr result (WritesFront (W.contents writer.old) (W.contents writer.new) text.now) }
+    ensures fault { IfErr result (λ e. (e ≡ RunFault.Write) × (tally.new.write_failed ≡ true)) }
+    ensures reads { SameReads tally.old tally.new }
+{
+    let mut rest = text;
+    for _ in rt.forever() {
+        if rest.is_empty() {
+            return Ok(());
+        }
+        match calls::write_once(writer, tally, rest) {
+            Sent::Bytes(n) => rest = &rest[n..],
+            Sent::Interrupted => {}
+            Sent::Failed => return Err(RunFault::Write),
+        }
+    }
+    unreachable!()
+}
+
+/// A session, and the line that has begun.
+#[derive(Drop)]
+struct Script {
+    session: Session,
+    line: Vec<u8>,
+}
+
+impl Script {
+    fn new(alloc: Global) -> Script
+        ensures session { result.session ≡ start }
+        ensures line { result.line.items ≡ [] }
+    {
+        Script {
+            session: Session::new(alloc),
+            line: Vec::new(alloc),
+        }
+    }
+
+    /// Answers the line that has begun, and begins a new one.
+    fn end_line(&mut self) -> Result<String, RunFault>
+        requires room { self.old.session.commands < 2 ^ 62 }
+        ensures answer { IfOk result (λ text. (self.new.session, string_bytes text) ≡ answer self.old.session self.old.line.items) }
+        ensures line { OnOk result (self.new.line.items ≡ []) }
+        ensures count { OnOk result (self.new.session.commands ≤ self.old.session.commands + 1) }
+        ensures err { IfErr result (λ e. e ≡ RunFault.NoMemory) }
+    {
+        match self.session.answer(self.line.as_slice()) {
+            Ok(text) => {
+                self.line.clear();
+                Ok(text)
+            }
+            Err(_) => Err(RunFault::NoMemory),
+        }
+    }
+
+    /// Takes one byte, and answers the line that it ends.
+    fn take_byte<W: Write>(
+        &mut self,
+        rt: &impl Wait,
+        writer: &mut W,
+        tally: &mut Tally,
+        byte: u8,
+    ) -> Result<(), RunFault>
+        requires room { self.old.session.commands < 2 ^ 62 }
+        ensures session { OnOk result (self.new.session ≡ sitting_at self.old.session self.old.line.items (byte ∷ [])) }
+        ensures line { OnOk result (self.new.line.items ≡ open_line self.old.line.items (byte ∷ [])) }
+        ensures written { OnOk result (Appends (W.contents writer.old) (W.contents writer.new)
+            (said self.old.session self.old.line.items (byte ∷ []))) }
+        ensures err { OnErr result (WritesFront (W.contents writer.old) (W.contents writer.new)
+            (said self.old.session self.old.line.items (byte ∷ []))) }
+        ensures fault { IfErr result (λ e. IsWriteFault e tally.new) }
+        ensures reads { SameReads tally.old tally.new }
+        ensures count { OnOk result (self.new.session.commands ≤ self.old.session.commands + 1) }
+    {
+        if byte == b'\n' {
+            let reply = self.end_line()?;
+            return write_out(rt, writer, tally, reply.as_bytes());
+        }
+        if self.line.len() <= MAX_LINE && self.line.push(byte).is_err() {
+            return Err(RunFault::NoMemory);
+        }
+        Ok(())
+    }
+
+    /// Takes some bytes, and answers each line that they end.
+    fn take_bytes<W: Write>(
+        &mut self,
+        rt: &impl Wait,
+        writer: &mut W,
+        tally: &mut Tally,
+        bytes: &[u8],
+    ) -> Result<(), RunFault>
+        requires room { self.old.session.commands + length bytes.now < 2 ^ 62 }
+        ensures session { OnOk result (self.new.session ≡ sitting_at self.old.session self.old.line.items bytes.now) }
+        ensures line { OnOk result (self.new.line.items ≡ open_line self.old.line.items bytes.now) }
+        ensures written { OnOk result (Appends (W.contents writer.old) (W.contents writer.new)
+            (said self.old.session self.old.line.items bytes.now)) }
+        ensures err { OnErr result (WritesFront (W.contents writer.old) (W.contents writer.new)
+            (said self.old.session self.old.line.items bytes.now)) }
+        ensures fault { IfErr result (λ e. IsWriteFault e tally.new) }
+        ensures reads { SameReads tally.old tally.new }
+        ensures count { OnOk result (self.new.session.commands ≤ self.old.session.commands + length bytes.now) }
+    {
+        for byte in bytes {
+            self.take_byte(rt, writer, tally, *byte)?;
+        }
+        Ok(())
+    }
+
+    /// Answers the line that has begun, as the last one.
+    fn finish<W: Write>(
+        &mut self,
+        rt: &impl Wait,
+        writer: &mut W,
+        tally: &mut Tally,
+    ) -> Result<Summary, RunFault>
+        requires room { self.old.session.commands < 2 ^ 62 }
+        ensures ok { IfOk result (λ summary. let last = answer self.old.session self.old.line.items in
+            Appends (W.contents writer.old) (W.contents writer.new) last.1
+            × (summary ≡ record { commands = last.0.commands; refused = last.0.refusals })) }
+        ensures err { IfErr result (λ e. IsWriteFault e tally.new
+            × WritesFront (W.contents writer.old) (W.contents writer.new) (answer self.old.session self.old.line.items).1) }
+        ensures reads { SameReads tally.old tally.new }
+    {
+        let reply = self.end_line()?;
+        write_out(rt, writer, tally, reply.as_bytes())?;
+        Ok(self.session.summary())
+    }
+}
+
+/// Room for the bytes of one read.
+const ROOM: usize = 4096;
+
+/// Reads a script to its end, by at most `bound` reads, and writes its transcript. The tally says what came of it.
+pub fn run_counted<R: Read, W: Write>(
+    rt: &impl Wait,
+    alloc: Global,
+    reader: &mut R,
+    writer: &mut W,
+    bound: u64,
+    tally: &mut Tally,
+) -> Result<Summary, RunFault>
+    requires bound { bound ≤ 2 ^ 30 }
+    requires fresh { tally.old ≡ no_marks }
+    ensures ended { OnOk result (tally.new.ended ≡ true) }
+    ensures ok { IfOk result (λ summary. EndsWell (R.remaining reader.old) (R.remaining reader.new)
+        (W.contents writer.old) (W.contents writer.new) summary) }
+    ensures short { IfErr result (λ fault. StopsShort (R.remaining reader.old) (R.remaining reader.new)
+        (W.contents writer.old) (W.contents writer.new) fault) }
+    ensures fault { IfErr result (λ fault. IsFaultOf fault tally.new bound) }
+{
+    let mut script = Script::new(alloc);
+    let mut room = [0u8; ROOM];
+    for _ in 0..bound {
+        match calls::read_once(reader, tally, &mut room) {
+            Given::Bytes(n) => script.take_bytes(rt, writer, tally, &room[..n])?,
+            Given::End => return script.finish(rt, writer, tally),
+            Given::Interrupted => {}
+            Given::Failed => return Err(RunFault::Read),
+        }
+    }
+    Err(RunFault::TooLong)
+}
+
+/// Reads a script to its end, and writes its transcript.
+pub fn run_script<R: Read, W: Write>(
+    rt: &impl Wait,
+    alloc: Global,
+    reader: &mut R,
+    writer: &mut W,
+) -> Result<Summary, RunFault>
+    ensures ok { IfOk result (λ summary. EndsWell (R.remaining reader.old) (R.remaining reader.new)
+        (W.contents writer.old) (W.contents writer.new) summary) }
+    ensures short { IfErr result (λ fault. StopsShort (R.remaining reader.old) (R.remaining reader.new)
+        (W.contents writer.old) (W.contents writer.new) fault) }
+{
+    let mut tally = Tally::new();
+    run_counted(rt, alloc, reader, writer, MAX_READS, &mut tally)
+}

@@ -1,0 +1,144 @@
+-- Words, digits, and what is left of a line.
+use Rattle.std.proofs.Common.{◌≡◌, ℕ, ◌+◌, ◌-◌, ◌*◌, ◌<◌, ◌≤◌, List, [], ◌∷◌, length, take, drop, true, false, not, cond, nat_eq, refl, ap, get_or, add-one, drop-cons, ◌∙◌, arith, Option, None, Some, if◌then◌else◌, nat_le, nat_lt, sym, ◌++◌, append_assoc, option_map}
+use Rattle.std.specs.Prelude.{Bool}
+use Rattle.std.specs.List.{onto_first, position_or_len}
+use Rattle.std.proofs.lemmas.List.Splits.{slice_split_first}
+use Rattle.std.proofs.lemmas.Bool.{ltb-true, ltb-false, le-ltb}
+use Rattle.std.proofs.lemmas.Bool.Decides.{nat_tests}
+use Rattle.std.proofs.lemmas.List.{drop-drop, length-drop, take_all}
+use Rattle.std.proofs.lemmas.Option.{some_pair_parts}
+use Rattle.paris_text.specs.Words.{words, value_from, name_word, value_word}
+use Rattle.paris_names.specs.Names.{is_name}
+use Rattle.paris_text.specs.Grammar.{left, next_word, read_word, Left, all_values, ◌>>=◌, Gives}
+
+pub value_from_ge : (n : ℕ) (bs : List ℕ) → n ≤ value_from n bs
+value_from_ge n [] = omega arith
+value_from_ge n (b ∷ bs) = let ih = value_from_ge (n * 10 + (b - 48)) bs in omega (arith, ih)
+
+pub value_step : (word : List ℕ) (i value : ℕ) → i < length word
+    → value_from value (drop i word) ≡ value_from (value * 10 + (get_or word i 0 - 48)) (drop (i + 1) word)
+value_step word i value within =
+    let e : drop i word ≡ get_or word i 0 ∷ drop (i + 1) word = rw add-one (drop-cons word i 0 within) in
+    rw e refl
+
+pub too_big : (word : List ℕ) (i value all bound : ℕ) → i < length word → value_from value (drop i word) ≡ all
+    → bound ≤ value * 10 + (get_or word i 0 - 48) → nat_lt all bound ≡ false
+too_big word i value all bound within same big =
+    let large = value_from_ge (value * 10 + (get_or word i 0 - 48)) (drop (i + 1) word) in
+    let step = value_step word i value within in
+    let above : bound ≤ all = rw (← same, step) (omega (arith, large)) in
+    le-ltb all bound above
+
+pub name_word_yes : (w : List ℕ) → is_name w ≡ true → name_word w ≡ Some w
+name_word_yes w h = rw h refl
+
+pub name_word_no : (w : List ℕ) → (is_name w ≡ true → ⊥) → name_word w ≡ None
+name_word_no w h = go (is_name w) refl
+  where
+    go : (t : Bool) → is_name w ≡ t → name_word w ≡ None
+    go true e = absurd (h e)
+    go false e = rw e refl
+
+abbrev pub word_len : List ℕ → ℕ
+word_len xs = position_or_len (λ b. nat_eq b 32) xs
+
+pub word_len_le : (xs : List ℕ) → word_len xs ≤ length xs
+word_len_le [] = omega arith
+word_len_le (x ∷ xs) =
+    elim (nat_eq x 32) as (λ t. (if not t then 1 + word_len xs else 0) ≤ length (x ∷ xs)) [ true ↦ omega arith | false ↦ omega (arith, word_len_le xs) ]
+
+pub words_none : (xs : List ℕ) → length xs ≤ word_len xs → words xs ≡ xs ∷ []
+words_none [] h = refl
+words_none (x ∷ xs) h =
+    let go : (t : Bool) → length (x ∷ xs) ≤ (if not t then 1 + word_len xs else 0) → cond t ([] ∷ words xs) (onto_first x (words xs)) ≡ (x ∷ xs) ∷ [] =
+    λ t. elim t as (λ t. length (x ∷ xs) ≤ (if not t then 1 + word_len xs else 0) → cond t ([] ∷ words xs) (onto_first x (words xs)) ≡ (x ∷ xs) ∷ [])
+    [ true ↦ λ k. absurd (omega arith) | false ↦ λ k. ap (onto_first x) (words_none xs (omega arith)) ] in
+    go (nat_eq x 32) h
+
+pub words_step : (rest : List ℕ) → word_len rest ≤ length rest → words rest ≡ take (word_len rest) rest ∷ (if nat_le (word_len rest + 1) (length rest) then words (drop (word_len rest + 1) rest) else [])
+words_step rest within = go (nat_lt (word_len rest) (length rest)) refl
+  where
+    go : (t : Bool) → nat_lt (word_len rest) (length rest) ≡ t → words rest ≡ take (word_len rest) rest ∷ (if nat_le (word_len rest + 1) (length rest) then words (drop (word_len rest + 1) rest) else [])
+    go true e =
+        let lt : word_len rest < length rest = ltb-true (word_len rest) (length rest) e in
+        let yes : nat_le (word_len rest + 1) (length rest) ≡ true = grind (arith, nat_tests) in
+        rw yes (slice_split_first (λ b. nat_eq b 32) rest 0 lt)
+    go false e =
+        let all : length rest ≤ word_len rest = ltb-false (word_len rest) (length rest) e in
+        let no : nat_le (word_len rest + 1) (length rest) ≡ false = grind (arith, nat_tests) in
+        rw (no, take_all (word_len rest) rest all) (words_none rest all)
+
+pub left_step : (line : List ℕ) (at : ℕ) → at ≤ length line → word_len (drop at line) ≤ length (drop at line)
+    → left line at ≡ take (word_len (drop at line)) (drop at line) ∷ left line (at + word_len (drop at line) + 1)
+unfolding left
+left_step line at within short =
+    let n = word_len (drop at line) in
+    let rest = drop at line in
+    let here : nat_le at (length line) ≡ true = grind (arith, nat_tests) in
+    let count : length rest ≡ length line - at = length-drop at line in
+    let same : nat_le (n + 1) (length rest) ≡ nat_le (at + n + 1) (length line) = grind (arith, nat_tests) in
+    let sum : at + (n + 1) ≡ at + n + 1 = omega arith in
+    let later : drop (n + 1) rest ≡ drop (at + n + 1) line = drop-drop (n + 1) at line ∙ ap (λ (k : ℕ). drop k line) sum in
+    rw (here, words_step rest short, same, later) refl
+
+pub left_over : (line : List ℕ) (at : ℕ) → length line < at → left line at ≡ []
+unfolding left
+left_over line at past =
+    let no : nat_le at (length line) ≡ false = grind (arith, nat_tests) in
+    rw no refl
+
+-- all words of the line are left at its start
+pub left_all : (line : List ℕ) → left line 0 ≡ words line
+unfolding left
+left_all line =
+    let here : nat_le 0 (length line) ≡ true = grind (arith, nat_tests) in
+    rw here refl
+
+-- a word that is there reads as its test says
+pub next_of_word : {X : Type 0} (read : List ℕ → Option X) (ws : List (List ℕ)) (w : List ℕ) (more : Left) → next_word Some ws ≡ Some (w, more)
+    → next_word read ws ≡ read_word (read w) more
+next_of_word read [] w more e = cc
+next_of_word {X = X} read (v ∷ vs) w more e =
+    let pair : (let p : List ℕ × Left = (v, vs) in p) ≡ (w, more) = cc in
+    let same : v ≡ w = ap (λ (p : List ℕ × Left). p.0) pair in
+    let rest : vs ≡ more = ap (λ (p : List ℕ × Left). p.1) pair in
+    rw (same, rest) refl
+
+pub no_next_word : {X : Type 0} (read : List ℕ → Option X) (ws : List (List ℕ)) → next_word Some ws ≡ None → next_word read ws ≡ None
+no_next_word read [] h = refl
+no_next_word read (w ∷ ws) h = cc
+
+pub word_reads : {X : Type 0} (read : List ℕ → Option X) (ws : List (List ℕ)) (w : List ℕ) (more : Left) (x : X) → next_word Some ws ≡ Some (w, more)
+    → read w ≡ Some x → next_word read ws ≡ Some (x, more)
+word_reads read ws w more x e r = next_of_word read ws w more e ∙ rw r refl
+
+pub word_fails : {X : Type 0} (read : List ℕ → Option X) (ws : List (List ℕ)) (w : List ℕ) (more : Left) → next_word Some ws ≡ Some (w, more)
+    → read w ≡ None → next_word read ws ≡ None
+word_fails read ws w more e r = next_of_word read ws w more e ∙ rw r refl
+
+-- a list of values stops at a word that is none
+pub values_stop : (w : List ℕ) (ws : Left) → next_word value_word (w ∷ ws) ≡ None → all_values (w ∷ ws) ≡ None
+values_stop w ws = go (value_word w)
+  where
+    go : (r : Option ℕ) → read_word r ws ≡ None → (r >>= λ v. option_map (λ vs. v ∷ vs) (all_values ws)) ≡ None
+    go None h = refl
+    go (Some v) h = cc
+
+-- and goes on behind one
+pub values_more : (ws : Left) (v : ℕ) (more : Left) → next_word value_word ws ≡ Some (v, more) → all_values ws ≡ option_map (λ vs. v ∷ vs) (all_values more)
+values_more [] v more h = cc
+values_more (w ∷ ws) v more h = go (value_word w) h
+  where
+    go : (r : Option ℕ) → read_word r ws ≡ Some (v, more) → (r >>= λ x. option_map (λ vs. x ∷ vs) (all_values ws)) ≡ option_map (λ vs. v ∷ vs) (all_values more)
+    go None e = cc
+    go (Some x) e =
+        let p = some_pair_parts x v ws more e in
+        rw (p.0, p.1) refl
+
+pub values_on : (done : List ℕ) (v : ℕ) (o : Option (List ℕ)) → option_map (λ vs. done ++ vs) (option_map (λ vs. v ∷ vs) o) ≡ option_map (λ vs. (done ++ v ∷ []) ++ vs) o
+values_on done v None = refl
+values_on done v (Some vs) = ap Some (sym (append_assoc done (v ∷ []) vs))
+
+pub gives_same : {X : Type 0} (found read : Option X) → Gives (λ x. x) found read → found ≡ read
+gives_same None read h = sym h
+gives_same (Some x) read h = sym h

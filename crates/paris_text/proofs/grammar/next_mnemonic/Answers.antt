@@ -1,0 +1,18 @@
+use Rattle.std.proofs.Common.{sym}
+use Rattle.paris_text.specs.Words.{mnemonic_word}
+use Rattle.paris_text.specs.Grammar.{word_at, mnemonic_at, left}
+use Rattle.paris_text.proofs.WordLemmas.{no_next_word, word_reads, word_fails}
+use Rattle.paris_text.proofs.grammar.next_mnemonic.Goals as goal
+
+pub returns-in_err-word-clause-gives : goal.returns-in_err-word-clause-gives
+unfolding word_at mnemonic_at
+returns-in_err-word-clause-gives c =
+    rw c.from_residual.ensures (no_next_word mnemonic_word (left c.args.line.now c.args.at) c.in_err-word.ensures.gives)
+
+pub returns-in-Some-clause-gives : goal.returns-in-Some-clause-gives
+unfolding word_at mnemonic_at
+returns-in-Some-clause-gives c = word_reads mnemonic_word (left c.args.line.now c.args.at) _ _ _ c.in_ok-word.ensures.gives (sym c.in-Some.ensures)
+
+pub returns-in-None-clause-gives : goal.returns-in-None-clause-gives
+unfolding word_at mnemonic_at
+returns-in-None-clause-gives c = word_fails mnemonic_word (left c.args.line.now c.args.at) _ _ c.in_ok-word.ensures.gives (sym c.in-None.ensures)

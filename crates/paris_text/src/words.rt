@@ -1,0 +1,181 @@
+//! The words of a line, and what each of them spells.
+
+ghost use Rattle.std.specs.Prelude.{◌≡◌, ℕ, ◌+◌, ◌-◌, ◌^◌, ◌<◌, ◌≤◌, List, length, take, drop, nat_eq, nat_lt, nat_le, slice_index, ◌||◌, Option, Some, None, if◌then◌else◌, true, false};
+ghost use Rattle.std.specs.Fmt.{decimal};
+ghost use Rattle.std.specs.List.{position_or_len, list_all};
+ghost use Rattle.std.specs.Option.{IfSome};
+ghost use Rattle.paris_text.specs.Words.{is_digit, is_number, value_from, value_word, number_word, flag_word, spot_word, key_word, verb_word, mnemonic_word};
+
+use crate::commands::{Mnemonic, Verb};
+use paris_names::{FlagName, KeyName, Name, Spot};
+
+/// How many bytes come before the first one that is equal to `stop`.
+pub fn len_before(bytes: &[u8], stop: u8) -> usize
+    ensures within { result ≤ length bytes.now }
+    ensures value { result ≡ position_or_len (λ b. nat_eq b stop) bytes.now }
+{
+    for (i, byte) in bytes.iter().enumerate() {
+        if *byte == stop {
+            return i;
+        }
+    }
+    bytes.len()
+}
+
+fn is_digit(byte: u8) -> bool
+    ensures { result ≡ is_digit byte }
+{
+    b'0' <= byte && byte <= b'9'
+}
+
+fn are_digits(word: &[u8]) -> bool
+    ensures { result ≡ list_all is_digit word.now }
+{
+    word.iter().all(|b| is_digit(*b))
+}
+
+/// Whether no zero stands before another digit.
+fn is_plain(word: &[u8]) -> bool
+    ensures { result ≡ (nat_lt 48 (slice_index word.now 0) || nat_le (length word.now) 1) }
+{
+    if word.len() <= 1 {
+        true
+    } else {
+        b'0' < word[0]
+    }
+}
+
+/// Whether the word is `0`, or digits with no zero at their head.
+#[tactic(auto, unfolding(crate::specs::Words::is_number))]
+fn is_number(word: &[u8]) -> bool
+    ensures value { result ≡ is_number word.now }
+    ensures digits { result ≡ true → list_all is_digit word.now ≡ true }
+{
+    let digits = are_digits(word);
+    let plain = is_plain(word);
+    !word.is_empty() && digits && plain
+}
+
+/// The value of some digits, if it is below `2 ^ 128`.
+fn value_of_digits(word: &[u8]) -> Option<u128>
+    requires { list_all is_digit word.now ≡ true }
+    ensures { result ≡ (if nat_lt (value_from 0 word.now) (2 ^ 128) then Some (value_from 0 word.now) else None) }
+{
+    let mut value = 0u128;
+    for byte in word {
+        let digit = u128::from(byte.saturating_sub(b'0'));
+        let Some(tens) = value.checked_mul(10) else {
+            return None;
+        };
+        let Some(sum) = tens.checked_add(digit) else {
+            return None;
+        };
+        value = sum;
+    }
+    Some(value)
+}
+
+/// The number below `2 ^ 128` that a word spells.
+pub fn value_of_word(word: &[u8]) -> Option<u128>
+    ensures value { result ≡ value_word word.now }
+    ensures spelled { IfSome result (λ n. decimal n ≡ word.now) }
+{
+    if !is_number(word) {
+        return None;
+    }
+    value_of_digits(word)
+}
+
+/// The number below `2 ^ 64` that a word spells.
+pub fn number_of_word(word: &[u8]) -> Option<u64>
+    ensures value { result ≡ number_word word.now }
+    ensures spelled { IfSome result (λ n. decimal n ≡ word.now) }
+{
+    match value_of_word(word) {
+        Some(value) if value <= u128::from(u64::MAX) => Some(value as u64),
+        Some(_) => None,
+        None => None,
+    }
+}
+
+fn flag_of_word(word: &[u8]) -> Option<FlagName>
+    ensures { result ≡ flag_word word.now }
+{
+    if word == b"context".as_slice() {
+        Some(FlagName::Context)
+    } else if word == b"test".as_slice() {
+        Some(FlagName::Test)
+    } else if word == b"carry".as_slice() {
+        Some(FlagName::Carry)
+    } else if word == b"overflow".as_slice() {
+        Some(FlagName::Overflow)
+    } else {
+        None
+    }
+}
+
+/// The place of the program that a word names.
+pub fn spot_of_word(word: &[u8]) -> Option<Spot>
+    ensures { result ≡ spot_word word.now }
+{
+    if word == b"start".as_slice() {
+        Some(Spot::Start)
+    } else if word == b"end".as_slice() {
+        Some(Spot::End)
+    } else {
+        None
+    }
+}
+
+/// The key that a word names: a name, or a name with a dot and a flag after it.
+pub fn key_of_word(word: &[u8]) -> Option<KeyName>
+    ensures { result ≡ key_word word.now }
+{
+    let dot = len_before(word, b'.');
+    if dot == word.len() {
+        let name = Name::new(word)?;
+        return Some(KeyName { name, flag: None });
+    }
+    let name = Name::new(&word[..dot])?;
+    let flag = flag_of_word(&word[dot + 1..])?;
+    Some(KeyName {
+        name,
+        flag: Some(flag),
+    })
+}
+
+/// The command that a first word begins.
+pub fn verb_of_word(word: &[u8]) -> Option<Verb>
+    ensures { result ≡ verb_word word.now }
+{
+    if word == b"set".as_slice() {
+        Some(Verb::Set)
+    } else if word == b"field".as_slice() {
+        Some(Verb::Field)
+    } else if word == b"input".as_slice() {
+        Some(Verb::Input)
+    } else if word == b"insert".as_slice() {
+        Some(Verb::Insert)
+    } else if word == b"take".as_slice() {
+        Some(Verb::Take)
+    } else if word == b"bring".as_slice() {
+        Some(Verb::Bring)
+    } else if word == b"show".as_slice() {
+        Some(Verb::Show)
+    } else {
+        None
+    }
+}
+
+/// The instruction that a word begins.
+pub fn mnemonic_of_word(word: &[u8]) -> Option<Mnemonic>
+    ensures { result ≡ mnemonic_word word.now }
+{
+    if word == b"u-add-3-1L".as_slice() {
+        Some(Mnemonic::UnsignedAdd)
+    } else if word == b"u-move-constant-1L".as_slice() {
+        Some(Mnemonic::MoveConstant)
+    } else {
+        None
+    }
+}
