@@ -1,10 +1,9 @@
-use crate::spellings::unary;
+use crate::spellings::*;
 use paris_book::{Book, Edit, EditReply, Event, Look, Reply, Shown, Verdict};
 use paris_exec::{Done, FieldValue, Order, execute};
 use paris_instr::Instr;
 use paris_model::{Action, Conditional, Mail, UnaryOperator};
 use paris_names::{Edition, Fault, FlagName, Items, KeyName, Name, RowId, Spot};
-use paris_tests::common::*;
 use std::alloc::{AllocError, Global};
 use std::process::Abort;
 use std::test::*;

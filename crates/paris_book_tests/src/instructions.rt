@@ -9,7 +9,6 @@ use paris_model::{
     UnaryOperator, Unconditional,
 };
 use paris_names::FlagName;
-use paris_tests::common::*;
 use std::alloc::{AllocError, Global};
 use std::process::Abort;
 use std::test::*;

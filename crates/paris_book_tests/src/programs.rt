@@ -5,7 +5,6 @@ use paris_book::{Book, Edit, EditReply, Look};
 use paris_instr::Instr;
 use paris_model::Refusal;
 use paris_names::{FlagName, Items, KeyName, RowId, Spot};
-use paris_tests::common::*;
 use std::alloc::{AllocError, Global};
 use std::process::Abort;
 

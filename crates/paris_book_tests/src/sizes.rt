@@ -6,7 +6,6 @@ use paris_book::Book;
 use paris_geometry::Direction;
 use paris_instr::Instr;
 use paris_model::{Action, BinaryOperator, Combiner, Conditional, Inclusion, Unconditional};
-use paris_tests::common::*;
 use std::alloc::{AllocError, Global};
 use std::process::Abort;
 use std::test::*;

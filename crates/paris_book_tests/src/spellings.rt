@@ -7,8 +7,11 @@ use paris_model::{
     UnaryOperator,
 };
 use paris_names::{FlagName, KeyName, Name};
-use paris_tests::common::*;
 use std::process::Abort;
+
+pub(crate) fn name(rt: &impl Abort, text: &[u8]) -> Name {
+    Name::new(text).expect(rt, "it is a name")
+}
 
 pub(crate) fn field_key(rt: &impl Abort, text: &[u8]) -> KeyName {
     KeyName {
@@ -49,6 +52,17 @@ pub(crate) fn binary(
         right: name(rt, right),
         length,
     })
+}
+
+/// `u-add-3-1L`.
+pub(crate) fn sum(rt: &impl Abort, to: &[u8], left: &[u8], right: &[u8], length: u64) -> Instr {
+    binary(rt, BinaryOperator::UnsignedAdd, to, left, right, length)
+}
+
+/// `u-move-constant-1L`.
+pub(crate) fn constant(rt: &impl Abort, to: &[u8], value: u128, length: u64) -> Instr {
+    let to = name(rt, to);
+    Action::OnSelected(Conditional::MoveConstant { to, value, length })
 }
 
 pub(crate) fn unary(

@@ -1,18 +1,17 @@
 -- The value beside a key among values that fit their keys.
-use Rattle.std.proofs.Common.{◌≡◌, ℕ, ◌<◌, ◌≤◌, ◌+◌, List, [], ◌∷◌, Bool, true, false, cond, Option, Some, None, Ok, Err, Result, refl, sym, ap, ◌∙◌, subst, arith, map, length, drop, suc, add-one, get_or, drop-cons, eqb, drop_of_length-le}
+use Rattle.std.proofs.Common.{◌≡◌, ℕ, ◌<◌, ◌≤◌, ◌+◌, List, [], ◌∷◌, Bool, true, false, cond, Option, Some, None, Err, refl, sym, ap, ◌∙◌, subst, map, length, drop, suc, add-one, get_or, drop-cons, eqb, drop_of_length-le}
 use Rattle.std.proofs.Math.Path.{ap₂}
 use Rattle.std.specs.Prelude.{◌&&◌, ◌||◌}
-use Rattle.std.proofs.lemmas.Bool.{eqb-true, eq-eqb}
-use Rattle.std.proofs.lemmas.List.{length-map}
+use Rattle.std.proofs.lemmas.Bool.{eqb-true}
 use Rattle.paris_names.specs.declared.keys.Key.{Key}
 use Rattle.paris_names.specs.Keys.{key_eq, has_key}
 use Rattle.paris_names.proofs.KeyLists.{key_eq-true}
 use Rattle.paris_geometry.specs.Geometry.{processor_count}
 use Rattle.paris_model.specs.declared.actions.Refusal.{Refusal}
 use Rattle.std.specs.Prelude.{unwrap_or}
-use Rattle.paris_model.specs.Frame.{World, Frame}
+use Rattle.paris_model.specs.Frame.{World}
 use Rattle.paris_model.proofs.Counts.{after_count}
-use Rattle.paris_model.specs.Instructions.{Plan, reads, writes, key_width, value_at, after, after_in, frame_of, outcome, outcome_in, refusal, given, held}
+use Rattle.paris_model.specs.Instructions.{Plan, reads, writes, key_width, value_at, after, outcome, outcome_in, refusal, given, held}
 use Rattle.paris_model.proofs.Worlds.{refused_reads, value_at-map}
 use Rattle.paris_exec.specs.Fields.{FieldNumbers}
 use Rattle.paris_exec.specs.Tasks.{Task, numbers_of, field_of, fits_key, fits_keys, fits, fields_of, told, task_outcome, task_value, beside}

@@ -1,5 +1,5 @@
 -- What executing an order gives: what its instruction sees fits, and what it leaves is the outcome.
-use Rattle.std.proofs.Common.{◌≡◌, ℕ, zero, suc, add-one, get_or, take, take_all, ◌++◌, ◌+◌, ◌^◌, ◌<◌, ◌≤◌, ◌==◌, Bool, true, false, List, [], ◌∷◌, length, map, refl, sym, ap, ◌∙◌, subst, arith, cond, Option, Some, None, Result, Ok, Err}
+use Rattle.std.proofs.Common.{◌≡◌, ℕ, zero, suc, add-one, get_or, take, ◌++◌, ◌+◌, ◌^◌, ◌<◌, ◌≤◌, ◌==◌, Bool, true, false, List, [], ◌∷◌, length, map, refl, sym, ap, ◌∙◌, subst, arith, cond, Option, Some, None, Result, Ok}
 use Rattle.std.specs.Prelude.{All, not, ◌&&◌, ◌||◌, nat_lt, nat_le}
 use Rattle.std.specs.List.{list_all}
 use Rattle.std.proofs.lemmas.Bool.{and_parts, eqb-true}
@@ -17,14 +17,12 @@ use Rattle.paris_model.specs.declared.actions.Operand.{Operand}
 use Rattle.paris_model.specs.declared.actions.Action.{Action}
 use Rattle.paris_model.specs.Fits.{IsFit}
 use Rattle.paris_model.specs.Frame.{World}
-use Rattle.paris_model.specs.Instructions.{Plan, reads, writes, key_width, width_among, operands, value_at, after, after_in, frame_of, refusal, refusal_in, outcome, outcome_in}
+use Rattle.paris_model.specs.Instructions.{Plan, reads, writes, key_width, width_among, operands, value_at, after, refusal, outcome, outcome_in}
 use Rattle.paris_model.proofs.Direct.{after_inputs_fit}
 use Rattle.paris_plain.specs.Plain.{Seen, frame_of_seen, is_flag, are_bits, flags_are_bits, unless_refused, plain_outcome}
 use Rattle.paris_exec.specs.Fields.{FieldNumbers, AllFit}
 use Rattle.paris_exec.specs.Seen.{FitKeys, seen_by}
 use Rattle.paris_exec.specs.Tasks.{Task, field_of, fields_of, fits, fits_key, fits_keys, numbers_of, told, task_outcome}
-use Rattle.paris_exec.specs.declared.orders.Outcome.{Outcome}
-use Rattle.paris_exec.specs.declared.orders.Outcome.TheVariants.{Values, Refused}
 
 -- each number of a value fits its width
 abbrev pub Fits : FieldNumbers → Type 0

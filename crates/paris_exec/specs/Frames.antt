@@ -1,5 +1,5 @@
 -- The frame law of an executed order.
-use Rattle.std.specs.Prelude.{◌≡◌, false, true, map, Result, Ok, Err}
+use Rattle.std.specs.Prelude.{◌≡◌, false, true, map}
 use Rattle.paris_names.specs.declared.keys.Key.{Key}
 use Rattle.paris_names.specs.Keys.{has_key}
 use Rattle.paris_model.specs.Frame.{World}

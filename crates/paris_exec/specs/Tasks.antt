@@ -1,6 +1,5 @@
 -- Field values, orders, and what an executed order holds.
-use Rattle.std.specs.Prelude.{ℕ, ◌==◌, Bool, true, false, ◌&&◌, nat_eq, List, [], ◌∷◌, map, length, Option, Some, None, Result, Ok, Err, if◌then◌else◌}
-use Rattle.std.specs.Cmp.Lexicographic.{pointwise}
+use Rattle.std.specs.Prelude.{ℕ, ◌==◌, Bool, true, false, ◌&&◌, List, [], ◌∷◌, map, length, Option, Some, None, Result, Ok, Err, if◌then◌else◌}
 use Rattle.paris_names.specs.declared.keys.RowId.{RowId}
 use Rattle.paris_names.specs.declared.keys.Edition.{Edition}
 use Rattle.paris_names.specs.declared.keys.Key.{Key}

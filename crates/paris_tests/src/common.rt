@@ -9,17 +9,17 @@ use std::alloc::Global;
 use std::process::Abort;
 
 /// A set: its name, and the lengths of its axes.
-pub type SetGiven<'a> = (&'a [u8], &'a [u64]);
+pub(crate) type SetGiven<'a> = (&'a [u8], &'a [u64]);
 
 /// A field: its name, that of its set, and its width.
-pub type FieldGiven<'a> = (&'a [u8], &'a [u8], u64);
+pub(crate) type FieldGiven<'a> = (&'a [u8], &'a [u8], u64);
 
-pub fn name(rt: &impl Abort, text: &[u8]) -> Name {
+pub(crate) fn name(rt: &impl Abort, text: &[u8]) -> Name {
     Name::new(text).expect(rt, "it is a name")
 }
 
 /// `u-add-3-1L`.
-pub fn sum(rt: &impl Abort, to: &[u8], left: &[u8], right: &[u8], length: u64) -> Instr {
+pub(crate) fn sum(rt: &impl Abort, to: &[u8], left: &[u8], right: &[u8], length: u64) -> Instr {
     Action::OnSelected(Conditional::Binary {
         operator: BinaryOperator::UnsignedAdd,
         to: name(rt, to),
@@ -30,7 +30,7 @@ pub fn sum(rt: &impl Abort, to: &[u8], left: &[u8], right: &[u8], length: u64) -
 }
 
 /// `u-move-constant-1L`.
-pub fn constant(rt: &impl Abort, to: &[u8], value: u128, length: u64) -> Instr {
+pub(crate) fn constant(rt: &impl Abort, to: &[u8], value: u128, length: u64) -> Instr {
     Action::OnSelected(Conditional::MoveConstant {
         to: name(rt, to),
         value,
@@ -53,7 +53,7 @@ fn add_fields(board: &mut Board, rt: &impl Abort, fields: &[FieldGiven<'_>]) -> 
 }
 
 /// A board with these sets and fields.
-pub fn board_of(
+pub(crate) fn board_of(
     alloc: Global,
     rt: &impl Abort,
     sets: &[SetGiven<'_>],

@@ -1,9 +1,10 @@
-//! Tests of the public calls of the libraries below the book. Its own code is what tests share.
+//! Tests of the public calls of the libraries below the book. It has no code of its own.
 #![tactic(auto)]
 
 #[cfg(test)]
 mod boards;
-pub mod common;
+#[cfg(test)]
+mod common;
 #[cfg(test)]
 mod families;
 #[cfg(test)]

@@ -1,6 +1,5 @@
-use Rattle.std.proofs.Common.{◌≡◌, ◌≤◌, ◌∙◌, refl, ap, sym, subst, take, ◌++◌, ◌∷◌, []}
-use Rattle.paris_exec.specs.Fields.{AllFit}
-use Rattle.paris_exec.specs.Tasks.{field_of, fields_of}
+use Rattle.std.proofs.Common.{◌∙◌, refl, ap, sym, take, ◌++◌, ◌∷◌, []}
+use Rattle.paris_exec.specs.Tasks.{fields_of}
 use Rattle.paris_exec.proofs.Executed.{fields_more, fit_at}
 use Rattle.paris_exec.proofs.execution.fields_at.Goals as goal
 

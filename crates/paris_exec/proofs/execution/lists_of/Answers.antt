@@ -1,4 +1,4 @@
-use Rattle.std.proofs.Common.{◌≡◌, ◌∙◌, ap, sym, take, ◌++◌, ◌∷◌, []}
+use Rattle.std.proofs.Common.{◌∙◌, ap, sym, take, ◌++◌, ◌∷◌, []}
 use Rattle.paris_exec.specs.Tasks.{numbers_of}
 use Rattle.paris_exec.proofs.Executed.{lists_more, fit_more}
 use Rattle.paris_exec.proofs.execution.lists_of.Goals as goal

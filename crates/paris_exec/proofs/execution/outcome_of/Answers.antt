@@ -1,10 +1,7 @@
-use Rattle.std.proofs.Common.{◌≡◌, ◌∙◌, refl, ap, sym, subst, length, map, Ok, Err, Result, List, ℕ, true}
+use Rattle.std.proofs.Common.{◌≡◌, ◌∙◌, refl, ap, sym, subst, length, true}
 use Rattle.std.proofs.lemmas.List.{length-map}
-use Rattle.paris_model.specs.declared.actions.Refusal.{Refusal}
 use Rattle.paris_model.specs.Instructions.{writes}
-use Rattle.paris_plain.specs.Plain.{frame_of_seen, plain_outcome}
-use Rattle.paris_exec.specs.Seen.{FitKeys, seen_by}
-use Rattle.paris_exec.specs.Tasks.{told, fields_of, fits}
+use Rattle.paris_exec.specs.Tasks.{told, fits}
 use Rattle.paris_exec.specs.declared.orders.Outcome.TheVariants.{Values}
 use Rattle.paris_exec.proofs.Executed.{AllNumbersFit, answered, left_fit, outcome_given, lists_given}
 use Rattle.paris_exec.proofs.execution.outcome_of.Goals as goal

@@ -1,4 +1,3 @@
-use Rattle.std.proofs.Common.{◌∙◌}
 use Rattle.paris_exec.proofs.Executed.{flags_bits}
 use Rattle.paris_model.specs.Instructions.{reads}
 use Rattle.paris_exec.proofs.execution.seen.Goals as goal

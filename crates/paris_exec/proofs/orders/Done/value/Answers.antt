@@ -1,6 +1,6 @@
-use Rattle.std.proofs.Common.{◌≡◌, ◌∙◌, ap, length, true, sym}
+use Rattle.std.proofs.Common.{◌≡◌, ◌∙◌, ap, length, true}
 use Rattle.paris_names.specs.Keys.{has_key}
-use Rattle.paris_model.specs.Instructions.{reads, writes}
+use Rattle.paris_model.specs.Instructions.{writes}
 use Rattle.paris_geometry.specs.Geometry.{processor_count}
 use Rattle.paris_exec.specs.Tasks.{Task, task_value}
 use Rattle.paris_exec.proofs.Besides.{value_found, value_there, value_refused}
