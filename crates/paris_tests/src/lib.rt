@@ -6,6 +6,8 @@ mod boards;
 #[cfg(test)]
 mod common;
 #[cfg(test)]
+mod depends;
+#[cfg(test)]
 mod families;
 #[cfg(test)]
 mod geometries;

@@ -1,0 +1,4 @@
+pub mod ByIds
+mod Marks
+pub mod OriginLemmas
+pub mod Recipes
