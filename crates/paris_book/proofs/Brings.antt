@@ -3,7 +3,6 @@ use Rattle.std.proofs.Common.{◌≡◌, ℕ, List, Bool, true, false, cond, Opt
 use Rattle.std.proofs.Math.Path.{fun_ext}
 use Rattle.std.proofs.lemmas.List.{map-set}
 use Rattle.std.specs.Prelude.{◌&&◌}
-use Rattle.std.specs.Option.{option_map}
 use Rattle.std.specs.List.{list_all}
 use Rattle.std.specs.Cmp.Lexicographic.{pointwise}
 use Rattle.paris_names.specs.declared.keys.Key.{Key}
@@ -15,7 +14,10 @@ use Rattle.paris_exec.specs.Fields.{field_eq}
 use Rattle.paris_exec.specs.Tasks.{Task, field_of}
 use Rattle.paris_book.specs.Machine.{Row, Inputs, State, is_settled, inputs_now, find_id, find_row, is_present, verdict_at, verdict_on, verdict_of, brought_on, after_bring}
 use Rattle.paris_book.specs.Kept.{row_of}
-use Rattle.paris_book.specs.declared.rows.Entry.{Entry}
+use Rattle.paris_program.specs.Program.{place_of}
+use Rattle.paris_book.specs.Entries.{Entry, entries_of}
+use Rattle.paris_book.specs.declared.rows.RowData.{RowData}
+use Rattle.paris_book.proofs.Entering.{find_is}
 use Rattle.paris_book.specs.declared.events.Verdict.{Verdict}
 use Rattle.paris_book.specs.declared.events.Verdict.TheVariants.{Gone, Stale, Repeated, Foreign, Kept}
 use Rattle.paris_book.specs.Among.{firm_among, kept_entry}
@@ -72,12 +74,9 @@ state_kept b n m inputs es s k e t v y x z h = sym (
     ∙ ap (λ q. brought_on (state_of b n m inputs es) q (Some (k, row_of e))) (answer_found b n m inputs es (state_of b n m inputs es) k e t refl x ∙ sym z ∙ kept_verdict v h)
     ∙ ap (λ (rs : List Row). record { board = b; edits = n; inputs = inputs; next = m; rows = rs }) (sym (map-set row_of es k (kept_entry e t))))
 
--- the entry of an id that was found, through what the book lends
-pub found_entry : (i j : ℕ) (es ys : List Entry) (k : ℕ) → ys ≡ es → j ≡ i → Some k ≡ option_map (λ e. e.0) (find_id j (map row_of ys)) → (e : Entry) × (find_id i (map row_of es) ≡ Some (k, row_of e)) × (slice_get es k ≡ Some e)
-found_entry i j es ys k a c h = found_some i es k (h ∙ ap (λ zs. option_map (λ e. e.0) (find_id j (map row_of zs))) a ∙ ap (λ z. option_map (λ e. e.0) (find_id z (map row_of es))) c)
+-- the entry of an id that was found at a place of the program
+pub found_entry : (i j : ℕ) (rows : List (ℕ × RowData)) (k : ℕ) → j ≡ i → Some k ≡ place_of rows j → (e : Entry) × (find_id i (map row_of (entries_of rows)) ≡ Some (k, row_of e)) × (slice_get (entries_of rows) k ≡ Some e)
+found_entry i j rows k same at = found_some i (entries_of rows) k (at ∙ ap (place_of rows) same ∙ sym (find_is i rows))
 
-pub found_none : (i j : ℕ) (es ys : List Entry) → ys ≡ es → j ≡ i → None ≡ option_map (λ e. e.0) (find_id j (map row_of ys)) → find_id i (map row_of es) ≡ None
-found_none i j es ys a c h = none_of (λ e. e.0) (find_id i (map row_of es)) (h ∙ ap (λ zs. option_map (λ e. e.0) (find_id j (map row_of zs))) a ∙ ap (λ z. option_map (λ e. e.0) (find_id z (map row_of es))) c)
-
-pub judged_by : (inputs : Inputs) (es ys : List Entry) (k : ℕ) (e : Entry) (t u : Task) (v : Verdict) → ys ≡ es → u ≡ t → slice_get es k ≡ Some e → ((e : Entry) → slice_get ys k ≡ Some e → v ≡ verdict_among inputs ys k e u) → v ≡ verdict_among inputs es k e t
-judged_by inputs es ys k e t u v a c g h = h e (ap (λ zs. slice_get zs k) a ∙ g) ∙ ap (λ zs. verdict_among inputs zs k e u) a ∙ ap (λ z. verdict_among inputs es k e z) c
+pub found_none : (i j : ℕ) (rows : List (ℕ × RowData)) → j ≡ i → None ≡ place_of rows j → find_id i (map row_of (entries_of rows)) ≡ None
+found_none i j rows same none = none_of (λ e. e.0) (find_id i (map row_of (entries_of rows))) (none ∙ ap (place_of rows) same ∙ sym (find_is i rows))

@@ -1,28 +1,31 @@
 -- What the calls of a book find is what the machine names.
-use Rattle.std.proofs.Common.{◌≡◌, ℕ, ◌<◌, ◌≤◌, ◌+◌, List, [], ◌∷◌, ◌++◌, Bool, true, false, cond, Option, Some, None, Ok, refl, sym, ap, ◌∙◌, subst, arith, eqb, map, length, take, drop, suc, add-zero, get_or, length-append}
+use Rattle.std.proofs.Common.{◌≡◌, ℕ, ◌<◌, ◌≤◌, ◌+◌, List, [], ◌∷◌, ◌++◌, Bool, true, false, cond, Option, Some, None, Ok, Err, refl, sym, ap, ◌∙◌, subst, arith, eqb, map, length, take, drop, suc, add-zero, get_or, length-append}
 use Rattle.std.proofs.Math.Path.{ap₂}
 use Rattle.std.proofs.lemmas.List.{map-append, length-map, take_more}
-use Rattle.std.specs.Prelude.{◌||◌}
+use Rattle.std.specs.Prelude.{◌||◌, Result, IfErr}
 use Rattle.std.specs.Option.{option_map, unwrap_or}
 use Rattle.paris_names.specs.declared.keys.Key.{Key}
 use Rattle.paris_board.specs.Board.{Board, is_declared, width_of, count_of}
 use Rattle.paris_model.specs.Instructions.{Plan}
-use Rattle.paris_model.specs.Recipe.{same}
-use Rattle.paris_book.specs.Machine.{Row, Inputs, State, input_of, is_settled, show_at, known, input_changed, input_set}
+use Rattle.paris_book.specs.Machine.{Row, Inputs, State, find_id, input_of, is_settled, show_at, show_from, known, input_changed, input_set}
 use Rattle.paris_book.specs.Kept.{row_of}
 use Rattle.paris_book.specs.Whole.{shape_of, Shaped, Fitted}
-use Rattle.paris_book.specs.declared.rows.Entry.{Entry}
+use Rattle.paris_program.specs.Program.{place_of}
+use Rattle.paris_book.specs.Entries.{Entry, entries_of}
+use Rattle.paris_book.specs.declared.rows.RowData.{RowData}
+use Rattle.paris_book.proofs.Entering.{find_is}
 use Rattle.paris_book.specs.declared.inputs.Input.{Input}
 use Rattle.paris_book.specs.Among.{look_among}
 use Rattle.std.specs.Prelude.{position, nat_le, nat_lt, ◌^◌}
 use Rattle.std.proofs.lemmas.Bool.Decides.{nat_tests}
 use Rattle.std.proofs.lemmas.List.{length-drop, length-take-le}
 use Rattle.std.specs.Option.{ok_or}
+use Rattle.paris_names.specs.declared.keys.RowId.{RowId}
 use Rattle.paris_names.specs.declared.keys.Spot.{Spot}
-use Rattle.paris_names.specs.declared.keys.Spot.TheVariants.{End as AtEnd}
+use Rattle.paris_names.specs.declared.keys.Spot.TheVariants.{After}
 use Rattle.paris_names.specs.declared.names.KeyName.{KeyName}
 use Rattle.paris_names.specs.declared.faults.Fault.{Fault}
-use Rattle.paris_names.specs.declared.faults.Fault.TheVariants.{NoField, WrongCount, TooWide}
+use Rattle.paris_names.specs.declared.faults.Fault.TheVariants.{NoField, WrongCount, TooWide, NoRow}
 use Rattle.paris_board.specs.Board.{key_named}
 use Rattle.paris_instr.specs.Resolve.{IsFittedTo}
 use Rattle.paris_exec.specs.Fields.{overwritten}
@@ -42,16 +45,32 @@ pub found_named : {A : Type 0} (o : Option A) (x : A) (fault : Fault) → Ok x �
 found_named None x fault h = absurd (cc)
 found_named (Some y) x fault h = let same : x ≡ y = cc in ap Some (sym same)
 
-pub place_is : (b : Board) (n m : ℕ) (inputs : Inputs) (es : List Entry) → length es ≡ place_of_spot (state_of b n m inputs es) AtEnd
-place_is b n m inputs es = sym (length-map es row_of)
+-- the place of an id's row among the rows, and just after it
+pub spot_after : (rows : List (ℕ × RowData)) (id : ℕ) → option_map (λ e. e.0 + 1) (find_id id (map row_of (entries_of rows))) ≡ option_map (λ k. k + 1) (place_of rows id)
+spot_after rows id = by_found (find_id id (map row_of (entries_of rows))) ∙ ap (option_map (λ k. k + 1)) (find_is id rows)
+  where
+    by_found : (o : Option (ℕ × Row)) → option_map (λ e. e.0 + 1) o ≡ option_map (λ k. k + 1) (option_map (λ e. e.0) o)
+    by_found None = refl
+    by_found (Some e) = refl
 
-pub shown_is : (b : Board) (n m : ℕ) (inputs : Inputs) (es ys : List Entry) (s : State) (name : KeyName) (spot : Spot) (k : Key) (place : ℕ) (look : AnyShown)
-    → state_of b n m inputs es ≡ s → Shaped b inputs → is_declared b k ≡ true → Ok k ≡ ok_or (key_named b name) NoField → place ≡ place_of_spot (state_of b n m inputs es) spot → look ≡ look_among inputs ys place k → ys ≡ es
+-- the place that a spot after a row names
+pub spot_is : (b : Board) (n m : ℕ) (inputs : Inputs) (rows : List (ℕ × RowData)) (s : State) (spot : Spot) (id : RowId) → state_of b n m inputs (entries_of rows) ≡ s → spot ≡ After id
+    → place_of_spot s spot ≡ option_map (λ k. k + 1) (place_of rows id.0)
+spot_is b n m inputs rows s spot id y after = ap (place_of_spot s) after ∙ ap (λ (z : State). place_of_spot z (After id)) (sym y) ∙ spot_after rows id.0
+
+-- a spot after an id that no row has names no place
+pub spot_none : (r : Result ℕ Fault) (spot row : Option ℕ) → spot ≡ option_map (λ k. k + 1) row → IfErr r (λ fault. (fault ≡ NoRow) × (row ≡ None)) → IfErr r (λ fault. (fault ≡ NoRow) × (spot ≡ None))
+spot_none (Ok place) spot row is h = tt
+spot_none (Err fault) spot row is h = (h.0, is ∙ ap (option_map (λ k. k + 1)) h.1)
+
+pub shown_is : (b : Board) (n m : ℕ) (inputs : Inputs) (es : List Entry) (s : State) (name : KeyName) (spot : Spot) (k : Key) (place : ℕ) (look : AnyShown)
+    → state_of b n m inputs es ≡ s → Shaped b inputs → is_declared b k ≡ true → Ok k ≡ ok_or (key_named b name) NoField → place_of_spot s spot ≡ Some place → look ≡ look_among inputs es place k
     → Ok look ≡ show_reply s name spot
-shown_is b n m inputs es ys s name spot k place look y shaped known named at is same =
-    ap Ok (is ∙ ap (λ zs. look_among inputs zs place k) same ∙ sym (show_is b n m inputs es k place shaped known) ∙ ap (λ i. show_at (state_of b n m inputs es) i k) at)
-    ∙ ap (show_key (state_of b n m inputs es) spot) (sym (found_named (key_named b name) k NoField named))
-    ∙ ap (λ (z : State). show_reply z name spot) y
+shown_is b n m inputs es s name spot k place look y shaped known named at is =
+    ap Ok (is ∙ sym (show_is b n m inputs es k place shaped known) ∙ ap (λ (z : State). show_at z place k) y)
+    ∙ ap (show_from s k) (sym at)
+    ∙ ap (show_key s spot) (sym (found_named (key_named b name) k NoField named))
+    ∙ ap (λ (z : State). show_key s spot (key_named z.board name)) y
 
 -- input data that a declared key has is of the board's shape
 pub shape_known : (b : Board) (inputs : Inputs) (k : Key) (i : Input) → Shaped b inputs → is_declared b k ≡ true → input_of inputs k ≡ Some i → (i.value.width ≡ width_of b k) × (length i.value.numbers ≡ count_of b k)

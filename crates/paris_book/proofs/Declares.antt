@@ -18,17 +18,20 @@ use Rattle.paris_model.specs.Instructions.{Plan, reads, writes, key_width}
 use Rattle.paris_model.specs.Recipe.{same}
 use Rattle.paris_book.specs.Machine.{Row, Inputs, flag_input, input_of, numbers_in, number_in, start_world, start_recipe, declared_input, declared_flags, known_rows, edited, set_added, field_added}
 use Rattle.paris_book.specs.Kept.{row_of, Sound}
-use Rattle.paris_book.specs.Sweeps.{touches, spread, stale, swept_entries, Differ}
+use Rattle.paris_depends.specs.Changes.{Differ}
+use Rattle.paris_depends.specs.Sweeps.{touches, spread}
+use Rattle.paris_book.proofs.Swept.{stale, swept_entries}
 use Rattle.paris_book.specs.Whole.{shape_on, shape_of, shape_in, Shaped, InputsBelow, Fitted, AllFitted, IsWhole}
-use Rattle.paris_book.specs.declared.rows.Entry.{Entry}
+use Rattle.paris_book.specs.Entries.{Entry}
 use Rattle.paris_book.specs.declared.inputs.Input.{Input}
 use Rattle.paris_book.specs.declared.inputs.FlagInputs.{FlagInputs}
 use Rattle.std.specs.Prelude.{nat_lt}
 use Rattle.std.proofs.lemmas.Bool.Decides.{nat_tests}
 use Rattle.std.proofs.lemmas.List.{length-replicate}
-use Rattle.paris_book.proofs.Recipes.{judged_swept, eqb_self}
+use Rattle.paris_depends.proofs.Recipes.{eqb_self}
+use Rattle.paris_book.proofs.Recipes.{judged_swept}
 use Rattle.paris_book.proofs.Values.{Agree, sound_swept, swept_rows}
-use Rattle.paris_book.proofs.Edits.{same_new_start}
+use Rattle.paris_book.proofs.EditLemmas.{same_new_start}
 use Rattle.paris_book.proofs.Inserts.{rows_up, fitted_up, state_of}
 
 get-push_other : {X : Type 0} (xs : List X) (x : X) (i : ℕ) → (i ≡ length xs → ⊥) → slice_get (xs ++ x ∷ []) i ≡ slice_get xs i

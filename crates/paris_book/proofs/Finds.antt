@@ -1,13 +1,13 @@
 -- The first of a list that passes a test which knows its place.
-use Rattle.std.proofs.Common.{◌≡◌, ℕ, ◌<◌, ◌+◌, List, [], ◌∷◌, Bool, true, false, cond, Option, Some, None, refl, sym, ap, ◌∙◌, subst, arith, eqb, map, length, take, zero, suc, add-zero, get_or, slice_get}
+use Rattle.std.proofs.Common.{◌≡◌, ℕ, ◌<◌, ◌+◌, List, [], ◌∷◌, Bool, true, false, cond, Option, Some, None, refl, sym, ap, ◌∙◌, subst, arith, eqb, map, length, take, zero, suc, add-zero, slice_get}
 use Rattle.std.proofs.Math.Path.{ap₂}
 use Rattle.std.proofs.lemmas.Bool.Decides.{Decides-eqb}
-use Rattle.std.proofs.lemmas.Option.{slice_get-map, slice_get_read}
+use Rattle.std.proofs.lemmas.Option.{slice_get-map}
 use Rattle.std.specs.Option.{option_map, unwrap_or}
 use Rattle.std.specs.List.{find, enumerate_from}
 use Rattle.paris_book.specs.Machine.{Row, find_id}
 use Rattle.paris_book.specs.Kept.{row_of}
-use Rattle.paris_book.specs.declared.rows.Entry.{Entry}
+use Rattle.paris_book.specs.Entries.{Entry}
 
 -- none so far, and this one passes
 pub find_here : {X : Type 0} (p : ℕ × X → Bool) (xs : List X) (n i m : ℕ) (x : X) → m ≡ n + i → find p (enumerate_from n (take i xs)) ≡ None → slice_get xs i ≡ Some x → p (m, x) ≡ true → find p (enumerate_from n xs) ≡ Some (m, x)
@@ -48,9 +48,6 @@ find_at_place {X} p (y ∷ ys) n k x e = by_test (find_at_place p ys (n + 1) k x
         let second : y ≡ x = ap (λ (q : ℕ × X). q.1) pair in
         (0, let q : k ≡ n + 0 = sym first ∙ sym (add-zero n) in q, ap Some second)
     by_test rest false h = let r = rest h in (suc r.0, let q : k ≡ n + 1 + r.0 = r.1 in omega arith, r.2)
-
-pub row_here : (es : List Entry) (i : ℕ) (e : Entry) → i < length es → e ≡ get_or es i e → slice_get (map row_of es) i ≡ Some (row_of e)
-row_here es i e h x = slice_get-map row_of es i ∙ ap (option_map row_of) (slice_get_read es (length es) i e refl h x)
 
 pub eqb_apart : (i j : ℕ) → (i ≡ j → ⊥) → eqb i j ≡ false
 eqb_apart i j ne = by_test (eqb i j) refl

@@ -14,14 +14,16 @@ use Rattle.paris_board.specs.Board.{Board}
 use Rattle.paris_model.specs.Recipe.{same}
 use Rattle.paris_book.specs.Machine.{Row, Inputs, flag_input, with_flag_input, input_of, numbers_in, number_in, start_world, start_recipe, set_flags, with_input, known_rows, edited}
 use Rattle.paris_book.specs.Kept.{row_of}
-use Rattle.paris_book.specs.Sweeps.{swept_entries, Differ}
+use Rattle.paris_depends.specs.Changes.{Differ}
+use Rattle.paris_book.proofs.Swept.{swept_entries}
 use Rattle.paris_book.specs.Whole.{shape_of, shape_in, InputsBelow, IsWhole}
-use Rattle.paris_book.specs.declared.rows.Entry.{Entry}
+use Rattle.paris_book.specs.Entries.{Entry}
 use Rattle.paris_book.specs.declared.inputs.Input.{Input}
 use Rattle.paris_book.specs.declared.inputs.FlagInputs.{FlagInputs}
-use Rattle.paris_book.proofs.Recipes.{judged_swept, eqb_self}
+use Rattle.paris_depends.proofs.Recipes.{eqb_self}
+use Rattle.paris_book.proofs.Recipes.{judged_swept}
 use Rattle.paris_book.proofs.Values.{Agree, sound_swept, swept_rows}
-use Rattle.paris_book.proofs.Edits.{same_new_start, or_first}
+use Rattle.paris_book.proofs.EditLemmas.{same_new_start, or_first}
 use Rattle.paris_book.proofs.Inserts.{rows_up, rows_swept, inputs_up, ids_swept, start_below, fitted_up, fitted_swept, state_of}
 
 get-set_same : {X : Type 0} (xs : List X) (i : ℕ) (x y : X) → slice_get xs i ≡ Some y → slice_get (set xs i x) i ≡ Some x

@@ -13,14 +13,15 @@ use Rattle.paris_model.specs.Run.{run}
 use Rattle.paris_model.proofs.Worlds.{one_is}
 use Rattle.paris_book.specs.Machine.{Row, Inputs, State, input_of, number_in, start_world, start_recipe, is_settled, new_row, row_inserted}
 use Rattle.paris_book.specs.Kept.{row_of, plan_of, ripen, Right, Sound}
-use Rattle.paris_book.specs.Sweeps.{touches, spread, swept, stale, swept_entries}
+use Rattle.paris_depends.specs.Sweeps.{touches, spread}
+use Rattle.paris_book.proofs.Swept.{swept, stale, swept_entries}
 use Rattle.paris_book.specs.Whole.{shape_in, InputsBelow, RowsBelow, IdsApart, ids_of, Fitted, AllFitted, IsWhole}
-use Rattle.paris_book.specs.declared.rows.Entry.{Entry}
+use Rattle.paris_book.specs.Entries.{Entry}
 use Rattle.paris_book.specs.declared.rows.Status.TheVariants.{Waiting}
 use Rattle.paris_book.proofs.Values.{Agree, sound_swept, swept_rows}
 use Rattle.paris_book.proofs.Origins.{ripe, sound-take}
 use Rattle.paris_book.proofs.Recipes.{past_all}
-use Rattle.paris_book.proofs.Edits.{or_first, or_second, judged_insert, below_all, Below}
+use Rattle.paris_book.proofs.EditLemmas.{or_first, or_second, judged_insert, below_all, Below}
 
 pub sound-drop : (w : World) (h : Key → Bool) (es : List Entry) (p : ℕ) → Sound w h es → Sound (run w (map plan_of (take p es))) (ripe h (take p es)) (drop p es)
 sound-drop w h [] zero s = tt

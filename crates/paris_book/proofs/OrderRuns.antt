@@ -23,7 +23,7 @@ use Rattle.paris_book.specs.declared.rows.Status.TheVariants.{Waiting, Out, Sett
 use Rattle.paris_book.specs.declared.events.Verdict.TheVariants.{Kept}
 use Rattle.paris_book.proofs.Finds.{find_here, eqb_apart}
 use Rattle.paris_book.proofs.Settling.{and_first, and_second}
-use Rattle.paris_book.proofs.Edits.{or_first, or_second}
+use Rattle.paris_book.proofs.EditLemmas.{or_first, or_second}
 use Rattle.paris_instr.proofs.ReflexivePlans.{plan_same}
 
 abbrev pub are_settled : List Row → Bool

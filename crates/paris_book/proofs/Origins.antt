@@ -10,7 +10,7 @@ use Rattle.paris_model.specs.Recipe.{origin}
 use Rattle.paris_model.proofs.Worlds.{one_is}
 use Rattle.paris_book.specs.Machine.{is_settled}
 use Rattle.paris_book.specs.Kept.{plan_of, last_kept, ripen, Sound}
-use Rattle.paris_book.specs.declared.rows.Entry.{Entry}
+use Rattle.paris_book.specs.Entries.{Entry}
 
 pub origin-push : {X : Type 0} (work : X → Plan) (f : Key) (xs : List X) (x : X) → origin work f (xs ++ x ∷ []) ≡ cond (has_key (writes (work x)) f) (Some x) (origin work f xs)
 origin-push work f [] x = refl

@@ -1,7 +1,8 @@
 -- The results that were refused are those of the rows that the run refuses.
-use Rattle.std.proofs.Common.{◌≡◌, ℕ, ◌+◌, ◌<◌, List, [], ◌∷◌, ◌++◌, Bool, true, false, cond, Option, Some, None, refl, sym, ap, ◌∙◌, map, length, take, get_or}
+use Rattle.std.proofs.Common.{◌≡◌, ℕ, ◌+◌, List, [], ◌∷◌, ◌++◌, Bool, true, false, cond, Option, Some, None, refl, sym, ap, ◌∙◌, map, take, slice_get}
 use Rattle.std.proofs.Math.Path.{ap₂}
 use Rattle.std.proofs.lemmas.List.{take_more, append-nil, append_assoc}
+use Rattle.std.proofs.lemmas.Option.{slice_get_within, get_or_from_slice_get}
 use Rattle.std.specs.Option.{unwrap_or}
 use Rattle.paris_names.specs.declared.keys.Key.{Key}
 use Rattle.paris_board.specs.Board.{Board}
@@ -15,7 +16,7 @@ use Rattle.paris_book.specs.Machine.{Inputs, State, start_world, is_settled, cau
 use Rattle.paris_book.specs.Kept.{row_of, last_kept, ripen, Right, Sound}
 use Rattle.paris_book.specs.Whole.{IsWhole}
 use Rattle.paris_book.specs.Among.{cause_told, cause_kept, faults_kept}
-use Rattle.paris_book.specs.declared.rows.Entry.{Entry}
+use Rattle.paris_book.specs.Entries.{Entry}
 use Rattle.paris_book.proofs.Inserts.{state_of}
 use Rattle.paris_book.proofs.RefusalHere.{refusal_here}
 
@@ -45,14 +46,14 @@ faults-push : (es : List Entry) (e : Entry) → faults_kept (es ++ e ∷ []) ≡
 faults-push [] e = append-nil (fault_by e.id (cause_kept e))
 faults-push (x ∷ es) e = ap (λ fs. fault_by x.id (cause_kept x) ++ fs) (faults-push es e) ∙ sym (append_assoc (fault_by x.id (cause_kept x)) (faults_kept es) (fault_by e.id (cause_kept e)))
 
-pub faults_more : (es : List Entry) (i : ℕ) (e : Entry) (o : Option Refusal) → i < length es → e ≡ get_or es i e → o ≡ cause_kept e → faults_kept (take (i + 1) es) ≡ faults_kept (take i es) ++ fault_by e.id o
-faults_more es i e o within at is =
-    ap faults_kept (take_more es i e within ∙ ap (λ x. take i es ++ x ∷ []) (sym at))
+pub faults_more : (es : List Entry) (i : ℕ) (e : Entry) (o : Option Refusal) → slice_get es i ≡ Some e → o ≡ cause_kept e → faults_kept (take (i + 1) es) ≡ faults_kept (take i es) ++ fault_by e.id o
+faults_more es i e o at is =
+    ap faults_kept (take_more es i e (slice_get_within es i e at) ∙ ap (λ x. take i es ++ x ∷ []) (get_or_from_slice_get es i e e at))
     ∙ faults-push (take i es) e
     ∙ ap (λ c. faults_kept (take i es) ++ fault_by e.id c) (sym is)
 
 -- a settled row's result was refused exactly where the run refuses the row
-cause_is : (w : World) (h : Key → Bool) (e : Entry) → Right w h e → cause_kept e ≡ cause_in w (row_of e)
+pub cause_is : (w : World) (h : Key → Bool) (e : Entry) → Right w h e → cause_kept e ≡ cause_in w (row_of e)
 cause_is w h e r = by_status (is_settled e.status) refl
   where
     by_done : (d : Option Task) → last_kept d ≡ Some (e.plan, map w (reads e.plan)) → cause_told d ≡ refusal e.plan w

@@ -9,7 +9,9 @@ use Rattle.paris_book.specs.Machine.{Row, Inputs, State, start_world, is_settled
 use Rattle.paris_book.specs.Kept.{row_of, ripen, Sound}
 use Rattle.paris_book.specs.Whole.{RowsBelow, ids_of, AllFitted, IsWhole}
 use Rattle.paris_book.specs.Among.{recalled_entry}
-use Rattle.paris_book.specs.declared.rows.Entry.{Entry}
+use Rattle.paris_book.specs.Entries.{Entry, entry_of, entries_of}
+use Rattle.paris_book.specs.Marks.{recalled_pair}
+use Rattle.paris_book.specs.declared.rows.RowData.{RowData}
 use Rattle.paris_book.specs.declared.rows.Status.{Status}
 use Rattle.paris_book.specs.declared.rows.Status.TheVariants.{Waiting, Out, Settled}
 use Rattle.paris_book.proofs.Inserts.{state_of}
@@ -58,6 +60,11 @@ release_whole b n m inputs es w = record {
   fitted = fitted_recalled inputs es w.fitted;
   sound = sound_recalled (start_world inputs) (λ _. true) es w.sound;
 }
+
+-- the entries of the rows that are recalled
+pub entries_recalled : (rows : List (ℕ × RowData)) → entries_of (map recalled_pair rows) ≡ map recalled_entry (entries_of rows)
+entries_recalled [] = refl
+entries_recalled (r ∷ rows) = ap (λ es. recalled_entry (entry_of r) ∷ es) (entries_recalled rows)
 
 view_recalled : (es : List Entry) → map row_of (map recalled_entry es) ≡ map recalled_row (map row_of es)
 view_recalled [] = refl

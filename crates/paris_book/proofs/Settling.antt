@@ -19,7 +19,7 @@ use Rattle.paris_exec.specs.Tasks.{Task, numbers_of, field_of}
 use Rattle.paris_book.specs.Machine.{Inputs, start_world, is_settled, is_firm}
 use Rattle.paris_book.specs.Kept.{row_of, plan_of, ripen, Sound, present}
 use Rattle.paris_book.specs.Whole.{RowsBelow, ids_of, Fitted, AllFitted, IsWhole}
-use Rattle.paris_book.specs.declared.rows.Entry.{Entry}
+use Rattle.paris_book.specs.Entries.{Entry}
 use Rattle.paris_book.specs.declared.events.Verdict.TheVariants.{Stale, Repeated, Foreign, Kept}
 use Rattle.paris_book.specs.Among.{origin_among, firm_among, inputs_among, out_entry, kept_entry}
 use Rattle.std.proofs.lemmas.Slice.Eq.{bytes_eq-Decides}

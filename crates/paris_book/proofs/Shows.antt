@@ -1,9 +1,8 @@
 -- What is shown of a key, by the origin among the entries.
-use Rattle.std.proofs.Common.{◌≡◌, ℕ, ◌<◌, ◌≤◌, ◌+◌, List, [], ◌∷◌, ◌++◌, Bool, true, false, cond, Option, Some, None, refl, sym, ap, ◌∙◌, subst, arith, map, length, take, zero, suc, get_or, slice_get}
+use Rattle.std.proofs.Common.{◌≡◌, ℕ, ◌<◌, ◌+◌, List, [], ◌∷◌, ◌++◌, Bool, true, false, cond, Option, Some, None, refl, sym, ap, ◌∙◌, subst, arith, map, length, take, zero, suc, get_or, slice_get}
 use Rattle.std.proofs.Math.Path.{ap₂}
 use Rattle.std.proofs.lemmas.Bool.{eq-eqb}
 use Rattle.std.proofs.lemmas.List.{take-map, map-append, take_more}
-use Rattle.std.proofs.lemmas.Option.{slice_get-get_or}
 use Rattle.std.specs.Prelude.{◌&&◌, ◌||◌, IsSome}
 use Rattle.std.specs.Option.{option_or, option_map, unwrap_or}
 use Rattle.std.specs.List.{list_all}
@@ -21,7 +20,7 @@ use Rattle.paris_exec.specs.Tasks.{Task, numbers_of, field_of, fits_key, fits_ke
 use Rattle.paris_book.specs.Machine.{Row, Inputs, input_of, numbers_in, start_world, is_settled, row_plan, now, origin_at, shown_of, show_at, is_firm}
 use Rattle.paris_book.specs.Kept.{row_of, plan_of, last_kept, Sound, present}
 use Rattle.paris_book.specs.Whole.{shape_on, shape_of, shape_in, Shaped, Fitted, AllFitted}
-use Rattle.paris_book.specs.declared.rows.Entry.{Entry}
+use Rattle.paris_book.specs.Entries.{Entry}
 use Rattle.paris_book.specs.declared.inputs.Input.{Input}
 use Rattle.paris_book.specs.declared.events.Shown.TheVariants.{Settled as ShownSettled, Pending}
 use Rattle.paris_book.specs.Among.{origin_among, width_in_shape, value_among, look_among, look_shown, LookFits, firm_among}
@@ -118,10 +117,6 @@ done_writes inputs es k place e d s o t x =
 
 pub look_pending : (inputs : Inputs) (es : List Entry) (k : Key) (place : ℕ) (e : Entry) → origin_among es place k ≡ Some e → is_settled e.status ≡ false → Pending e.id ≡ look_among inputs es place k
 look_pending inputs es k place e o t = rw (o, t) refl
-
--- the entry at a place
-pub found_is : (es : List Entry) (k : Key) (place i : ℕ) (e d : Entry) → i < place → place ≤ length es → origin_among es place k ≡ slice_get es i → e ≡ get_or es i d → origin_among es place k ≡ Some e
-found_is es k place i e d a b o x = o ∙ slice_get-get_or es i d (omega arith) ∙ ap Some (sym x)
 
 -- an origin keeps a result where it is settled
 pub kept_for : (inputs : Inputs) (es : List Entry) (k : Key) (place : ℕ) (e : Entry) → Sound (start_world inputs) (λ _. true) es → origin_among es place k ≡ Some e → KeptFor e k

@@ -12,7 +12,7 @@ use Rattle.paris_model.specs.Instructions.{reads}
 use Rattle.paris_exec.specs.Tasks.{field_of}
 use Rattle.paris_book.specs.Machine.{Row, Inputs, State, is_settled, is_waiting, next_ready, order_of, take_reply, taken, after_take}
 use Rattle.paris_book.specs.Kept.{row_of}
-use Rattle.paris_book.specs.declared.rows.Entry.{Entry}
+use Rattle.paris_book.specs.Entries.{Entry}
 use Rattle.paris_book.specs.declared.rows.Status.{Status}
 use Rattle.paris_book.specs.declared.rows.Status.TheVariants.{Waiting, Out, Settled}
 use Rattle.paris_book.specs.Among.{firm_among, ready_among, next_among, order_among, out_entry}
@@ -36,8 +36,8 @@ next_is b n m inputs es =
     (fun_ext (λ place. fun_ext (λ k. firm_is b n m inputs es k place)))
 
 -- the row that was found
-pub next_found : (es ys : List Entry) (k : ℕ) → ys ≡ es → Some k ≡ option_map (λ e. e.0) (next_among ys) → (e : Entry) × (next_among es ≡ Some (k, row_of e)) × (slice_get es k ≡ Some e)
-next_found es ys k b h = found_by (ready_among es) es k (h ∙ ap (λ zs. option_map (λ e. e.0) (next_among zs)) b)
+pub next_found : (es : List Entry) (k : ℕ) → Some k ≡ option_map (λ e. e.0) (next_among es) → (e : Entry) × (next_among es ≡ Some (k, row_of e)) × (slice_get es k ≡ Some e)
+next_found es k h = found_by (ready_among es) es k h
 
 pub found_is_ready : (es : List Entry) (k : ℕ) (e : Entry) → next_among es ≡ Some (k, row_of e) → ready_among es (k, row_of e) ≡ true
 found_is_ready es k e x = found_passes (ready_among es) (enumerate_from 0 (map row_of es)) (k, row_of e) x
@@ -57,19 +57,17 @@ take_order b n m inputs es s k e y x =
 pub ready_unsettled : (es : List Entry) (k : ℕ) (e : Entry) → next_among es ≡ Some (k, row_of e) → is_settled e.status ≡ false
 ready_unsettled es k e x = waiting_unsettled e.status (and_first (is_waiting e.status) (list_all (firm_among es k) (reads e.plan)) (found_is_ready es k e x))
 
-pub ready_firm : (es ys : List Entry) (k : ℕ) (e u : Entry) → ys ≡ es → next_among es ≡ Some (k, row_of e) → slice_get es k ≡ Some e → slice_get ys k ≡ Some u → list_all (firm_among ys k) (reads u.plan) ≡ true
-ready_firm es ys k e u b x y z =
-    let same : u ≡ e = ap (λ o. unwrap_or o u) (sym z ∙ ap (λ (zs : List Entry). slice_get zs k) b ∙ y) in
-    ap (λ (v : Entry). list_all (firm_among ys k) (reads v.plan)) same
-    ∙ ap (λ (zs : List Entry). list_all (firm_among zs k) (reads e.plan)) b
+pub ready_firm : (es : List Entry) (k : ℕ) (e u : Entry) → next_among es ≡ Some (k, row_of e) → slice_get es k ≡ Some e → slice_get es k ≡ Some u → list_all (firm_among es k) (reads u.plan) ≡ true
+ready_firm es k e u x y z =
+    let same : u ≡ e = ap (λ o. unwrap_or o u) (sym z ∙ y) in
+    ap (λ (v : Entry). list_all (firm_among es k) (reads v.plan)) same
     ∙ and_second (is_waiting e.status) (list_all (firm_among es k) (reads e.plan)) (found_is_ready es k e x)
 
-none_next : (b : Board) (n m : ℕ) (inputs : Inputs) (es : List Entry) (s : State) (ys : List Entry) → state_of b n m inputs es ≡ s → ys ≡ es → None ≡ option_map (λ e. e.0) (next_among ys) → next_ready s ≡ None
-none_next b n m inputs es s ys y a h =
-    ap next_ready (sym y) ∙ next_is b n m inputs es ∙ none_of (λ e. e.0) (next_among es) (h ∙ ap (λ zs. option_map (λ e. e.0) (next_among zs)) a)
+none_next : (b : Board) (n m : ℕ) (inputs : Inputs) (es : List Entry) (s : State) → state_of b n m inputs es ≡ s → None ≡ option_map (λ e. e.0) (next_among es) → next_ready s ≡ None
+none_next b n m inputs es s y h = ap next_ready (sym y) ∙ next_is b n m inputs es ∙ none_of (λ e. e.0) (next_among es) h
 
-pub none_order : (b : Board) (n m : ℕ) (inputs : Inputs) (es : List Entry) (s : State) (ys : List Entry) → state_of b n m inputs es ≡ s → ys ≡ es → None ≡ option_map (λ e. e.0) (next_among ys) → None ≡ take_reply s
-none_order b n m inputs es s ys y a h = sym (ap (option_map (order_of s)) (none_next b n m inputs es s ys y a h))
+pub none_order : (b : Board) (n m : ℕ) (inputs : Inputs) (es : List Entry) (s : State) → state_of b n m inputs es ≡ s → None ≡ option_map (λ e. e.0) (next_among es) → None ≡ take_reply s
+none_order b n m inputs es s y h = sym (ap (option_map (order_of s)) (none_next b n m inputs es s y h))
 
-pub none_state : (b : Board) (n m : ℕ) (inputs : Inputs) (es : List Entry) (s : State) (ys : List Entry) → state_of b n m inputs es ≡ s → ys ≡ es → None ≡ option_map (λ e. e.0) (next_among ys) → s ≡ after_take s
-none_state b n m inputs es s ys y a h = sym (ap (taken s) (none_next b n m inputs es s ys y a h))
+pub none_state : (b : Board) (n m : ℕ) (inputs : Inputs) (es : List Entry) (s : State) → state_of b n m inputs es ≡ s → None ≡ option_map (λ e. e.0) (next_among es) → s ≡ after_take s
+none_state b n m inputs es s y h = sym (ap (taken s) (none_next b n m inputs es s y h))

@@ -9,8 +9,9 @@ use Rattle.paris_model.specs.Instructions.{Plan, reads, writes, one, given}
 use Rattle.paris_model.proofs.Worlds.{one_is}
 use Rattle.paris_book.specs.Machine.{is_settled, unsettled}
 use Rattle.paris_book.specs.Kept.{row_of, ripen, Right, Sound}
-use Rattle.paris_book.specs.Sweeps.{touches, spread, swept, stale, swept_entries}
-use Rattle.paris_book.specs.declared.rows.Entry.{Entry}
+use Rattle.paris_depends.specs.Sweeps.{touches, spread}
+use Rattle.paris_book.proofs.Swept.{swept, stale, swept_entries}
+use Rattle.paris_book.specs.Entries.{Entry}
 
 -- two functions of keys that agree on the keys that did not change
 abbrev pub Agree : {X : Type 0} → (Key → Bool) → (Key → X) → (Key → X) → Type 0

@@ -12,11 +12,12 @@ use Rattle.paris_book.specs.Kept.{row_of, plan_of, present}
 use Rattle.paris_book.specs.Machine.{Inputs, Row, is_firm, is_waiting, is_settled, shown_of, recalled_status, fault_by}
 use Rattle.paris_book.specs.Whole.{shape_in}
 use Rattle.paris_book.specs.declared.inputs.InputData.{InputData}
-use Rattle.paris_book.specs.declared.rows.Entry.{Entry}
+use Rattle.paris_book.specs.Entries.{Entry}
 use Rattle.paris_book.specs.declared.rows.Status.TheVariants.{Out, Settled}
 use Rattle.paris_book.specs.declared.events.Look.{Look}
 use Rattle.paris_book.specs.declared.events.Look.TheVariants.{Settled as LookSettled, Pending as LookPending}
 use Rattle.paris_book.specs.declared.events.RowFault.{RowFault}
+use Rattle.paris_book.specs.declared.events.RowLook.{RowLook}
 use Rattle.paris_book.specs.declared.events.Shown.{Shown}
 use Rattle.paris_book.specs.declared.events.Shown.TheVariants.{Settled as ShownSettled, Pending}
 
@@ -91,3 +92,10 @@ cause_kept e = if is_settled e.status then cause_told e.done else None
 abbrev pub faults_kept : List Entry → List RowFault
 faults_kept [] = []
 faults_kept (e ∷ es) = fault_by e.id (cause_kept e) ++ faults_kept es
+
+-- the entries as they are listed
+abbrev pub listed_entry : Entry → RowLook
+listed_entry e = record { id = e.id; edition = e.edition; status = e.status; instr = e.plan.instr; cause = cause_kept e }
+
+abbrev pub looks_kept : List Entry → List RowLook
+looks_kept es = map listed_entry es

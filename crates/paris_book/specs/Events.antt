@@ -1,10 +1,10 @@
 -- Any list of events: the machine's replies, and the state that they leave.
 use Rattle.std.specs.Prelude.{List, [], ◌∷◌}
-use Rattle.paris_book.specs.Machine.{State, edit_reply, after_edit, take_reply, after_take, verdict_of, after_bring, after_release, show_reply}
+use Rattle.paris_book.specs.Machine.{State, edit_reply, after_edit, take_reply, after_take, verdict_of, after_bring, after_release, show_reply, list_of}
 use Rattle.paris_book.specs.declared.events.Event.{Event}
-use Rattle.paris_book.specs.declared.events.Event.TheVariants.{Edit, Take, Bring, Release, Show}
+use Rattle.paris_book.specs.declared.events.Event.TheVariants.{Edit, Take, Bring, Release, Show, List as ListRows}
 use Rattle.paris_book.specs.declared.events.Reply.{Reply}
-use Rattle.paris_book.specs.declared.events.Reply.TheVariants.{Edit as EditReply, Take as TakeReply, Bring as BringReply, Release as ReleaseReply, Show as ShowReply}
+use Rattle.paris_book.specs.declared.events.Reply.TheVariants.{Edit as EditReply, Take as TakeReply, Bring as BringReply, Release as ReleaseReply, Show as ShowReply, List as ListReply}
 
 -- the reply to an event
 abbrev pub reply_to : State → Event → Reply
@@ -13,6 +13,7 @@ reply_to s Take = TakeReply (take_reply s)
 reply_to s (Bring t) = BringReply (verdict_of s t)
 reply_to s Release = ReleaseReply
 reply_to s (Show name spot) = ShowReply (show_reply s name spot)
+reply_to s ListRows = ListReply (list_of s)
 
 -- the state after an event
 abbrev pub after : State → Event → State
@@ -21,6 +22,7 @@ after s Take = after_take s
 after s (Bring t) = after_bring s t
 after s Release = after_release s
 after s (Show name spot) = s
+after s ListRows = s
 
 -- the replies to a list of events, and the state after them
 abbrev pub replies_to : State → List Event → List Reply

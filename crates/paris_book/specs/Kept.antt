@@ -9,7 +9,7 @@ use Rattle.paris_model.specs.Instructions.{Plan, reads, writes, one}
 use Rattle.paris_model.specs.Run.{run}
 use Rattle.paris_exec.specs.Tasks.{Task, numbers_of}
 use Rattle.paris_book.specs.Machine.{Row, Inputs, start_world, is_settled}
-use Rattle.paris_book.specs.declared.rows.Entry.{Entry}
+use Rattle.paris_book.specs.Entries.{Entry}
 
 -- what others see of a row
 abbrev pub row_of : Entry → Row

@@ -1,7 +1,8 @@
 pub mod Among
+pub mod Entries
 pub mod Events
 pub mod Kept
 pub mod Machine
-pub mod Sweeps
+pub mod Marks
 pub mod Verdicts
 pub mod Whole

@@ -1,10 +1,10 @@
 -- The machine: what a book is, and what each event does to it and answers.
-use Rattle.std.specs.Prelude.{ℕ, zero, suc, ◌+◌, ◌^◌, ◌==◌, List, [], ◌∷◌, ◌++◌, Bool, true, false, ◌&&◌, ◌||◌, Option, Some, None, Result, Ok, Err, if◌then◌else◌, map, slice_set, slice_get, insert, take, length, replicate, position, nat_le, nat_lt}
+use Rattle.std.specs.Prelude.{ℕ, zero, suc, ◌+◌, ◌^◌, ◌==◌, List, [], ◌∷◌, ◌++◌, Bool, true, false, ◌&&◌, ◌||◌, Option, Some, None, Result, Ok, Err, if◌then◌else◌, map, slice_set, slice_get, insert, remove, take, drop, length, replicate, position, nat_le, nat_lt}
 use Rattle.std.specs.List.{list_all, find, enumerate_from}
 use Rattle.std.specs.Option.{option_or, option_map}
 use Rattle.std.specs.Cmp.Lexicographic.{pointwise}
 use Rattle.paris_names.specs.declared.faults.Fault.{Fault}
-use Rattle.paris_names.specs.declared.faults.Fault.TheVariants.{BadAxes, NoField, WrongCount, TooWide, RowsFull, EditionsSpent}
+use Rattle.paris_names.specs.declared.faults.Fault.TheVariants.{BadAxes, NoField, WrongCount, TooWide, NoRow, RowsFull, EditionsSpent}
 use Rattle.paris_names.specs.declared.keys.FlagName.{FlagName}
 use Rattle.paris_names.specs.declared.keys.FlagName.TheVariants.{Context, Test, Carry, Overflow}
 use Rattle.paris_names.specs.declared.keys.Key.{Key}
@@ -12,7 +12,7 @@ use Rattle.paris_names.specs.declared.keys.Key.TheVariants.{Field, Flag}
 use Rattle.paris_names.specs.declared.keys.RowId.{RowId}
 use Rattle.paris_names.specs.declared.keys.Edition.{Edition}
 use Rattle.paris_names.specs.declared.keys.Spot.{Spot}
-use Rattle.paris_names.specs.declared.keys.Spot.TheVariants.{Start as AtStart, End as AtEnd}
+use Rattle.paris_names.specs.declared.keys.Spot.TheVariants.{Start as AtStart, After, End as AtEnd}
 use Rattle.paris_names.specs.declared.names.KeyName.{KeyName}
 use Rattle.paris_geometry.specs.Geometry.{is_geometry, processor_count}
 use Rattle.paris_board.specs.Board.{Board, empty_board, key_named, set_named, set_fault, field_fault, with_set, with_field, width_of, count_of, axes_of}
@@ -31,12 +31,13 @@ use Rattle.paris_book.specs.declared.rows.Status.TheVariants.{Waiting, Out, Sett
 use Rattle.paris_book.specs.declared.inputs.Input.{Input}
 use Rattle.paris_book.specs.declared.inputs.FlagInputs.{FlagInputs}
 use Rattle.paris_book.specs.declared.events.Edit.{Edit}
-use Rattle.paris_book.specs.declared.events.Edit.TheVariants.{AddSet, AddField, Input as SetInput, Insert}
+use Rattle.paris_book.specs.declared.events.Edit.TheVariants.{AddSet, AddField, Input as SetInput, Insert, Delete, Replace}
 use Rattle.paris_book.specs.declared.events.EditReply.{EditReply}
 use Rattle.paris_book.specs.declared.events.EditReply.TheVariants.{Accepted, Row as NewRow}
 use Rattle.paris_book.specs.declared.events.Verdict.{Verdict}
 use Rattle.paris_book.specs.declared.events.Verdict.TheVariants.{Gone, Stale, Repeated, Foreign, Kept}
 use Rattle.paris_book.specs.declared.events.RowFault.{RowFault}
+use Rattle.paris_book.specs.declared.events.RowLook.{RowLook}
 use Rattle.paris_book.specs.declared.events.Shown.{Shown}
 use Rattle.paris_book.specs.declared.events.Shown.TheVariants.{Settled as ShownSettled, Pending}
 
@@ -154,14 +155,27 @@ shown_of (Some r) value = if is_settled r.status then ShownSettled value else Pe
 abbrev pub show_at : State → ℕ → Key → Shown
 show_at s place k = shown_of (origin_at s place k) (record { width = width_of s.board k; numbers = now s place k })
 
-abbrev pub place_of_spot : State → Spot → ℕ
-place_of_spot s AtStart = 0
-place_of_spot s AtEnd = length s.rows
+-- the row of an id, with its place
+abbrev pub find_id : ℕ → List Row → Option (ℕ × Row)
+find_id id rows = find (λ e. e.1.id.0 == id) (enumerate_from 0 rows)
+
+abbrev pub find_row : State → RowId → Option (ℕ × Row)
+find_row s id = find_id id.0 s.rows
+
+-- the place that a spot names, if there is one
+abbrev pub place_of_spot : State → Spot → Option ℕ
+place_of_spot s AtStart = Some 0
+place_of_spot s (After id) = option_map (λ e. e.0 + 1) (find_row s id)
+place_of_spot s AtEnd = Some (length s.rows)
 
 -- the answer to a look at a key
+abbrev pub show_from : State → Key → Option ℕ → Result Shown Fault
+show_from s k None = Err NoRow
+show_from s k (Some place) = Ok (show_at s place k)
+
 abbrev pub show_key : State → Spot → Option Key → Result Shown Fault
 show_key s spot None = Err NoField
-show_key s spot (Some k) = Ok (show_at s (place_of_spot s spot) k)
+show_key s spot (Some k) = show_from s k (place_of_spot s spot)
 
 abbrev pub show_reply : State → KeyName → Spot → Result Shown Fault
 show_reply s name spot = show_key s spot (key_named s.board name)
@@ -201,13 +215,6 @@ abbrev pub after_take : State → State
 after_take s = taken s (next_ready s)
 
 -- ---- bring
-
--- the row of an id, with its place
-abbrev pub find_id : ℕ → List Row → Option (ℕ × Row)
-find_id id rows = find (λ e. e.1.id.0 == id) (enumerate_from 0 rows)
-
-abbrev pub find_row : State → RowId → Option (ℕ × Row)
-find_row s id = find_id id.0 s.rows
 
 -- whether a result is of the row's plan and of the present values at the keys that it reads, whose origins are settled
 abbrev pub is_present : State → ℕ → Row → Task → Bool
@@ -310,12 +317,45 @@ abbrev pub plan_inserted : State → ℕ → Result Plan Fault → State
 plan_inserted s place (Ok p) = row_inserted s place p
 plan_inserted s place (Err fault) = s
 
+abbrev pub inserted_from : State → Option ℕ → Result Plan Fault → State
+inserted_from s None plan = s
+inserted_from s (Some place) plan = plan_inserted s place plan
+
+abbrev pub row_deleted : State → ℕ → State
+row_deleted s place = edited s s.board s.inputs s.next (remove (known_rows s) place)
+
+abbrev pub deleted_from : State → Option (ℕ × Row) → State
+deleted_from s None = s
+deleted_from s (Some e) = row_deleted s e.0
+
+-- a row with another plan, set by the edit of this number, beside the recipe that it had
+abbrev pub set_again : ℕ → Plan → Known → Known
+set_again n p k = record { row = record k.row { plan = p; set_by = n }; before = k.before }
+
+-- the same of the first of rows
+abbrev pub set_first : ℕ → Plan → List Known → List Known
+set_first n p [] = []
+set_first n p (k ∷ ks) = set_again n p k ∷ ks
+
+abbrev pub row_replaced : State → ℕ → Plan → State
+row_replaced s place p = edited s s.board s.inputs s.next (take place (known_rows s) ++ set_first (s.edits + 1) p (drop place (known_rows s)))
+
+abbrev pub plan_replaced : State → ℕ → Result Plan Fault → State
+plan_replaced s place (Ok p) = row_replaced s place p
+plan_replaced s place (Err fault) = s
+
+abbrev pub replaced_from : State → Option (ℕ × Row) → Result Plan Fault → State
+replaced_from s None plan = s
+replaced_from s (Some e) plan = plan_replaced s e.0 plan
+
 -- the state after an edit that has no fault
 abbrev pub accepted : State → Edit → State
 accepted s (AddSet name axes) = set_added s name axes
 accepted s (AddField name set width) = field_added s name (set_named s.board set) width
 accepted s (SetInput name from values) = input_set s (key_named s.board name) from values
-accepted s (Insert spot instr) = plan_inserted s (place_of_spot s spot) (resolution s.board instr)
+accepted s (Insert spot instr) = inserted_from s (place_of_spot s spot) (resolution s.board instr)
+accepted s (Delete id) = deleted_from s (find_row s id)
+accepted s (Replace id instr) = replaced_from s (find_row s id) (resolution s.board instr)
 
 -- why values can't be given from a processor on to a key with so many processors and of this width, if they can't
 abbrev pub fault_of_values : ℕ → ℕ → ℕ → List ℕ → Option Fault
@@ -330,12 +370,27 @@ abbrev pub input_fault : State → ℕ → List ℕ → Option Key → Option Fa
 input_fault s from values None = Some NoField
 input_fault s from values (Some k) = values_fault s from values k
 
+-- why a place can't take one more row of a plan, if it can't
+abbrev pub insert_fault : State → Option ℕ → Result Plan Fault → Option Fault
+insert_fault s None plan = Some NoRow
+insert_fault s (Some place) plan = if nat_le 4096 (length s.rows) then Some RowsFull else fault_in plan
+
+abbrev pub delete_fault : Option (ℕ × Row) → Option Fault
+delete_fault None = Some NoRow
+delete_fault (Some e) = None
+
+abbrev pub replace_fault : Option (ℕ × Row) → Result Plan Fault → Option Fault
+replace_fault None plan = Some NoRow
+replace_fault (Some e) plan = fault_in plan
+
 -- why an edit is refused by its content, if it is
 abbrev pub content_fault : State → Edit → Option Fault
 content_fault s (AddSet name axes) = option_or (set_fault s.board name) (if is_geometry axes then None else Some BadAxes)
 content_fault s (AddField name set width) = field_fault s.board name set width
 content_fault s (SetInput name from values) = input_fault s from values (key_named s.board name)
-content_fault s (Insert spot instr) = if nat_le 4096 (length s.rows) then Some RowsFull else fault_in (resolution s.board instr)
+content_fault s (Insert spot instr) = insert_fault s (place_of_spot s spot) (resolution s.board instr)
+content_fault s (Delete id) = delete_fault (find_row s id)
+content_fault s (Replace id instr) = replace_fault (find_row s id) (resolution s.board instr)
 
 -- why an edit is refused, if it is: a spent counter comes first
 abbrev pub edit_fault : State → Edit → Option Fault
@@ -423,3 +478,17 @@ faults_in w (r ∷ rs) = fault_by r.id (cause_in w r) ++ faults_in (one r.plan w
 -- those of running the program once from the input data
 abbrev pub faults_of : State → List RowFault
 faults_of s = faults_in (start_world s.inputs) s.rows
+
+-- ---- the list of rows
+
+-- a row as it is listed, with the world before it
+abbrev pub listed_row : World → Row → RowLook
+listed_row w r = record { id = r.id; edition = r.edition; status = r.status; instr = r.plan.instr; cause = cause_in w r }
+
+abbrev pub listed_in : World → List Row → List RowLook
+listed_in w [] = []
+listed_in w (r ∷ rs) = listed_row w r ∷ listed_in (one r.plan w) rs
+
+-- the rows in program order, with the causes of running the program once from the input data
+abbrev pub list_of : State → List RowLook
+list_of s = listed_in (start_world s.inputs) s.rows

@@ -13,7 +13,7 @@ use Rattle.paris_exec.specs.Fields.{field_eq}
 use Rattle.paris_exec.specs.Tasks.{Task, task_value}
 use Rattle.paris_book.specs.Machine.{Inputs, is_settled}
 use Rattle.paris_book.specs.Among.{firm_among, inputs_among}
-use Rattle.paris_book.specs.declared.rows.Entry.{Entry}
+use Rattle.paris_book.specs.Entries.{Entry}
 use Rattle.paris_book.specs.declared.events.Look.{Look}
 use Rattle.paris_book.specs.declared.events.Look.TheVariants.{Settled, Pending}
 use Rattle.paris_book.specs.declared.events.Verdict.{Verdict}

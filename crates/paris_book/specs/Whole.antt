@@ -9,7 +9,7 @@ use Rattle.paris_model.specs.Instructions.{Plan, reads, writes, key_width}
 use Rattle.paris_book.specs.Kept.{Sound}
 use Rattle.paris_book.specs.Machine.{Inputs, input_of, number_in, start_world}
 use Rattle.paris_book.specs.declared.inputs.Input.{Input}
-use Rattle.paris_book.specs.declared.rows.Entry.{Entry}
+use Rattle.paris_book.specs.Entries.{Entry}
 
 -- the width of a key and how many numbers it has, if it is declared
 abbrev pub shape_on : Board → Key → Option (ℕ × ℕ)

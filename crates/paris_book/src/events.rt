@@ -1,5 +1,6 @@
 //! What is asked of a book, and what it answers.
 
+use crate::rows::Status;
 use paris_exec::{Done, FieldValue, Order};
 use paris_instr::Instr;
 use paris_model::Refusal;
@@ -16,6 +17,10 @@ pub enum Edit {
     Input(KeyName, u64, Items<u128>),
     /// Puts an instruction into the program.
     Insert(Spot, Instr),
+    /// Takes the row with this id out of the program.
+    Delete(RowId),
+    /// Gives the row with this id another instruction. The row keeps its id and its place.
+    Replace(RowId, Instr),
 }
 
 /// The answer to an edit that is accepted.
@@ -57,6 +62,17 @@ pub enum Look<'a> {
     Pending(RowId),
 }
 
+/// A row of the program, as it is listed.
+#[derive(Clone, Copy, PartialEq, Eq, Debug)]
+pub struct RowLook {
+    pub id: RowId,
+    pub edition: Edition,
+    pub status: Status,
+    pub instr: Instr,
+    /// Why the row is refused, where it is settled and refused.
+    pub cause: Option<Refusal>,
+}
+
 /// A settled row whose instruction is refused, with the cause.
 #[derive(Clone, Copy, PartialEq, Eq, Debug)]
 pub struct RowFault {
@@ -76,6 +92,8 @@ pub enum Event {
     Release,
     /// Looks at a key at a place of the program.
     Show(KeyName, Spot),
+    /// Looks at the rows of the program.
+    List,
 }
 
 /// What a book answers.
@@ -86,4 +104,5 @@ pub enum Reply {
     Bring(Verdict),
     Release,
     Show(Result<Shown, Fault>),
+    List(Items<RowLook>),
 }

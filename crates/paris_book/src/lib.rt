@@ -2,15 +2,17 @@
 #![tactic(auto)]
 
 pub mod book;
+mod edits;
 pub mod events;
 pub mod inputs;
+mod listing;
 mod looks;
+mod marks;
 mod refusals;
 pub mod rows;
 pub mod settlement;
-mod sweeps;
 
 pub use book::Book;
-pub use events::{Edit, EditReply, Event, Look, Reply, RowFault, Shown, Verdict};
+pub use events::{Edit, EditReply, Event, Look, Reply, RowFault, RowLook, Shown, Verdict};
 pub use rows::Status;
 pub use settlement::SettleFault;

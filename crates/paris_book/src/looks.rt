@@ -1,26 +1,27 @@
 //! What the rows and the input data show.
 
-ghost use Rattle.std.specs.Prelude.{◌≡◌, ◌<◌, ◌≤◌, ◌&&◌, ℕ, length, take, map, true, Some, None, IfOk, IsSome, MatchOption, slice_get};
+ghost use Rattle.std.specs.Prelude.{◌≡◌, ◌<◌, ◌≤◌, ◌&&◌, ℕ, length, take, map, true, Some, None, IfOk, IsSome, slice_get};
 ghost use Rattle.std.specs.Option.{option_map};
 ghost use Rattle.std.specs.List.{list_all};
 ghost use Rattle.std.specs.Cmp.Lexicographic.{pointwise};
 ghost use Rattle.paris_model.specs.Instructions.{reads};
 ghost use Rattle.paris_exec.specs.Fields.{field_eq};
 ghost use Rattle.paris_exec.specs.Tasks.{fits};
-ghost use Rattle.paris_book.specs.Machine.{input_of, start_world, is_settled, is_waiting, find_id, shown_of};
+ghost use Rattle.paris_book.specs.Machine.{input_of, start_world, is_settled, is_waiting, shown_of};
 ghost use Rattle.paris_book.specs.Kept.{Sound, row_of, present};
 ghost use Rattle.paris_book.specs.Whole.{AllFitted, Fitted, shape_in};
-ghost use Rattle.paris_book.specs.Among.{inputs_of, origin_among, look_among, look_shown, LookFits, firm_among, ready_among, next_among, inputs_among, order_among};
+ghost use Rattle.paris_book.specs.Among.{inputs_of, look_among, look_shown, LookFits, firm_among, ready_among, next_among, inputs_among, order_among};
 ghost use Rattle.paris_book.specs.Verdicts.{KeptFor, LooksAt, verdict_among};
-ghost use Rattle.paris_book.specs.declared.rows.Entry.{Entry};
+ghost use Rattle.paris_book.specs.Entries.{Entry, entry_of, entries};
 
 use crate::events::{Look, Verdict};
 use crate::inputs::{InputData, input_at};
-use crate::rows::{Entry, Status};
+use crate::rows::{RowData, Status};
+use paris_depends::origin;
 use paris_exec::{Done, FieldValue, Order};
 use paris_instr::Plan;
-use paris_names::keys::has_key;
 use paris_names::{Key, RowId};
+use paris_program::Program;
 use std::alloc::{AllocError, Global};
 
 impl Status {
@@ -47,50 +48,39 @@ impl Status {
     }
 }
 
-/// The place of the last row before a place that writes a key.
-pub(crate) fn origin_of(rows: &[Entry], place: usize, key: &Key) -> Option<usize>
-    requires { place ≤ length rows.now }
-    ensures { MatchOption result (origin_among rows.now place key.now ≡ None) (λ i. (i < place) × (origin_among rows.now place key.now ≡ slice_get rows.now i)) }
-{
-    let mut found = None;
-    for i in 0..place {
-        if has_key(rows[i].plan.writes(), *key) {
-            found = Some(i);
-        }
-    }
-    found
-}
-
 /// What is shown of a key at a place.
 pub(crate) fn look_at<'a>(
     inputs: &'a InputData,
-    rows: &'a [Entry],
+    rows: &'a Program<RowData>,
     place: usize,
     key: &Key,
 ) -> Look<'a>
     requires known { IsSome (input_of (inputs_of inputs.now) key.now) }
-    requires within { place ≤ length rows.now }
-    requires sound { Sound (start_world (inputs_of inputs.now)) (λ _. true) rows.now }
-    requires fitted { AllFitted (inputs_of inputs.now) rows.now }
-    ensures shown { look_shown result ≡ look_among (inputs_of inputs.entry.now) rows.entry.now place key.now }
+    requires within { place ≤ length rows.now.rows }
+    requires sound { Sound (start_world (inputs_of inputs.now)) (λ _. true) (entries rows.now) }
+    requires fitted { AllFitted (inputs_of inputs.now) (entries rows.now) }
+    ensures shown { look_shown result ≡ look_among (inputs_of inputs.entry.now) (entries rows.entry.now) place key.now }
     ensures fits { LookFits result (shape_in (inputs_of inputs.entry.now) key.now) }
 {
-    match origin_of(rows, place, key) {
+    match origin(rows, place, *key) {
         None => match input_at(inputs, key) {
             Some(input) => Look::Settled(&input.value),
             None => unreachable!(),
         },
-        Some(i) => look_at_row(&rows[i], key),
+        Some(id) => match rows.row(id) {
+            Some(row) => look_at_row(id, row, key),
+            None => unreachable!(),
+        },
     }
 }
 
 /// What a row, as the origin of a key, shows of it.
-fn look_at_row<'a>(row: &'a Entry, key: &Key) -> Look<'a>
-    requires kept { KeptFor row.now key.now }
-    ensures { LooksAt result row.entry.now key.now }
+fn look_at_row<'a>(id: RowId, row: &'a RowData, key: &Key) -> Look<'a>
+    requires kept { KeptFor (entry_of (id.0, row.now)) key.now }
+    ensures { LooksAt result (entry_of (id.0, row.entry.now)) key.now }
 {
     if !row.status.is_settled() {
-        return Look::Pending(row.id);
+        return Look::Pending(id);
     }
     match &row.done {
         Some(done) => Look::Settled(done.value(key)),
@@ -99,20 +89,23 @@ fn look_at_row<'a>(row: &'a Entry, key: &Key) -> Look<'a>
 }
 
 /// Whether the origin of a key at a place is the start or a settled row.
-fn is_firm_at(rows: &[Entry], place: usize, key: &Key) -> bool
-    requires { place ≤ length rows.now }
-    ensures { result ≡ firm_among rows.now place key.now }
+fn is_firm_at(rows: &Program<RowData>, place: usize, key: &Key) -> bool
+    requires { place ≤ length rows.now.rows }
+    ensures { result ≡ firm_among (entries rows.now) place key.now }
 {
-    match origin_of(rows, place, key) {
+    match origin(rows, place, *key) {
         None => true,
-        Some(i) => rows[i].status.is_settled(),
+        Some(id) => match rows.row(id) {
+            Some(row) => row.status.is_settled(),
+            None => unreachable!(),
+        },
     }
 }
 
 /// Whether that holds of all keys.
-fn are_firm_at(rows: &[Entry], place: usize, keys: &[Key]) -> bool
-    requires { place ≤ length rows.now }
-    ensures { result ≡ list_all (firm_among rows.now place) keys.now }
+fn are_firm_at(rows: &Program<RowData>, place: usize, keys: &[Key]) -> bool
+    requires { place ≤ length rows.now.rows }
+    ensures { result ≡ list_all (firm_among (entries rows.now) place) keys.now }
 {
     for key in keys {
         if !is_firm_at(rows, place, key) {
@@ -123,32 +116,20 @@ fn are_firm_at(rows: &[Entry], place: usize, keys: &[Key]) -> bool
 }
 
 /// Whether the row at a place waits, and the keys that it reads have the start or settled rows as origins.
-fn is_ready_at(rows: &[Entry], place: usize) -> bool
-    requires { place < length rows.now }
-    ensures { (e : Entry) → slice_get rows.now place ≡ Some e → result ≡ ready_among rows.now (place, row_of e) }
+fn is_ready_at(rows: &Program<RowData>, place: usize) -> bool
+    requires { place < length rows.now.rows }
+    ensures { (e : Entry) → slice_get (entries rows.now) place ≡ Some e → result ≡ ready_among (entries rows.now) (place, row_of e) }
 {
-    let row = &rows[place];
+    let (_, row) = rows.at(place);
     row.status.is_waiting() && are_firm_at(rows, place, row.plan.reads())
 }
 
 /// The place of the first ready row.
-pub(crate) fn first_ready(rows: &[Entry]) -> Option<usize>
-    ensures { result ≡ option_map (λ e. e.0) (next_among rows.now) }
+pub(crate) fn first_ready(rows: &Program<RowData>) -> Option<usize>
+    ensures { result ≡ option_map (λ e. e.0) (next_among (entries rows.now)) }
 {
     for i in 0..rows.len() {
         if is_ready_at(rows, i) {
-            return Some(i);
-        }
-    }
-    None
-}
-
-/// The place of the row with an id.
-pub(crate) fn place_of(rows: &[Entry], id: RowId) -> Option<usize>
-    ensures { result ≡ option_map (λ e. e.0) (find_id id.0 (map row_of rows.now)) }
-{
-    for i in 0..rows.len() {
-        if rows[i].id.0 == id.0 {
             return Some(i);
         }
     }
@@ -159,16 +140,16 @@ pub(crate) fn place_of(rows: &[Entry], id: RowId) -> Option<usize>
 fn present_inputs(
     alloc: Global,
     inputs: &InputData,
-    rows: &[Entry],
+    rows: &Program<RowData>,
     place: usize,
     plan: &Plan,
 ) -> Result<Vec<FieldValue>, AllocError>
-    requires within { place ≤ length rows.now }
-    requires sound { Sound (start_world (inputs_of inputs.now)) (λ _. true) rows.now }
-    requires fitted { AllFitted (inputs_of inputs.now) rows.now }
+    requires within { place ≤ length rows.now.rows }
+    requires sound { Sound (start_world (inputs_of inputs.now)) (λ _. true) (entries rows.now) }
+    requires fitted { AllFitted (inputs_of inputs.now) (entries rows.now) }
     requires plan_fitted { Fitted (inputs_of inputs.now) plan.now }
-    requires firm { list_all (firm_among rows.now place) (reads plan.now) ≡ true }
-    ensures values { IfOk result (λ values. values.items ≡ inputs_among (inputs_of inputs.now) rows.now place plan.now) }
+    requires firm { list_all (firm_among (entries rows.now) place) (reads plan.now) ≡ true }
+    ensures values { IfOk result (λ values. values.items ≡ inputs_among (inputs_of inputs.now) (entries rows.now) place plan.now) }
     ensures fit { IfOk result (λ values. fits plan.now values.items ≡ true) }
 {
     let mut values = Vec::new(alloc);
@@ -185,19 +166,19 @@ fn present_inputs(
 pub(crate) fn order_at(
     alloc: Global,
     inputs: &InputData,
-    rows: &[Entry],
+    rows: &Program<RowData>,
     place: usize,
 ) -> Result<Order, AllocError>
-    requires within { place < length rows.now }
-    requires sound { Sound (start_world (inputs_of inputs.now)) (λ _. true) rows.now }
-    requires fitted { AllFitted (inputs_of inputs.now) rows.now }
-    requires firm { (e : Entry) → slice_get rows.now place ≡ Some e → list_all (firm_among rows.now place) (reads e.plan) ≡ true }
-    ensures { IfOk result (λ order. (e : Entry) → slice_get rows.now place ≡ Some e → order ≡ order_among (inputs_of inputs.now) rows.now place e) }
+    requires within { place < length rows.now.rows }
+    requires sound { Sound (start_world (inputs_of inputs.now)) (λ _. true) (entries rows.now) }
+    requires fitted { AllFitted (inputs_of inputs.now) (entries rows.now) }
+    requires firm { (e : Entry) → slice_get (entries rows.now) place ≡ Some e → list_all (firm_among (entries rows.now) place) (reads e.plan) ≡ true }
+    ensures { IfOk result (λ order. (e : Entry) → slice_get (entries rows.now) place ≡ Some e → order ≡ order_among (inputs_of inputs.now) (entries rows.now) place e) }
 {
-    let row = &rows[place];
+    let (id, row) = rows.at(place);
     let plan = row.plan.copy()?;
     let values = present_inputs(alloc, inputs, rows, place, &row.plan)?;
-    match Order::new(row.id, row.edition, plan, values) {
+    match Order::new(id, row.edition, plan, values) {
         Some(order) => Ok(order),
         None => unreachable!(),
     }
@@ -206,17 +187,17 @@ pub(crate) fn order_at(
 /// Whether values are the present ones at the keys that a plan reads, which have firm origins.
 fn agree(
     inputs: &InputData,
-    rows: &[Entry],
+    rows: &Program<RowData>,
     place: usize,
     plan: &Plan,
     values: &[FieldValue],
 ) -> bool
-    requires within { place ≤ length rows.now }
-    requires sound { Sound (start_world (inputs_of inputs.now)) (λ _. true) rows.now }
-    requires fitted { AllFitted (inputs_of inputs.now) rows.now }
+    requires within { place ≤ length rows.now.rows }
+    requires sound { Sound (start_world (inputs_of inputs.now)) (λ _. true) (entries rows.now) }
+    requires fitted { AllFitted (inputs_of inputs.now) (entries rows.now) }
     requires plan_fitted { Fitted (inputs_of inputs.now) plan.now }
-    requires firm { list_all (firm_among rows.now place) (reads plan.now) ≡ true }
-    ensures { result ≡ pointwise field_eq (inputs_among (inputs_of inputs.now) rows.now place plan.now) values.now }
+    requires firm { list_all (firm_among (entries rows.now) place) (reads plan.now) ≡ true }
+    ensures { result ≡ pointwise field_eq (inputs_among (inputs_of inputs.now) (entries rows.now) place plan.now) values.now }
 {
     let keys = plan.reads();
     if keys.len() != values.len() {
@@ -236,14 +217,19 @@ fn agree(
 }
 
 /// The verdict on a result for the row at a place.
-pub(crate) fn judge(inputs: &InputData, rows: &[Entry], place: usize, done: &Done) -> Verdict
-    requires within { place < length rows.now }
-    requires sound { Sound (start_world (inputs_of inputs.now)) (λ _. true) rows.now }
-    requires fitted { AllFitted (inputs_of inputs.now) rows.now }
-    ensures verdict { (e : Entry) → slice_get rows.now place ≡ Some e → result ≡ verdict_among (inputs_of inputs.now) rows.now place e done.now }
-    ensures plan { (e : Entry) → slice_get rows.now place ≡ Some e → result ≡ Verdict.Kept → e.plan ≡ done.now.plan }
+pub(crate) fn judge(
+    inputs: &InputData,
+    rows: &Program<RowData>,
+    place: usize,
+    done: &Done,
+) -> Verdict
+    requires within { place < length rows.now.rows }
+    requires sound { Sound (start_world (inputs_of inputs.now)) (λ _. true) (entries rows.now) }
+    requires fitted { AllFitted (inputs_of inputs.now) (entries rows.now) }
+    ensures verdict { (e : Entry) → slice_get (entries rows.now) place ≡ Some e → result ≡ verdict_among (inputs_of inputs.now) (entries rows.now) place e done.now }
+    ensures plan { (e : Entry) → slice_get (entries rows.now) place ≡ Some e → result ≡ Verdict.Kept → e.plan ≡ done.now.plan }
 {
-    let row = &rows[place];
+    let (_, row) = rows.at(place);
     let order = done.order();
     if row.edition.0 != order.edition().0 {
         return Verdict::Stale(row.edition);

@@ -3,18 +3,20 @@
 ghost use Rattle.std.specs.Prelude.{◌≡◌, IfOk};
 ghost use Rattle.paris_book.specs.Machine.{faults_of};
 ghost use Rattle.paris_book.specs.Among.{cause_kept, faults_kept};
+ghost use Rattle.paris_book.specs.Entries.{entry_of, entries};
 
 use crate::book::Book;
 use crate::events::RowFault;
-use crate::rows::Entry;
+use crate::rows::RowData;
 use paris_exec::Outcome;
 use paris_model::Refusal;
-use paris_names::Items;
+use paris_names::{Items, RowId};
+use paris_program::Program;
 use std::alloc::{AllocError, Global};
 
 /// Why the result that a settled row keeps was refused, if it was.
-fn cause_of(row: &Entry) -> Option<Refusal>
-    ensures { result ≡ cause_kept row.now }
+pub(crate) fn cause_of(id: RowId, row: &RowData) -> Option<Refusal>
+    ensures { result ≡ cause_kept (entry_of (id.0, row.now)) }
 {
     if !row.status.is_settled() {
         return None;
@@ -29,13 +31,14 @@ fn cause_of(row: &Entry) -> Option<Refusal>
 }
 
 /// The settled rows whose results were refused, in order, with the cause.
-fn faults_among(alloc: Global, rows: &[Entry]) -> Result<Vec<RowFault>, AllocError>
-    ensures { IfOk result (λ faults. faults.items ≡ faults_kept rows.now) }
+fn faults_among(alloc: Global, rows: &Program<RowData>) -> Result<Vec<RowFault>, AllocError>
+    ensures { IfOk result (λ faults. faults.items ≡ faults_kept (entries rows.now)) }
 {
     let mut faults = Vec::new(alloc);
-    for row in rows {
-        if let Some(cause) = cause_of(row) {
-            faults.push(RowFault { id: row.id, cause })?;
+    for place in 0..rows.len() {
+        let (id, row) = rows.at(place);
+        if let Some(cause) = cause_of(id, row) {
+            faults.push(RowFault { id, cause })?;
         }
     }
     Ok(faults)
@@ -47,7 +50,7 @@ impl Book {
     pub fn faults(&self) -> Result<Items<RowFault>, AllocError>
         ensures { IfOk result (λ faults. faults ≡ faults_of self.now) }
     {
-        let faults = faults_among(self.alloc, self.rows.as_slice())?;
+        let faults = faults_among(self.alloc, &self.rows)?;
         Ok(Items::new(faults))
     }
 }

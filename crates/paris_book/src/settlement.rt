@@ -2,11 +2,12 @@
 
 ghost use Rattle.std.specs.Prelude.{◌≡◌, ◌<◌, ◌+◌, ◌⊎◌, map, OnOk, OnErr, IfOk, IfErr};
 ghost use Rattle.paris_book.specs.Machine.{after_release, after_take, after_bring, after_run, ran_orders, all_settled, unsettled_rows};
-ghost use Rattle.paris_book.specs.Among.{recalled_entry};
+ghost use Rattle.paris_book.specs.Marks.{recalled_data, recalled_pair};
 
 use crate::book::{Book, count_unsettled};
-use crate::rows::{Entry, Status};
+use crate::rows::{RowData, Status};
 use paris_exec::{Order, execute};
+use paris_program::Program;
 use std::alloc::AllocError;
 use thiserror::Error;
 
@@ -19,8 +20,8 @@ pub struct SettleFault {
 }
 
 /// Makes a row wait of which an order is out.
-fn recall(row: &mut Entry)
-    ensures { row.new ≡ recalled_entry row.old }
+fn recall(row: &mut RowData)
+    ensures { row.new ≡ recalled_data row.old }
 {
     match row.status {
         Status::Out => row.status = Status::Waiting,
@@ -29,11 +30,12 @@ fn recall(row: &mut Entry)
 }
 
 /// Makes every row wait of which an order is out.
-fn recall_all(rows: &mut Vec<Entry>)
-    ensures { rows.new.items ≡ map recalled_entry rows.old.items }
+fn recall_all(rows: &mut Program<RowData>)
+    ensures rows { rows.new.rows ≡ map recalled_pair rows.old.rows }
+    ensures next_id { rows.new.next_id ≡ rows.old.next_id }
 {
-    for row in rows.iter_mut() {
-        recall(row);
+    for place in 0..rows.len() {
+        recall(rows.at_mut(place));
     }
 }
 
@@ -82,7 +84,7 @@ impl Book {
         ensures short { IfErr result (λ fault. fault.ran < unsettled_rows self.old.rows) }
         ensures left { IfErr result (λ fault. unsettled_rows self.new.rows + fault.ran ≡ unsettled_rows self.old.rows) }
     {
-        let count = count_unsettled(self.rows.as_slice()) as u64;
+        let count = count_unsettled(&self.rows) as u64;
         self.release();
         for ran in 0..count {
             let Ok(()) = self.run_next() else {

@@ -166,6 +166,8 @@ pub struct Edition(pub u64);
 pub enum Spot {
     /// Before the first row.
     Start,
+    /// Just after the row with this id.
+    After(RowId),
     /// After the last row.
     End,
 }

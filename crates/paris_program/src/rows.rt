@@ -78,6 +78,7 @@ impl<T> Program<T> {
     pub fn row(&self, id: RowId) -> Option<&T>
         ensures value { option_copied result ≡ row_of self.now.rows id.0 }
         ensures found { IsSome result ↔ IsSome (place_of self.now.rows id.0) }
+        ensures sound { IsProgram self.now }
     {
         self.rows.get(&id.0)
     }
@@ -86,6 +87,7 @@ impl<T> Program<T> {
     pub fn at(&self, place: usize) -> (RowId, &T)
         requires { place < length self.now.rows }
         ensures value { slice_get self.now.rows place ≡ Some (result.0.0, result.1.now) }
+        ensures sound { IsProgram self.now }
     {
         let (id, row) = self.rows.get_index(place).unwrap();
         (RowId(*id), row)
@@ -122,7 +124,9 @@ impl<T> Program<T> {
 impl<T: Drop> Program<T> {
     ghost use Rattle.paris_program.specs.Program.{place_of, place_in, row_of, with_row};
 
-    fn insert_at(&mut self, place: usize, row: T) -> Result<RowId, AllocFailed<T>>
+    /// Puts a row at a place, counted from 0, before the rows that stand there, under the next id, and returns that id. Where memory
+    /// is refused the row comes back, and the program is as before.
+    pub fn insert_at(&mut self, place: usize, row: T) -> Result<RowId, AllocFailed<T>>
         requires place { place ≤ length self.old.rows }
         requires ids { self.old.next_id < 2 ^ 63 }
         ensures ok { IfOk result (λ id. (id ≡ record { 0 = self.old.next_id })

@@ -222,7 +222,7 @@ fn placed_command(spot: Spot, line: &[u8], at: usize) -> Option<Command>
     ensures { Gives (λ x. x) result (placed_at spot (left line.now at)) }
 {
     match spot {
-        Spot::Start => None,
+        Spot::Start | Spot::After(_) => None,
         Spot::End => {
             let (mnemonic, at) = next_mnemonic(line, at)?;
             operands_command(mnemonic, line, at)

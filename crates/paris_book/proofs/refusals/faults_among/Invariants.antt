@@ -1,7 +1,8 @@
 -- The faults of the rows so far.
 use Rattle.std.proofs.Common.{◌≡◌, take}
+use Rattle.paris_book.specs.Entries.{entries}
 use Rattle.paris_book.specs.Among.{faults_kept}
 use Rattle.paris_book.proofs.refusals.faults_among.Given as goal
 
-abbrev pub invariant-loop-row : goal.invariant-loop-row
-invariant-loop-row l = l.faults.items ≡ faults_kept (take l.row-index l.rows)
+abbrev pub invariant-loop-place : goal.invariant-loop-place
+invariant-loop-place l = l.faults.items ≡ faults_kept (take l.place (entries l.rows))

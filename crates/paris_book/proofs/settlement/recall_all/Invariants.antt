@@ -1,7 +1,7 @@
 -- The rows so far are recalled.
-use Rattle.std.proofs.Common.{◌≡◌, ◌++◌, map, take, drop}
-use Rattle.paris_book.specs.Among.{recalled_entry}
+use Rattle.std.proofs.Common.{◌≡◌, ◌++◌, map, take, drop, length}
+use Rattle.paris_book.specs.Marks.{recalled_pair}
 use Rattle.paris_book.proofs.settlement.recall_all.Given as goal
 
-abbrev pub invariant-loop-row : goal.invariant-loop-row
-invariant-loop-row l = l.row-items ≡ map recalled_entry (take l.row-index l.fn.rows.items) ++ drop l.row-index l.fn.rows.items
+abbrev pub invariant-loop-place : goal.invariant-loop-place
+invariant-loop-place l = (l.rows.rows ≡ map recalled_pair (take l.place l.fn.rows.rows) ++ drop l.place l.fn.rows.rows) × (length l.rows.rows ≡ length l.fn.rows.rows) × (l.rows.next_id ≡ l.fn.rows.next_id)

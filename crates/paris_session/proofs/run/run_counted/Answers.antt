@@ -1,11 +1,22 @@
-use Rattle.std.proofs.Common.{◌≡◌, ◌+◌, rules, arith, ap, ◌∙◌, length, take, ◌≤◌}
+use Rattle.std.proofs.Common.{◌≡◌, ◌+◌, rules, arith, ap, ◌∙◌, refl, length, take, ◌≤◌}
 use Rattle.std.proofs.lemmas.Grind.{common_steps}
 use Rattle.std.proofs.lemmas.Result.{err_from_is_err_and, IfOk-weaker, IfErr-weaker}
 use Rattle.paris_session.specs.Calls.{Marks}
+use Rattle.paris_session.specs.Transcript.{Sitting}
 use Rattle.paris_session.proofs.LineLemmas.{ended_said}
-use Rattle.paris_session.proofs.Reading.{reading_kept, reading_more, stops_reading, stops_answering, stops_at_last, ends_well, answers_nothing}
+use Rattle.paris_session.proofs.Reading.{reading_nothing, reading_kept, reading_more, stops_reading, stops_answering, stops_at_last, ends_well, answers_nothing}
 use Rattle.paris_session.proofs.run.run_counted.Goals as goal
 use Rattle.paris_session.proofs.run.run_counted.Goals.{in-Bytes+in_ok-take_bytes-in-Bytes, in-Interrupted}
+
+pub loop-init : goal.loop-init
+loop-init g c =
+    let none : c.new-script.result.session.commands ≡ 0 = ap (λ (s : Sitting). s.commands) c.new-script.ensures.session in
+    record {
+      reading = reading_nothing _ _ c.new-script.result.session c.new-script.result.line.items c.new-script.ensures.session c.new-script.ensures.line;
+      reads = ap (λ (m : Marks). m.reads) c.requires.fresh;
+      count = omega (arith, none);
+      room = refl;
+    }
 
 pub returns-in_err-take_bytes-in-Bytes-clause-short : goal.returns-in_err-take_bytes-in-Bytes-clause-short
 returns-in_err-take_bytes-in-Bytes-clause-short g c =

@@ -1,26 +1,33 @@
-use Rattle.std.proofs.Common.{◌≡◌, ◌+◌, sym, ap, subst}
-use Rattle.paris_model.specs.Instructions.{writes}
-use Rattle.paris_book.specs.Machine.{State}
-use Rattle.paris_book.specs.Sweeps.{marked}
-use Rattle.paris_book.specs.Among.{inputs_of}
+use Rattle.std.proofs.Common.{◌≡◌, ◌+◌, sym, ap, ◌∙◌, subst, drop, insert}
+use Rattle.paris_names.specs.Keys.{has_key}
+use Rattle.paris_depends.specs.Sweeps.{touched}
 use Rattle.paris_instr.specs.Resolve.{IsFittedTo}
-use Rattle.paris_book.specs.Sweeps.{marked}
-use Rattle.paris_book.proofs.Marks.{insert_sweep, marks_keys}
-use Rattle.paris_book.proofs.Inserts.{fresh, inserted_rows, insert_whole, insert_view}
-use Rattle.paris_book.proofs.Calls.{few_edits, fitted_plan, spot_within}
+use Rattle.paris_book.specs.Machine.{State}
+use Rattle.paris_book.specs.Among.{inputs_of}
+use Rattle.paris_book.specs.Entries.{entries}
+use Rattle.paris_book.specs.Marks.{data_plan, unsettled_by_ids, ids_in}
+use Rattle.paris_book.proofs.Unsettling.{insert_rows}
+use Rattle.paris_book.proofs.Inserts.{inserted_rows, insert_whole, insert_view, state_of}
+use Rattle.paris_book.proofs.Calls.{few_edits, fitted_plan}
 use Rattle.paris_book.proofs.book.Book.insert_plan.Goals as goal
+
+rows_are : (c : goal.After-drop-ids-2) → entries c.unsettle_all.new.rows ≡ inserted_rows c.self.inside.edits c.self.inside.rows.next_id (entries c.self.inside.rows) c.args.place c.args.plan
+rows_are c =
+    insert_rows c.self.inside.edits c.self.inside.rows.next_id c.args.place c.args.plan c.self.inside.rows.rows c.insert_at.new.self.rows c.unsettle_all.new.rows.rows (ids_in c.in_ok-ids.ids.items)
+    (c.in-Ok.ensures.ok.1 ∙ ap (λ d. insert c.self.inside.rows.rows c.args.place (c.self.inside.rows.next_id, d)) c.fresh_row.ensures)
+    c.unsettle_all.ensures.sound.distinct
+    (c.in_ok-ids.ensures.ok ∙ ap (λ ks. touched data_plan (has_key ks) (drop c.args.place c.self.inside.rows.rows)) c.writes.ensures)
+    (c.unsettle_all.ensures.rows ∙ ap (λ js. unsettled_by_ids (c.self.inside.edits + 1) (ids_in js) c.insert_at.new.self.rows) c.as_slice.ensures.value)
 
 pub invariant_of-self-2 : goal.invariant_of-self-2
 invariant_of-self-2 c =
-    let rows : c.sweep.new.rows.items ≡ inserted_rows c.self.inside.edits c.self.inside.next c.self.inside.rows.items c.args.place c.args.plan =
-    insert_sweep (c.self.inside.edits + 1) (marked c.mark.new.changed) c.self.inside.rows.items c.insert.new.self.items c.sweep.new.rows.items c.args.place (fresh c.self.inside.edits c.self.inside.next c.args.plan)
-    (spot_within c.self.inside.board c.self.inside.edits c.self.inside.next (inputs_of c.self.inside.inputs) c.self.inside.rows.items c.args.self.now c.args.place c.self.view_is c.requires.within) c.in-Ok.ensures.items c.sweep.ensures (marks_keys (marked c.mark.new.changed) 128 c.writes.result.now (writes c.args.plan) c.mark.ensures c.writes.ensures) in
     let fits = fitted_plan c.self.inside.board (inputs_of c.self.inside.inputs) c.args.plan c.self.invariant.shaped (subst (λ (s : State). IsFittedTo s.board c.args.plan) (sym c.self.view_is) c.requires.fitted) in
-    insert_whole c.self.inside.board c.self.inside.edits c.self.inside.next (inputs_of c.self.inside.inputs) c.self.inside.rows.items c.sweep.new.rows.items c.args.place c.args.plan (few_edits c.self.inside.board c.self.inside.edits c.self.inside.next (inputs_of c.self.inside.inputs) c.self.inside.rows.items c.args.self.now c.self.view_is c.requires.left) fits c.self.invariant rows
+    let few = few_edits c.self.inside.board c.self.inside.edits c.self.inside.rows.next_id (inputs_of c.self.inside.inputs) (entries c.self.inside.rows) c.args.self.now c.self.view_is c.requires.left in
+    rw (c.unsettle_all.ensures.next_id, c.in-Ok.ensures.ok.2) (insert_whole c.self.inside.board c.self.inside.edits c.self.inside.rows.next_id (inputs_of c.self.inside.inputs) (entries c.self.inside.rows) (entries c.unsettle_all.new.rows) c.args.place c.args.plan few fits c.self.invariant (rows_are c))
 
 pub returns-clause-ok : goal.returns-clause-ok
-returns-clause-ok c =
-    let rows : c.sweep.new.rows.items ≡ inserted_rows c.self.inside.edits c.self.inside.next c.self.inside.rows.items c.args.place c.args.plan =
-    insert_sweep (c.self.inside.edits + 1) (marked c.mark.new.changed) c.self.inside.rows.items c.insert.new.self.items c.sweep.new.rows.items c.args.place (fresh c.self.inside.edits c.self.inside.next c.args.plan)
-    (spot_within c.self.inside.board c.self.inside.edits c.self.inside.next (inputs_of c.self.inside.inputs) c.self.inside.rows.items c.args.self.now c.args.place c.self.view_is c.requires.within) c.in-Ok.ensures.items c.sweep.ensures (marks_keys (marked c.mark.new.changed) 128 c.writes.result.now (writes c.args.plan) c.mark.ensures c.writes.ensures) in
-    (ap (λ (s : State). record { 0 = s.next }) c.self.view_is, insert_view c.self.inside.board c.self.inside.edits c.self.inside.next (inputs_of c.self.inside.inputs) c.self.inside.rows.items c.sweep.new.rows.items c.args.self.now c.args.place c.args.plan c.self.invariant rows c.self.view_is)
+returns-clause-ok c = (
+  c.in-Ok.ensures.ok.0 ∙ ap (λ (s : State). record { 0 = s.next }) c.self.view_is,
+  ap (λ next. state_of c.self.inside.board (c.self.inside.edits + 1) next (inputs_of c.self.inside.inputs) (entries c.unsettle_all.new.rows)) (c.unsettle_all.ensures.next_id ∙ c.in-Ok.ensures.ok.2)
+      ∙ insert_view c.self.inside.board c.self.inside.edits c.self.inside.rows.next_id (inputs_of c.self.inside.inputs) (entries c.self.inside.rows) (entries c.unsettle_all.new.rows) c.args.self.now c.args.place c.args.plan c.self.invariant (rows_are c) c.self.view_is,
+)

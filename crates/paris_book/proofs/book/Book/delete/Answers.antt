@@ -1,0 +1,53 @@
+use Rattle.std.proofs.Common.{◌≡◌, ◌+◌, ◌++◌, sym, ap, ◌∙◌, take, drop, remove}
+use Rattle.paris_names.specs.Keys.{has_key}
+use Rattle.paris_model.specs.Instructions.{writes}
+use Rattle.paris_depends.specs.Sweeps.{touched}
+use Rattle.paris_book.specs.Machine.{find_row, delete_fault, deleted_from}
+use Rattle.paris_book.specs.Among.{inputs_of}
+use Rattle.paris_book.specs.Entries.{entry_of, entries}
+use Rattle.paris_book.specs.Marks.{data_plan, unsettled_by_ids, ids_in}
+use Rattle.paris_book.proofs.Swept.{swept_entries}
+use Rattle.paris_book.specs.declared.rows.RowData.{RowData}
+use Rattle.paris_book.proofs.Unsettling.{delete_rows}
+use Rattle.paris_book.proofs.Inserts.{state_of}
+use Rattle.paris_book.proofs.Deletes.{delete_whole, delete_view}
+use Rattle.paris_book.proofs.Targets.{Target, target_of, target_there, target_row, target_place, target_drop}
+use Rattle.paris_book.proofs.Calls.{few_edits}
+use Rattle.paris_book.proofs.book.Book.delete.Goals as goal
+
+pub unreachable-requires : goal.unreachable-requires
+unreachable-requires c =
+    target_there c.self.inside.rows.rows (find_row c.args.self.now c.args.id) c.args.id.0 c.in_ok-below.below
+    (target_of c.self.inside.board c.self.inside.edits c.self.inside.rows.next_id (inputs_of c.self.inside.inputs) c.self.inside.rows.rows c.args.self.now c.args.id.0 c.in_ok-below.below c.self.view_is c.in_ok-below.ensures.ok) c.in-None.ensures.value
+
+target : (c : goal.After-drop-ids) → Target c.self.inside.rows.rows (find_row c.args.self.now c.args.id) c.args.id.0 c.in_ok-below.below
+target c = target_of c.self.inside.board c.self.inside.edits c.self.inside.rows.next_id (inputs_of c.self.inside.inputs) c.self.inside.rows.rows c.args.self.now c.args.id.0 c.in_ok-below.below c.self.view_is c.in_ok-below.ensures.ok
+
+rows_are : (c : goal.After-drop-ids) → entries c.unsettle_all.new.rows ≡ take (target c).place (entries c.self.inside.rows) ++ swept_entries (c.self.inside.edits + 1) (has_key (writes (target c).row.plan)) (drop ((target c).place + 1) (entries c.self.inside.rows))
+rows_are c =
+    let t = target c in
+    let same = target_row c.self.inside.rows.rows (find_row c.args.self.now c.args.id) c.args.id.0 c.in_ok-below.below c.in-Some.row.now t c.in-Some.ensures.value in
+    delete_rows (c.self.inside.edits + 1) t.place (has_key (writes t.row.plan)) c.self.inside.rows.rows c.delete.new.self.rows c.unsettle_all.new.rows.rows (ids_in c.in_ok-ids-in-Some.ids.items)
+    (c.delete.ensures.rows ∙ ap (remove c.self.inside.rows.rows) (target_place c.self.inside.rows.rows (find_row c.args.self.now c.args.id) c.args.id.0 c.in_ok-below.below t))
+    c.unsettle_all.ensures.sound.distinct
+    (c.in_ok-ids-in-Some.ensures.ok
+    ∙ ap (λ ks. touched data_plan (has_key ks) (drop c.in_ok-below.below c.self.inside.rows.rows)) (c.writes.ensures ∙ ap (λ (x : RowData). writes x.plan) same)
+    ∙ ap (λ k. touched data_plan (has_key (writes t.row.plan)) (drop k c.self.inside.rows.rows)) t.just_below)
+    (c.unsettle_all.ensures.rows ∙ ap (λ js. unsettled_by_ids (c.self.inside.edits + 1) (ids_in js) c.delete.new.self.rows) c.as_slice.ensures.value)
+
+pub invariant_of-self : goal.invariant_of-self
+invariant_of-self c =
+    let t = target c in
+    let few = few_edits c.self.inside.board c.self.inside.edits c.self.inside.rows.next_id (inputs_of c.self.inside.inputs) (entries c.self.inside.rows) c.args.self.now c.self.view_is c.requires.left in
+    let behind = target_drop c.self.inside.rows.rows (find_row c.args.self.now c.args.id) c.args.id.0 c.in_ok-below.below t in
+    rw (c.unsettle_all.ensures.next_id, c.delete.ensures.next_id) (delete_whole c.self.inside.board c.self.inside.edits c.self.inside.rows.next_id (inputs_of c.self.inside.inputs) (entries c.self.inside.rows) (entries c.unsettle_all.new.rows) t.place (entry_of (c.args.id.0, t.row)) (drop (t.place + 1) (entries c.self.inside.rows)) few behind c.self.invariant (rows_are c))
+
+pub returns-clause-ok : goal.returns-clause-ok
+returns-clause-ok c =
+    let t = target c in
+    let behind = target_drop c.self.inside.rows.rows (find_row c.args.self.now c.args.id) c.args.id.0 c.in_ok-below.below t in (
+      ap delete_fault t.seen,
+      ap (λ next. state_of c.self.inside.board (c.self.inside.edits + 1) next (inputs_of c.self.inside.inputs) (entries c.unsettle_all.new.rows)) (c.unsettle_all.ensures.next_id ∙ c.delete.ensures.next_id)
+          ∙ delete_view c.self.inside.board c.self.inside.edits c.self.inside.rows.next_id (inputs_of c.self.inside.inputs) (entries c.self.inside.rows) (entries c.unsettle_all.new.rows) c.args.self.now t.place (entry_of (c.args.id.0, t.row)) (drop (t.place + 1) (entries c.self.inside.rows)) behind c.self.invariant (rows_are c) c.self.view_is
+          ∙ ap (deleted_from c.args.self.now) (sym t.seen),
+    )

@@ -1,0 +1,217 @@
+//! Edits of a book: declarations, input data, and rows that are put in, taken out and replaced.
+
+ghost use Rattle.std.specs.Prelude.{◌≡◌, ◌<◌, ◌≤◌, length, Ok, Some, None, IfOk, IfErr, OnOk, if◌then◌else◌};
+ghost use Rattle.std.specs.Option.{option_or};
+ghost use Rattle.paris_names.specs.Faults.{IsFaultOf};
+ghost use Rattle.paris_names.specs.declared.faults.Fault.TheVariants as FaultCase;
+ghost use Rattle.paris_names.specs.declared.keys.Spot.TheVariants as SpotCase;
+ghost use Rattle.paris_geometry.specs.Geometry.{is_geometry};
+ghost use Rattle.paris_board.specs.Board.{set_fault, field_fault, key_named, set_named};
+ghost use Rattle.paris_instr.specs.Resolve.{IsFittedTo};
+ghost use Rattle.paris_book.specs.Machine.{edit_fault, edit_answer, content_fault, accepted, input_fault, set_added, field_added, input_set, row_inserted, replaced_from, find_row, place_of_spot};
+ghost use Rattle.paris_book.specs.declared.events.Edit.TheVariants as EditCase;
+ghost use Rattle.paris_book.specs.Marks.{fresh_data};
+
+use crate::book::Book;
+use crate::events::{Edit, EditReply};
+use crate::inputs::{
+    declare_flags, declare_input, given_input, input_at, push_field, push_flags, set_input,
+};
+use crate::marks::{unsettle_all, unsettled_by_replace, unsettled_from};
+use crate::rows::{RowData, Status};
+use paris_geometry::Geometry;
+use paris_instr::{Instr, Plan, resolve};
+use paris_names::limits::{MAX_EDITS, MAX_ROWS};
+use paris_names::{Edition, Fault, KeyName, Name, RowId, Spot};
+
+/// A row that the edit of this number gives this plan.
+fn fresh_row(plan: Plan, number: u64) -> RowData
+    ensures { result ≡ fresh_data plan number }
+{
+    RowData {
+        plan,
+        set_by: number,
+        edition: Edition(number),
+        status: Status::Waiting,
+        done: None,
+    }
+}
+
+impl Book {
+    /// Declares a set, if there are edits left.
+    fn add_set(&mut self, name: Name, axes: &[u64]) -> Result<(), Fault>
+        requires left { self.old.edits < 9223372036854775807 }
+        ensures ok { OnOk result ((option_or (set_fault self.old.board name) (if is_geometry axes.now then None else Some FaultCase.BadAxes) ≡ None)
+            × (self.new ≡ set_added self.old name axes.now)) }
+        ensures err { IfErr result (λ fault. (self.new ≡ self.old)
+            × IsFaultOf (option_or (set_fault self.old.board name) (if is_geometry axes.now then None else Some FaultCase.BadAxes)) fault) }
+    {
+        if let Some(fault) = self.board.set_fault(name) {
+            return Err(fault);
+        }
+        let geometry = Geometry::new(axes)?;
+        let number = self.edits + 1;
+        let Ok(flags) = declare_flags(self.alloc, number, geometry.vps()) else {
+            return Err(Fault::NoMemory);
+        };
+        let Ok(()) = self.inputs.flags.reserve(1) else {
+            return Err(Fault::NoMemory);
+        };
+        self.board.add_set(name, geometry)?;
+        push_flags(&mut self.inputs.flags, flags);
+        self.edits = number;
+        Ok(())
+    }
+
+    /// Declares a field, if there are edits left.
+    fn add_field(&mut self, name: Name, set: Name, width: u64) -> Result<(), Fault>
+        requires left { self.old.edits < 9223372036854775807 }
+        ensures ok { OnOk result ((field_fault self.old.board name set width ≡ None)
+            × (self.new ≡ field_added self.old name (set_named self.old.board set) width)) }
+        ensures err { IfErr result (λ fault. (self.new ≡ self.old)
+            × IsFaultOf (field_fault self.old.board name set width) fault) }
+    {
+        if let Some(fault) = self.board.field_fault(name, set, width) {
+            return Err(fault);
+        }
+        let count = self.board.geometry(self.board.set_of(set)?).vps();
+        let number = self.edits + 1;
+        let Ok(input) = declare_input(self.alloc, number, width, count, 0) else {
+            return Err(Fault::NoMemory);
+        };
+        let Ok(()) = self.inputs.fields.reserve(1) else {
+            return Err(Fault::NoMemory);
+        };
+        self.board.add_field(name, set, width)?;
+        push_field(&mut self.inputs.fields, input);
+        self.edits = number;
+        Ok(())
+    }
+
+    /// Gives a key values from a processor on, if there are edits left.
+    fn set_input(&mut self, name: KeyName, from: u64, values: &[u128]) -> Result<(), Fault>
+        requires left { self.old.edits < 9223372036854775807 }
+        ensures ok { OnOk result ((input_fault self.old from values.now (key_named self.old.board name) ≡ None)
+            × (self.new ≡ input_set self.old (key_named self.old.board name) from values.now)) }
+        ensures err { IfErr result (λ fault. (self.new ≡ self.old)
+            × IsFaultOf (input_fault self.old from values.now (key_named self.old.board name)) fault) }
+    {
+        let key = self.board.key_of(name)?;
+        let number = self.edits + 1;
+        let input = match input_at(&self.inputs, &key) {
+            Some(input) => given_input(input, number, from, values)?,
+            None => unreachable!(),
+        };
+        let ids = unsettled_from(self.alloc, &self.rows, 0, &[key])?;
+        set_input(&mut self.inputs, &key, input);
+        unsettle_all(&mut self.rows, ids.as_slice(), number);
+        self.edits = number;
+        Ok(())
+    }
+
+    /// Puts an instruction into the program, if there are edits left.
+    fn insert(&mut self, spot: Spot, instr: Instr) -> Result<RowId, Fault>
+        requires left { self.old.edits < 9223372036854775807 }
+        ensures ok { IfOk result (λ id. (content_fault self.old (EditCase.Insert spot instr) ≡ None)
+            × (id ≡ record { 0 = self.old.next })
+            × (self.new ≡ accepted self.old (EditCase.Insert spot instr))) }
+        ensures err { IfErr result (λ fault. (self.new ≡ self.old)
+            × IsFaultOf (content_fault self.old (EditCase.Insert spot instr)) fault) }
+    {
+        let place = self.place_of_spot(spot)?;
+        if self.rows.len() >= MAX_ROWS {
+            return Err(Fault::RowsFull);
+        }
+        let plan = resolve(self.alloc, &self.board, instr)?;
+        self.insert_plan(place, plan)
+    }
+
+    /// Puts a row of a plan that fits at a place, if there are edits left.
+    fn insert_plan(&mut self, place: usize, plan: Plan) -> Result<RowId, Fault>
+        requires left { self.old.edits < 9223372036854775807 }
+        requires within { place ≤ length self.old.rows }
+        requires fitted { IsFittedTo self.old.board plan }
+        ensures ok { IfOk result (λ id. (id ≡ record { 0 = self.old.next }) × (self.new ≡ row_inserted self.old place plan)) }
+        ensures err { IfErr result (λ fault. (self.new ≡ self.old) × (fault ≡ FaultCase.NoMemory)) }
+    {
+        let number = self.edits + 1;
+        let ids = unsettled_from(self.alloc, &self.rows, place, plan.writes())?;
+        let Ok(id) = self.rows.insert_at(place, fresh_row(plan, number)) else {
+            return Err(Fault::NoMemory);
+        };
+        unsettle_all(&mut self.rows, ids.as_slice(), number);
+        self.edits = number;
+        Ok(id)
+    }
+
+    /// Takes a row out of the program, if there are edits left.
+    fn delete(&mut self, id: RowId) -> Result<(), Fault>
+        requires left { self.old.edits < 9223372036854775807 }
+        ensures ok { OnOk result ((content_fault self.old (EditCase.Delete id) ≡ None)
+            × (self.new ≡ accepted self.old (EditCase.Delete id))) }
+        ensures err { IfErr result (λ fault. (self.new ≡ self.old)
+            × IsFaultOf (content_fault self.old (EditCase.Delete id)) fault) }
+    {
+        let below = self.place_of_spot(Spot::After(id))?;
+        let number = self.edits + 1;
+        let ids = match self.rows.row(id) {
+            Some(row) => unsettled_from(self.alloc, &self.rows, below, row.plan.writes())?,
+            None => unreachable!(),
+        };
+        self.rows.delete(id);
+        unsettle_all(&mut self.rows, ids.as_slice(), number);
+        self.edits = number;
+        Ok(())
+    }
+
+    /// Gives a row another instruction, if there are edits left.
+    fn replace(&mut self, id: RowId, instr: Instr) -> Result<(), Fault>
+        requires left { self.old.edits < 9223372036854775807 }
+        ensures ok { OnOk result ((content_fault self.old (EditCase.Replace id instr) ≡ None)
+            × (self.new ≡ accepted self.old (EditCase.Replace id instr))) }
+        ensures err { IfErr result (λ fault. (self.new ≡ self.old)
+            × IsFaultOf (content_fault self.old (EditCase.Replace id instr)) fault) }
+    {
+        let below = self.place_of_spot(Spot::After(id))?;
+        let plan = resolve(self.alloc, &self.board, instr)?;
+        self.replace_plan(id, below, plan)
+    }
+
+    /// Gives the row with an id another plan that fits, if there are edits left. The place is that just after the row.
+    fn replace_plan(&mut self, id: RowId, below: usize, plan: Plan) -> Result<(), Fault>
+        requires left { self.old.edits < 9223372036854775807 }
+        requires there { place_of_spot self.old (SpotCase.After id) ≡ Some below }
+        requires fitted { IsFittedTo self.old.board plan }
+        ensures ok { OnOk result (self.new ≡ replaced_from self.old (find_row self.old id) (Ok plan)) }
+        ensures err { IfErr result (λ fault. (self.new ≡ self.old) × (fault ≡ FaultCase.NoMemory)) }
+    {
+        let number = self.edits + 1;
+        let ids = unsettled_by_replace(self.alloc, &self.rows, id, below, &plan)?;
+        self.rows.replace(id, fresh_row(plan, number));
+        unsettle_all(&mut self.rows, ids.as_slice(), number);
+        self.edits = number;
+        Ok(())
+    }
+
+    /// Makes an edit that is lent.
+    pub(crate) fn apply(&mut self, edit: &Edit) -> Result<EditReply, Fault>
+        ensures ok { IfOk result (λ answer. (edit_fault self.old edit.now ≡ None)
+            × (answer ≡ edit_answer self.old edit.now)
+            × (self.new ≡ accepted self.old edit.now)) }
+        ensures err { IfErr result (λ fault. (self.new ≡ self.old)
+            × IsFaultOf (edit_fault self.old edit.now) fault) }
+    {
+        if self.edits >= MAX_EDITS {
+            return Err(Fault::EditionsSpent);
+        }
+        match edit {
+            Edit::AddSet(name, axes) => self.add_set(*name, axes.as_slice())?,
+            Edit::AddField(name, set, width) => self.add_field(*name, *set, *width)?,
+            Edit::Input(name, from, values) => self.set_input(*name, *from, values.as_slice())?,
+            Edit::Insert(spot, instr) => return Ok(EditReply::Row(self.insert(*spot, *instr)?)),
+            Edit::Delete(id) => self.delete(*id)?,
+            Edit::Replace(id, instr) => self.replace(*id, *instr)?,
+        }
+        Ok(EditReply::Accepted)
+    }
+}

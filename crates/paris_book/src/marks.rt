@@ -1,0 +1,98 @@
+//! Rows that an edit makes unsettled.
+
+ghost use Rattle.std.specs.Prelude.{◌≡◌, ◌≤◌, length, drop, map, Some, IsSome, IfOk, IfErr};
+ghost use Rattle.paris_names.specs.declared.faults.Fault.TheVariants as FaultCase;
+ghost use Rattle.paris_names.specs.declared.keys.Key.{Key as AnyKey};
+ghost use Rattle.paris_names.specs.Keys.{has_key};
+ghost use Rattle.paris_program.specs.Program.{IsProgram, place_of, row_of};
+ghost use Rattle.paris_depends.specs.Sweeps.{touched};
+ghost use Rattle.paris_book.specs.Marks.{stale_row, unsettled_by_ids, ids_in, data_plan, writes_either};
+ghost use Rattle.paris_book.specs.declared.rows.RowData.{RowData as RowShape};
+
+use crate::rows::{RowData, Status};
+use paris_depends::affected;
+use paris_instr::Plan;
+use paris_names::keys::has_key;
+use paris_names::{Edition, Fault, Key, RowId};
+use paris_program::Program;
+use std::alloc::{AllocError, Global};
+
+/// Makes a row unsettled by the edit of this number.
+fn unsettle(row: &mut RowData, number: u64)
+    ensures { row.new ≡ stale_row number row.old }
+{
+    row.edition = Edition(number);
+    row.status = Status::Waiting;
+}
+
+/// Makes the rows of these ids unsettled by the edit of this number.
+pub(crate) fn unsettle_all(rows: &mut Program<RowData>, ids: &[RowId], number: u64)
+    ensures rows { rows.new.rows ≡ unsettled_by_ids number (ids_in ids.now) rows.old.rows }
+    ensures next_id { rows.new.next_id ≡ rows.old.next_id }
+    ensures sound { IsProgram rows.old }
+{
+    // The length is what says that no id stands twice.
+    let _len = rows.len();
+    for id in ids {
+        if let Some(place) = rows.place_of(*id) {
+            unsettle(rows.at_mut(place), number);
+        }
+    }
+}
+
+/// The keys that a plan or another one writes, each once.
+fn written_by_either(alloc: Global, old: &Plan, new: &Plan) -> Result<Vec<Key>, AllocError>
+    ensures { IfOk result (λ keys. (k : AnyKey) → has_key keys.items k ≡ writes_either old.now new.now k) }
+{
+    let mut keys = Vec::new(alloc);
+    keys.extend_from_slice(old.writes())?;
+    for key in new.writes() {
+        if !has_key(keys.as_slice(), *key) {
+            keys.push(*key)?;
+        }
+    }
+    Ok(keys)
+}
+
+/// The ids of the rows from a place on that become unsettled where just these keys get new recipes at that place. `NoMemory` where
+/// memory for the list was refused.
+pub(crate) fn unsettled_from(
+    alloc: Global,
+    rows: &Program<RowData>,
+    place: usize,
+    keys: &[Key],
+) -> Result<Vec<RowId>, Fault>
+    requires { place ≤ length rows.now.rows }
+    ensures ok { IfOk result (λ ids. ids_in ids.items ≡ touched data_plan (has_key keys.now) (drop place rows.now.rows)) }
+    ensures err { IfErr result (λ fault. fault ≡ FaultCase.NoMemory) }
+{
+    match affected(alloc, rows, place, keys) {
+        Ok(ids) => Ok(ids),
+        Err(_) => Err(Fault::NoMemory),
+    }
+}
+
+/// The ids of the rows from a place on that become unsettled where the row just before it gets another plan. `NoMemory` where memory
+/// for the list was refused.
+pub(crate) fn unsettled_by_replace(
+    alloc: Global,
+    rows: &Program<RowData>,
+    id: RowId,
+    below: usize,
+    plan: &Plan,
+) -> Result<Vec<RowId>, Fault>
+    requires within { below ≤ length rows.now.rows }
+    requires there { IsSome (place_of rows.now.rows id.0) }
+    ensures ok { IfOk result (λ ids. (row : RowShape) → row_of rows.now.rows id.0 ≡ Some row → ids_in ids.items ≡ touched data_plan (writes_either row.plan plan.now) (drop below rows.now.rows)) }
+    ensures err { IfErr result (λ fault. fault ≡ FaultCase.NoMemory) }
+{
+    match rows.row(id) {
+        Some(row) => {
+            let Ok(keys) = written_by_either(alloc, &row.plan, plan) else {
+                return Err(Fault::NoMemory);
+            };
+            unsettled_from(alloc, rows, below, keys.as_slice())
+        }
+        None => unreachable!(),
+    }
+}
