@@ -9,7 +9,7 @@ use std::process::Abort;
 use std::test::*;
 
 /// The key of a field.
-fn field(rt: &impl Abort, text: &[u8]) -> KeyName {
+pub(crate) fn field(rt: &impl Abort, text: &[u8]) -> KeyName {
     KeyName {
         name: name(rt, text),
         flag: None,
@@ -17,15 +17,20 @@ fn field(rt: &impl Abort, text: &[u8]) -> KeyName {
 }
 
 /// `u-add-3-1L c a b 8`.
-fn sum_of_both(rt: &impl Abort) -> Instr {
+pub(crate) fn sum_of_both(rt: &impl Abort) -> Instr {
     sum(rt, b"c", b"a", b"b", 8)
 }
 
-fn set(rt: &impl Abort, alloc: Global, text: &[u8], axes: &[u64]) -> Result<Edit, AllocError> {
+pub(crate) fn set(
+    rt: &impl Abort,
+    alloc: Global,
+    text: &[u8],
+    axes: &[u64],
+) -> Result<Edit, AllocError> {
     Ok(Edit::AddSet(name(rt, text), Items::new(Vec::from_slice(alloc, axes)?)))
 }
 
-fn declare(rt: &impl Abort, text: &[u8]) -> Edit {
+pub(crate) fn declare(rt: &impl Abort, text: &[u8]) -> Edit {
     Edit::AddField(name(rt, text), name(rt, b"s"), 8)
 }
 
@@ -44,19 +49,19 @@ fn input(
 }
 
 /// Makes an edit that is accepted.
-fn accept(rt: &impl Abort, book: &mut Book, edit: Edit) {
+pub(crate) fn accept(rt: &impl Abort, book: &mut Book, edit: Edit) {
     assert_eq!(rt; book.edit(edit), Ok(EditReply::Accepted));
 }
 
 /// Makes an edit that is refused.
-fn refuse(rt: &impl Abort, book: &mut Book, edit: Edit, fault: Fault) {
+pub(crate) fn refuse(rt: &impl Abort, book: &mut Book, edit: Edit, fault: Fault) {
     let count = book.edits();
     assert_eq!(rt; book.edit(edit), Err(fault));
     assert_eq!(rt; book.edits(), count);
 }
 
 /// Puts an instruction into the program, which becomes the row of this id.
-fn insert(rt: &impl Abort, book: &mut Book, spot: Spot, instr: Instr, id: u64) {
+pub(crate) fn insert(rt: &impl Abort, book: &mut Book, spot: Spot, instr: Instr, id: u64) {
     assert_eq!(rt;
         book.edit(Edit::Insert(spot, instr)),
         Ok(EditReply::Row(RowId(id)))
@@ -64,7 +69,7 @@ fn insert(rt: &impl Abort, book: &mut Book, spot: Spot, instr: Instr, id: u64) {
 }
 
 /// Gives a field these values, from a processor on.
-fn give(
+pub(crate) fn give(
     rt: &impl Abort,
     alloc: Global,
     book: &mut Book,
@@ -77,7 +82,7 @@ fn give(
 }
 
 /// A book with a set of four processors and the fields `a`, `b` and `c`.
-fn declared_book(rt: &impl Abort, alloc: Global) -> Result<Book, Fail> {
+pub(crate) fn declared_book(rt: &impl Abort, alloc: Global) -> Result<Book, Fail> {
     let mut book = Book::new(alloc);
     accept(rt, &mut book, set(rt, alloc, b"s", &[4])?);
     accept(rt, &mut book, declare(rt, b"a"));
@@ -87,7 +92,7 @@ fn declared_book(rt: &impl Abort, alloc: Global) -> Result<Book, Fail> {
 }
 
 /// A book with input data of `a` and `b`, and the sum of both as its one row.
-fn book_of_sum(rt: &impl Abort, alloc: Global) -> Result<Book, Fail> {
+pub(crate) fn book_of_sum(rt: &impl Abort, alloc: Global) -> Result<Book, Fail> {
     let mut book = declared_book(rt, alloc)?;
     give(rt, alloc, &mut book, b"a", 0, &[1, 2, 3, 4])?;
     give(rt, alloc, &mut book, b"b", 0, &[10, 20, 30, 0])?;
@@ -96,22 +101,22 @@ fn book_of_sum(rt: &impl Abort, alloc: Global) -> Result<Book, Fail> {
 }
 
 /// The result of the book's next order.
-fn next_done(rt: &impl Abort, alloc: Global, book: &mut Book) -> Result<Done, Fail> {
+pub(crate) fn next_done(rt: &impl Abort, alloc: Global, book: &mut Book) -> Result<Done, Fail> {
     let order = book.take()?.expect(rt, "a row is ready");
     run(rt, alloc, order)
 }
 
-fn run(rt: &impl Abort, alloc: Global, order: Order) -> Result<Done, Fail> {
+pub(crate) fn run(rt: &impl Abort, alloc: Global, order: Order) -> Result<Done, Fail> {
     Ok(execute(alloc, order).ok().expect(rt, "there is memory"))
 }
 
-fn takes_nothing(rt: &impl Abort, book: &mut Book) -> Result<(), Fail> {
+pub(crate) fn takes_nothing(rt: &impl Abort, book: &mut Book) -> Result<(), Fail> {
     assert!(rt; book.take()?.is_none());
     Ok(())
 }
 
 /// Brings a result, which is judged so.
-fn bring(rt: &impl Abort, book: &mut Book, done: Done, verdict: Verdict) {
+pub(crate) fn bring(rt: &impl Abort, book: &mut Book, done: Done, verdict: Verdict) {
     assert_eq!(rt; book.bring(done), verdict);
 }
 
@@ -124,7 +129,12 @@ fn settle_next(rt: &impl Abort, alloc: Global, book: &mut Book, id: u64) -> Resu
 }
 
 /// What is shown of a field at the end of the program is settled, and these numbers.
-fn shows(rt: &impl Abort, book: &Book, text: &[u8], wanted: &[u128]) -> Result<(), Fail> {
+pub(crate) fn shows(
+    rt: &impl Abort,
+    book: &Book,
+    text: &[u8],
+    wanted: &[u128],
+) -> Result<(), Fail> {
     match book.show(field(rt, text), Spot::End)? {
         Look::Settled(value) => assert_eq!(rt; value.numbers()?.as_slice(), wanted),
         Look::Pending(_) => assert!(rt; false),
@@ -133,7 +143,7 @@ fn shows(rt: &impl Abort, book: &Book, text: &[u8], wanted: &[u128]) -> Result<(
 }
 
 /// A field is pending at the end of the program, for the row of this id.
-fn waits(rt: &impl Abort, book: &Book, text: &[u8], id: u64) -> Result<(), Fail> {
+pub(crate) fn waits(rt: &impl Abort, book: &Book, text: &[u8], id: u64) -> Result<(), Fail> {
     match book.show(field(rt, text), Spot::End)? {
         Look::Settled(_) => assert!(rt; false),
         Look::Pending(row) => assert_eq!(rt; row, RowId(id)),
@@ -142,12 +152,12 @@ fn waits(rt: &impl Abort, book: &Book, text: &[u8], id: u64) -> Result<(), Fail>
 }
 
 /// Just so many edits were accepted.
-fn has_edits(rt: &impl Abort, book: &Book, count: u64) {
+pub(crate) fn has_edits(rt: &impl Abort, book: &Book, count: u64) {
     assert_eq!(rt; book.edits(), count);
 }
 
 /// Just so many rows aren't settled.
-fn has_unsettled(rt: &impl Abort, book: &Book, count: usize) {
+pub(crate) fn has_unsettled(rt: &impl Abort, book: &Book, count: usize) {
     assert_eq!(rt; book.unsettled_count(), count);
 }
 
@@ -315,7 +325,7 @@ fn order_among(rt: &impl Abort, replies: Vec<Reply>) -> Option<Order> {
     order
 }
 
-fn answer(rt: &impl Abort, book: &mut Book, event: Event) -> Reply {
+pub(crate) fn answer(rt: &impl Abort, book: &mut Book, event: Event) -> Reply {
     book.step(event).ok().expect(rt, "there is memory")
 }
 
@@ -374,7 +384,7 @@ fn events_are_answered_one_by_one(rt: HostRuntime) -> Result<(), Fail> {
 }
 
 /// A book of three rows, none of them settled: the sum of `a` and `b` in `c`, the sum of `a` and that in `a`, and a constant in `b`.
-fn book_of_three(rt: &impl Abort, alloc: Global) -> Result<Book, Fail> {
+pub(crate) fn book_of_three(rt: &impl Abort, alloc: Global) -> Result<Book, Fail> {
     let mut book = book_of_sum(rt, alloc)?;
     insert(rt, &mut book, Spot::End, sum(rt, b"a", b"c", b"c", 8), 2);
     insert(rt, &mut book, Spot::End, constant(rt, b"b", 5, 8), 3);
@@ -388,7 +398,7 @@ fn loses_an_order(rt: &impl Abort, book: &mut Book, id: u64) -> Result<(), Fail>
     Ok(())
 }
 
-fn settles(rt: &impl Abort, book: &mut Book, count: u64) {
+pub(crate) fn settles(rt: &impl Abort, book: &mut Book, count: u64) {
     assert_eq!(rt; book.settle(), Ok(count));
     has_unsettled(rt, book, 0);
 }
