@@ -9,7 +9,7 @@ use std::process::Abort;
 use std::test::*;
 
 /// The key of a field.
-pub(crate) fn field(rt: &impl Abort, text: &[u8]) -> KeyName {
+fn field(rt: &impl Abort, text: &[u8]) -> KeyName {
     KeyName {
         name: name(rt, text),
         flag: None,
@@ -17,20 +17,15 @@ pub(crate) fn field(rt: &impl Abort, text: &[u8]) -> KeyName {
 }
 
 /// `u-add-3-1L c a b 8`.
-pub(crate) fn sum_of_both(rt: &impl Abort) -> Instr {
+fn sum_of_both(rt: &impl Abort) -> Instr {
     sum(rt, b"c", b"a", b"b", 8)
 }
 
-pub(crate) fn set(
-    rt: &impl Abort,
-    alloc: Global,
-    text: &[u8],
-    axes: &[u64],
-) -> Result<Edit, AllocError> {
+fn set(rt: &impl Abort, alloc: Global, text: &[u8], axes: &[u64]) -> Result<Edit, AllocError> {
     Ok(Edit::AddSet(name(rt, text), Items::new(Vec::from_slice(alloc, axes)?)))
 }
 
-pub(crate) fn declare(rt: &impl Abort, text: &[u8]) -> Edit {
+fn declare(rt: &impl Abort, text: &[u8]) -> Edit {
     Edit::AddField(name(rt, text), name(rt, b"s"), 8)
 }
 
@@ -49,19 +44,19 @@ fn input(
 }
 
 /// Makes an edit that is accepted.
-pub(crate) fn accept(rt: &impl Abort, book: &mut Book, edit: Edit) {
+fn accept(rt: &impl Abort, book: &mut Book, edit: Edit) {
     assert_eq!(rt; book.edit(edit), Ok(EditReply::Accepted));
 }
 
 /// Makes an edit that is refused.
-pub(crate) fn refuse(rt: &impl Abort, book: &mut Book, edit: Edit, fault: Fault) {
+fn refuse(rt: &impl Abort, book: &mut Book, edit: Edit, fault: Fault) {
     let count = book.edits();
     assert_eq!(rt; book.edit(edit), Err(fault));
     assert_eq!(rt; book.edits(), count);
 }
 
 /// Puts an instruction into the program, which becomes the row of this id.
-pub(crate) fn insert(rt: &impl Abort, book: &mut Book, spot: Spot, instr: Instr, id: u64) {
+fn insert(rt: &impl Abort, book: &mut Book, spot: Spot, instr: Instr, id: u64) {
     assert_eq!(rt;
         book.edit(Edit::Insert(spot, instr)),
         Ok(EditReply::Row(RowId(id)))
@@ -69,7 +64,7 @@ pub(crate) fn insert(rt: &impl Abort, book: &mut Book, spot: Spot, instr: Instr,
 }
 
 /// Gives a field these values, from a processor on.
-pub(crate) fn give(
+fn give(
     rt: &impl Abort,
     alloc: Global,
     book: &mut Book,
@@ -82,7 +77,7 @@ pub(crate) fn give(
 }
 
 /// A book with a set of four processors and the fields `a`, `b` and `c`.
-pub(crate) fn declared_book(rt: &impl Abort, alloc: Global) -> Result<Book, Fail> {
+fn declared_book(rt: &impl Abort, alloc: Global) -> Result<Book, Fail> {
     let mut book = Book::new(alloc);
     accept(rt, &mut book, set(rt, alloc, b"s", &[4])?);
     accept(rt, &mut book, declare(rt, b"a"));
@@ -92,7 +87,7 @@ pub(crate) fn declared_book(rt: &impl Abort, alloc: Global) -> Result<Book, Fail
 }
 
 /// A book with input data of `a` and `b`, and the sum of both as its one row.
-pub(crate) fn book_of_sum(rt: &impl Abort, alloc: Global) -> Result<Book, Fail> {
+fn book_of_sum(rt: &impl Abort, alloc: Global) -> Result<Book, Fail> {
     let mut book = declared_book(rt, alloc)?;
     give(rt, alloc, &mut book, b"a", 0, &[1, 2, 3, 4])?;
     give(rt, alloc, &mut book, b"b", 0, &[10, 20, 30, 0])?;
@@ -101,22 +96,22 @@ pub(crate) fn book_of_sum(rt: &impl Abort, alloc: Global) -> Result<Book, Fail> 
 }
 
 /// The result of the book's next order.
-pub(crate) fn next_done(rt: &impl Abort, alloc: Global, book: &mut Book) -> Result<Done, Fail> {
+fn next_done(rt: &impl Abort, alloc: Global, book: &mut Book) -> Result<Done, Fail> {
     let order = book.take()?.expect(rt, "a row is ready");
     run(rt, alloc, order)
 }
 
-pub(crate) fn run(rt: &impl Abort, alloc: Global, order: Order) -> Result<Done, Fail> {
+fn run(rt: &impl Abort, alloc: Global, order: Order) -> Result<Done, Fail> {
     Ok(execute(alloc, order).ok().expect(rt, "there is memory"))
 }
 
-pub(crate) fn takes_nothing(rt: &impl Abort, book: &mut Book) -> Result<(), Fail> {
+fn takes_nothing(rt: &impl Abort, book: &mut Book) -> Result<(), Fail> {
     assert!(rt; book.take()?.is_none());
     Ok(())
 }
 
 /// Brings a result, which is judged so.
-pub(crate) fn bring(rt: &impl Abort, book: &mut Book, done: Done, verdict: Verdict) {
+fn bring(rt: &impl Abort, book: &mut Book, done: Done, verdict: Verdict) {
     assert_eq!(rt; book.bring(done), verdict);
 }
 
@@ -129,12 +124,7 @@ fn settle_next(rt: &impl Abort, alloc: Global, book: &mut Book, id: u64) -> Resu
 }
 
 /// What is shown of a field at the end of the program is settled, and these numbers.
-pub(crate) fn shows(
-    rt: &impl Abort,
-    book: &Book,
-    text: &[u8],
-    wanted: &[u128],
-) -> Result<(), Fail> {
+fn shows(rt: &impl Abort, book: &Book, text: &[u8], wanted: &[u128]) -> Result<(), Fail> {
     match book.show(field(rt, text), Spot::End)? {
         Look::Settled(value) => assert_eq!(rt; value.numbers()?.as_slice(), wanted),
         Look::Pending(_) => assert!(rt; false),
@@ -143,7 +133,7 @@ pub(crate) fn shows(
 }
 
 /// A field is pending at the end of the program, for the row of this id.
-pub(crate) fn waits(rt: &impl Abort, book: &Book, text: &[u8], id: u64) -> Result<(), Fail> {
+fn waits(rt: &impl Abort, book: &Book, text: &[u8], id: u64) -> Result<(), Fail> {
     match book.show(field(rt, text), Spot::End)? {
         Look::Settled(_) => assert!(rt; false),
         Look::Pending(row) => assert_eq!(rt; row, RowId(id)),
@@ -152,12 +142,12 @@ pub(crate) fn waits(rt: &impl Abort, book: &Book, text: &[u8], id: u64) -> Resul
 }
 
 /// Just so many edits were accepted.
-pub(crate) fn has_edits(rt: &impl Abort, book: &Book, count: u64) {
+fn has_edits(rt: &impl Abort, book: &Book, count: u64) {
     assert_eq!(rt; book.edits(), count);
 }
 
 /// Just so many rows aren't settled.
-pub(crate) fn has_unsettled(rt: &impl Abort, book: &Book, count: usize) {
+fn has_unsettled(rt: &impl Abort, book: &Book, count: usize) {
     assert_eq!(rt; book.unsettled_count(), count);
 }
 
@@ -325,7 +315,7 @@ fn order_among(rt: &impl Abort, replies: Vec<Reply>) -> Option<Order> {
     order
 }
 
-pub(crate) fn answer(rt: &impl Abort, book: &mut Book, event: Event) -> Reply {
+fn answer(rt: &impl Abort, book: &mut Book, event: Event) -> Reply {
     book.step(event).ok().expect(rt, "there is memory")
 }
 
@@ -384,7 +374,7 @@ fn events_are_answered_one_by_one(rt: HostRuntime) -> Result<(), Fail> {
 }
 
 /// A book of three rows, none of them settled: the sum of `a` and `b` in `c`, the sum of `a` and that in `a`, and a constant in `b`.
-pub(crate) fn book_of_three(rt: &impl Abort, alloc: Global) -> Result<Book, Fail> {
+fn book_of_three(rt: &impl Abort, alloc: Global) -> Result<Book, Fail> {
     let mut book = book_of_sum(rt, alloc)?;
     insert(rt, &mut book, Spot::End, sum(rt, b"a", b"c", b"c", 8), 2);
     insert(rt, &mut book, Spot::End, constant(rt, b"b", 5, 8), 3);
@@ -398,7 +388,7 @@ fn loses_an_order(rt: &impl Abort, book: &mut Book, id: u64) -> Result<(), Fail>
     Ok(())
 }
 
-pub(crate) fn settles(rt: &impl Abort, book: &mut Book, count: u64) {
+fn settles(rt: &impl Abort, book: &mut Book, count: u64) {
     assert_eq!(rt; book.settle(), Ok(count));
     has_unsettled(rt, book, 0);
 }

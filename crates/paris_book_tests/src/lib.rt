@@ -4,13 +4,9 @@
 #[cfg(test)]
 mod books;
 #[cfg(test)]
-mod edits;
-#[cfg(test)]
 mod instructions;
 #[cfg(test)]
 mod programs;
-#[cfg(test)]
-mod random;
 #[cfg(test)]
 mod sizes;
 #[cfg(test)]
