@@ -137,6 +137,3 @@ values_within count width from values h = by_test (eqb (length values) 0) (nat_l
 
 pub few_edits : (b : Board) (n m : ℕ) (inputs : Inputs) (es : List Entry) (s : State) → state_of b n m inputs es ≡ s → s.edits < 9223372036854775807 → n < 9223372036854775807
 few_edits b n m inputs es s y h = subst (λ (z : State). z.edits < 9223372036854775807) (sym y) h
-
-pub spot_within : (b : Board) (n m : ℕ) (inputs : Inputs) (es : List Entry) (s : State) (place : ℕ) → state_of b n m inputs es ≡ s → place ≤ length s.rows → place ≤ length es
-spot_within b n m inputs es s place y h = subst (λ k. place ≤ k) (length-map es row_of) (subst (λ (z : State). place ≤ length z.rows) (sym y) h)

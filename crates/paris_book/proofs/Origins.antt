@@ -12,14 +12,6 @@ use Rattle.paris_book.specs.Machine.{is_settled}
 use Rattle.paris_book.specs.Kept.{plan_of, last_kept, ripen, Sound}
 use Rattle.paris_book.specs.Entries.{Entry}
 
-pub origin-push : {X : Type 0} (work : X → Plan) (f : Key) (xs : List X) (x : X) → origin work f (xs ++ x ∷ []) ≡ cond (has_key (writes (work x)) f) (Some x) (origin work f xs)
-origin-push work f [] x = refl
-origin-push work f (y ∷ xs) x = rw (origin-push work f xs x) (by_has (has_key (writes (work x)) f))
-  where
-    by_has : (b : Bool) → option_or (cond b (Some x) (origin work f xs)) (cond (has_key (writes (work y)) f) (Some y) None) ≡ cond b (Some x) (option_or (origin work f xs) (cond (has_key (writes (work y)) f) (Some y) None))
-    by_has true = refl
-    by_has false = refl
-
 pub origin-map : {X Y : Type 0} (work : Y → Plan) (g : X → Y) (f : Key) (xs : List X) → origin work f (map g xs) ≡ option_map g (origin (λ x. work (g x)) f xs)
 origin-map work g f [] = refl
 origin-map {X} {Y} work g f (x ∷ xs) = rw (origin-map work g f xs) (by_both (origin (λ y. work (g y)) f xs) (has_key (writes (work (g x))) f))
