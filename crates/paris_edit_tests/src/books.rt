@@ -1,0 +1,60 @@
+//! Edits of a book that are accepted or refused, and results of its orders.
+
+use crate::spellings::*;
+use paris_book::{Book, Edit, EditReply};
+use paris_exec::{Done, Order, execute};
+use paris_instr::Instr;
+use paris_names::{Fault, Items, RowId, Spot};
+use std::alloc::{AllocError, Global};
+use std::process::Abort;
+use std::test::*;
+
+/// Declares a set with axes of these lengths.
+pub(crate) fn set(
+    rt: &impl Abort,
+    alloc: Global,
+    text: &[u8],
+    axes: &[u64],
+) -> Result<Edit, AllocError> {
+    Ok(Edit::AddSet(name(rt, text), Items::new(Vec::from_slice(alloc, axes)?)))
+}
+
+/// Declares a field of the set `s`, of width 8.
+pub(crate) fn declare(rt: &impl Abort, text: &[u8]) -> Edit {
+    Edit::AddField(name(rt, text), name(rt, b"s"), 8)
+}
+
+/// Makes an edit that is accepted.
+pub(crate) fn accept(rt: &impl Abort, book: &mut Book, edit: Edit) {
+    assert_eq!(rt; book.edit(edit), Ok(EditReply::Accepted));
+}
+
+/// Makes an edit that is refused.
+pub(crate) fn refuse(rt: &impl Abort, book: &mut Book, edit: Edit, fault: Fault) {
+    let count = book.edits();
+    assert_eq!(rt; book.edit(edit), Err(fault));
+    assert_eq!(rt; book.edits(), count);
+}
+
+/// Puts an instruction into the program, which becomes the row of this id.
+pub(crate) fn insert(rt: &impl Abort, book: &mut Book, spot: Spot, instr: Instr, id: u64) {
+    assert_eq!(rt;
+        book.edit(Edit::Insert(spot, instr)),
+        Ok(EditReply::Row(RowId(id)))
+    );
+}
+
+/// A book with a set of four processors and the fields `a`, `b` and `c`.
+pub(crate) fn declared_book(rt: &impl Abort, alloc: Global) -> Result<Book, Fail> {
+    let mut book = Book::new(alloc);
+    accept(rt, &mut book, set(rt, alloc, b"s", &[4])?);
+    accept(rt, &mut book, declare(rt, b"a"));
+    accept(rt, &mut book, declare(rt, b"b"));
+    accept(rt, &mut book, declare(rt, b"c"));
+    Ok(book)
+}
+
+/// The result of an order.
+pub(crate) fn run(rt: &impl Abort, alloc: Global, order: Order) -> Result<Done, Fail> {
+    Ok(execute(alloc, order).ok().expect(rt, "there is memory"))
+}

@@ -1,0 +1,973 @@
+//! Random edits, orders and results. After each of them the book is compared with rows that are kept beside it, and with a new
+//! book of the present program that is settled.
+
+use crate::books::{accept, declared_book, insert, refuse, run};
+use crate::spellings::*;
+use paris_book::{Book, Edit, Look, RowLook, Status, Verdict};
+use paris_exec::{Done, FieldValue, Order};
+use paris_instr::Instr;
+use paris_model::{Action, Comparison, Mail, Sign, UnaryOperator, Unconditional};
+use paris_names::{Edition, Fault, FlagName, Items, KeyName, RowId, Spot};
+use std::alloc::{AllocError, Global};
+use std::process::Abort;
+use std::test::*;
+
+/// The keys: the fields `a`, `b` and `c`, and then the flags.
+const KEYS: u64 = 7;
+
+const CONTEXT: u64 = 3;
+
+const TEST: u64 = 4;
+
+const CARRY: u64 = 5;
+
+const OVERFLOW: u64 = 6;
+
+/// Numbers that look random, and are the same in each run.
+#[derive(Drop)]
+struct Dice {
+    state: u64,
+}
+
+/// A number below a bound.
+fn throw(dice: &mut Dice, bound: u64) -> u64 {
+    dice.state = dice
+        .state
+        .wrapping_mul(6_364_136_223_846_793_005)
+        .wrapping_add(1_442_695_040_888_963_407);
+    (dice.state >> 33).checked_rem(bound).unwrap_or(0)
+}
+
+/// An instruction over the three fields, which stand by their numbers.
+#[derive(Clone, Copy, PartialEq, Eq, Debug)]
+enum Operation {
+    Sum { to: u64, left: u64, right: u64 },
+    Constant { to: u64, value: u64 },
+    Move { to: u64, from: u64 },
+    MoveAlways { to: u64, from: u64 },
+    Get { to: u64, addresses: u64, from: u64 },
+    Less { left: u64, right: u64 },
+    InvertContext,
+    AndContextWithTest,
+}
+
+fn field_text(number: u64) -> &'static [u8] {
+    match number {
+        0 => b"a".as_slice(),
+        1 => b"b".as_slice(),
+        _ => b"c".as_slice(),
+    }
+}
+
+fn key_name(rt: &impl Abort, key: u64) -> KeyName {
+    match key {
+        CONTEXT => flag_key(rt, FlagName::Context),
+        TEST => flag_key(rt, FlagName::Test),
+        CARRY => flag_key(rt, FlagName::Carry),
+        OVERFLOW => flag_key(rt, FlagName::Overflow),
+        _ => field_key(rt, field_text(key)),
+    }
+}
+
+fn move_always(rt: &impl Abort, to: &[u8], from: &[u8]) -> Instr {
+    Action::OnAll(Unconditional::MoveAlways {
+        to: name(rt, to),
+        from: name(rt, from),
+        length: 8,
+    })
+}
+
+fn get_by(rt: &impl Abort, to: &[u8], addresses: &[u8], from: &[u8]) -> Instr {
+    Action::ByMail(Mail::Get {
+        to: name(rt, to),
+        addresses: name(rt, addresses),
+        from: name(rt, from),
+        length: 8,
+    })
+}
+
+/// The instruction as it is written.
+fn spelled(rt: &impl Abort, operation: Operation) -> Instr {
+    match operation {
+        Operation::Sum { to, left, right } => {
+            sum(rt, field_text(to), field_text(left), field_text(right), 8)
+        }
+        Operation::Constant { to, value } => constant(rt, field_text(to), u128::from(value), 8),
+        Operation::Move { to, from } => {
+            unary(rt, UnaryOperator::Move, field_text(to), field_text(from), 8)
+        }
+        Operation::MoveAlways { to, from } => move_always(rt, field_text(to), field_text(from)),
+        Operation::Get {
+            to,
+            addresses,
+            from,
+        } => get_by(rt, field_text(to), field_text(addresses), field_text(from)),
+        Operation::Less { left, right } => compare(
+            rt,
+            Comparison::Less(Sign::Unsigned),
+            field_text(left),
+            field_text(right),
+            8,
+        ),
+        Operation::InvertContext => { Action::OnAll(Unconditional::InvertContext(name(rt, b"s"))) }
+        Operation::AndContextWithTest => {
+            Action::OnAll(Unconditional::AndContextWithTest(name(rt, b"s")))
+        }
+    }
+}
+
+/// Whether an instruction writes a key.
+fn writes(operation: Operation, key: u64) -> bool {
+    match operation {
+        Operation::Sum { to, .. } => key == to || key == CARRY || key == OVERFLOW,
+        Operation::Constant { to, .. }
+        | Operation::Move { to, .. }
+        | Operation::MoveAlways { to, .. }
+        | Operation::Get { to, .. } => key == to,
+        Operation::Less { .. } => key == TEST,
+        Operation::InvertContext | Operation::AndContextWithTest => key == CONTEXT,
+    }
+}
+
+/// Whether an instruction reads a key: a source, the context where it goes by that, and what it writes, but for a move in all
+/// processors, which leaves nothing of the old number.
+fn reads(operation: Operation, key: u64) -> bool {
+    match operation {
+        Operation::Sum { left, right, .. } => {
+            key == left || key == right || key == CONTEXT || writes(operation, key)
+        }
+        Operation::Constant { .. } => key == CONTEXT || writes(operation, key),
+        Operation::Move { from, .. } => { key == from || key == CONTEXT || writes(operation, key) }
+        Operation::MoveAlways { from, .. } => key == from,
+        Operation::Get {
+            addresses,
+            from,
+            ..
+        } => key == addresses || key == from || key == CONTEXT || writes(operation, key),
+        Operation::Less { left, right } => {
+            key == left || key == right || key == CONTEXT || writes(operation, key)
+        }
+        Operation::InvertContext => key == CONTEXT,
+        Operation::AndContextWithTest => key == CONTEXT || key == TEST,
+    }
+}
+
+/// A field's number.
+fn any_field(dice: &mut Dice) -> u64 {
+    throw(dice, 3)
+}
+
+/// A number of a field, which is an address of one of the four processors in most cases.
+fn any_number(dice: &mut Dice) -> u64 {
+    if throw(dice, 4) == 0 {
+        throw(dice, 256)
+    } else {
+        throw(dice, 4)
+    }
+}
+
+fn any_flag_instruction(dice: &mut Dice) -> Operation {
+    match throw(dice, 4) {
+        0 => Operation::InvertContext,
+        1 => Operation::AndContextWithTest,
+        _ => Operation::Less {
+            left: any_field(dice),
+            right: any_field(dice),
+        },
+    }
+}
+
+fn any_operation(dice: &mut Dice) -> Operation {
+    let (to, left, right) = (any_field(dice), any_field(dice), any_field(dice));
+    match throw(dice, 8) {
+        0 | 1 => Operation::Sum { to, left, right },
+        2 => Operation::Constant {
+            to,
+            value: any_number(dice),
+        },
+        3 | 4 => Operation::Move { to, from: left },
+        5 => Operation::MoveAlways { to, from: left },
+        6 => Operation::Get {
+            to,
+            addresses: left,
+            from: right,
+        },
+        _ => any_flag_instruction(dice),
+    }
+}
+
+/// A row as it has to be.
+#[derive(Clone, Copy, PartialEq, Eq, Debug)]
+struct Row {
+    id: u64,
+    set_by: u64,
+    operation: Operation,
+    edition: u64,
+    status: Status,
+}
+
+/// The last row above a place that writes a key.
+fn writer(rows: &[Row], place: usize, key: u64) -> Option<Row> {
+    let mut last = None;
+    for row in rows.iter().take(place) {
+        if writes(row.operation, key) {
+            last = Some(*row);
+        }
+    }
+    last
+}
+
+/// A code with a further number.
+fn joined(code: u64, number: u64) -> u64 {
+    let mixed = (code ^ number).wrapping_mul(11_400_714_819_323_198_485);
+    (mixed ^ (mixed >> 29)).wrapping_mul(13_787_848_793_156_543_929)
+}
+
+/// The code of the recipe of a key's origin, from the codes of the rows above. Where none of them writes the key, it is that of
+/// the edit that gave its start.
+fn origin_code(rows: &[Row], codes: &[u64], given: u64, key: u64) -> u64 {
+    let mut found = joined(0, given);
+    for (row, code) in rows.iter().zip(codes) {
+        if writes(row.operation, key) {
+            found = *code;
+        }
+    }
+    found
+}
+
+/// The code of a row's recipe: its id, the edit that set its instruction, and the recipes of the origins of the keys that it
+/// reads.
+fn row_code(rows: &[Row], codes: &[u64], given: &[u64], row: &Row) -> u64 {
+    let mut code = joined(joined(1, row.id), row.set_by);
+    for (key, number) in given.iter().enumerate() {
+        let key = key as u64;
+        if reads(row.operation, key) {
+            code = joined(code, origin_code(rows, codes, *number, key));
+        }
+    }
+    code
+}
+
+/// The codes of all rows' recipes.
+fn recipes(alloc: Global, rows: &[Row], given: &[u64]) -> Result<Vec<u64>, AllocError> {
+    let mut codes = Vec::new(alloc);
+    for row in rows {
+        let code = row_code(rows, codes.as_slice(), given, row);
+        codes.push(code)?;
+    }
+    Ok(codes)
+}
+
+/// A book and the rows that it has to have, with each key's numbers at the start and the edit that gave them; a new book of the
+/// same program, which is settled; a twin, which is given the same edits but for some numbers; and results that are brought
+/// late.
+#[derive(Drop)]
+struct Game {
+    alloc: Global,
+    dice: Dice,
+    book: Book,
+    once: Book,
+    twin: Book,
+    rows: Vec<Row>,
+    next: u64,
+    given: Vec<u64>,
+    start: Vec<Vec<u128>>,
+    late: Vec<Done>,
+    met: Met,
+}
+
+/// How often each verdict was met.
+#[derive(Clone, Copy, PartialEq, Eq, Debug)]
+struct Met {
+    gone: u64,
+    stale: u64,
+    repeated: u64,
+    foreign: u64,
+    kept: u64,
+}
+
+const NOTHING_MET: Met = Met {
+    gone: 0,
+    stale: 0,
+    repeated: 0,
+    foreign: 0,
+    kept: 0,
+};
+
+fn four(alloc: Global, number: u128) -> Result<Vec<u128>, AllocError> {
+    Vec::from_slice(alloc, &[number, number, number, number])
+}
+
+/// The numbers that keys have when they are declared.
+fn declared_numbers(alloc: Global) -> Result<Vec<Vec<u128>>, AllocError> {
+    let mut numbers = Vec::new(alloc);
+    for key in 0..KEYS {
+        let number = if key == CONTEXT { 1 } else { 0 };
+        numbers.push(four(alloc, number)?)?;
+    }
+    Ok(numbers)
+}
+
+fn new_game(rt: &impl Abort, alloc: Global, seed: u64) -> Result<Game, Fail> {
+    Ok(Game {
+        alloc,
+        dice: Dice { state: seed },
+        book: declared_book(rt, alloc)?,
+        once: declared_book(rt, alloc)?,
+        twin: declared_book(rt, alloc)?,
+        rows: Vec::new(alloc),
+        next: 1,
+        given: Vec::from_slice(alloc, &[2, 3, 4, 1, 1, 1, 1])?,
+        start: declared_numbers(alloc)?,
+        late: Vec::new(alloc),
+        met: NOTHING_MET,
+    })
+}
+
+/// Marks the rows whose recipes the last edit changed.
+fn mark(game: &mut Game, before: &[u64]) -> Result<(), AllocError> {
+    let number = game.book.edits();
+    let codes = recipes(game.alloc, game.rows.as_slice(), game.given.as_slice())?;
+    for (row, code) in game.rows.iter_mut().zip(codes) {
+        if !before.contains(&code) {
+            row.edition = number;
+            row.status = Status::Waiting;
+        }
+    }
+    Ok(())
+}
+
+fn present_recipes(game: &Game) -> Result<Vec<u64>, AllocError> {
+    recipes(game.alloc, game.rows.as_slice(), game.given.as_slice())
+}
+
+/// A key's numbers after an input from a processor on.
+fn with_input(
+    alloc: Global,
+    old: &[u128],
+    from: u64,
+    values: &[u128],
+) -> Result<Vec<u128>, AllocError> {
+    let mut new = Vec::new(alloc);
+    for (v, number) in old.iter().enumerate() {
+        let place = v.wrapping_sub(from as usize);
+        new.push(*values.get(place).unwrap_or(number))?;
+    }
+    Ok(new)
+}
+
+/// A number of a key. The context is 1 in most cases.
+fn any_value(dice: &mut Dice, key: u64) -> u128 {
+    if key == CONTEXT {
+        return if throw(dice, 4) == 0 { 0 } else { 1 };
+    }
+    let number = if key < CONTEXT {
+        any_number(dice)
+    } else {
+        throw(dice, 2)
+    };
+    u128::from(number)
+}
+
+/// Numbers for a key from a processor on.
+fn any_values(
+    alloc: Global,
+    dice: &mut Dice,
+    key: u64,
+    from: u64,
+) -> Result<Vec<u128>, AllocError> {
+    let count = throw(dice, 4_u64.wrapping_sub(from)).wrapping_add(1);
+    let mut values = Vec::new(alloc);
+    for _ in 0..count {
+        values.push(any_value(dice, key))?;
+    }
+    Ok(values)
+}
+
+/// The numbers that the twin is given: the same, or the last bit of each turned.
+fn twin_values(alloc: Global, dice: &mut Dice, values: &[u128]) -> Result<Vec<u128>, AllocError> {
+    let turned = if throw(dice, 3) == 0 { 1 } else { 0 };
+    let mut others = Vec::new(alloc);
+    for value in values {
+        others.push(*value ^ turned)?;
+    }
+    Ok(others)
+}
+
+fn give_both(
+    rt: &impl Abort,
+    game: &mut Game,
+    key: u64,
+    from: u64,
+    values: &[u128],
+) -> Result<(), AllocError> {
+    let own = Items::new(Vec::from_slice(game.alloc, values)?);
+    let others = Items::new(twin_values(game.alloc, &mut game.dice, values)?);
+    let name = key_name(rt, key);
+    accept(rt, &mut game.book, Edit::Input(name, from, own));
+    accept(rt, &mut game.twin, Edit::Input(name, from, others));
+    Ok(())
+}
+
+/// Keeps that the last edit gave a key these numbers.
+fn keep_start(game: &mut Game, key: u64, from: u64, values: &[u128]) -> Result<(), AllocError> {
+    let number = game.book.edits();
+    if let Some(given) = game.given.get_mut(key as usize) {
+        *given = number;
+    }
+    if let Some(numbers) = game.start.get_mut(key as usize) {
+        *numbers = with_input(game.alloc, numbers.as_slice(), from, values)?;
+    }
+    Ok(())
+}
+
+fn plays_input(rt: &impl Abort, game: &mut Game) -> Result<(), AllocError> {
+    let before = present_recipes(game)?;
+    let key = throw(&mut game.dice, KEYS);
+    let from = throw(&mut game.dice, 4);
+    let values = any_values(game.alloc, &mut game.dice, key, from)?;
+    give_both(rt, game, key, from, values.as_slice())?;
+    keep_start(game, key, from, values.as_slice())?;
+    mark(game, before.as_slice())
+}
+
+/// The instruction that the twin is given: the same, or another constant.
+fn twin_operation(dice: &mut Dice, operation: Operation) -> Operation {
+    match operation {
+        Operation::Constant { to, value } => Operation::Constant {
+            to,
+            value: value ^ throw(dice, 2),
+        },
+        _ => operation,
+    }
+}
+
+/// A place among so many rows, or the one behind them.
+fn any_place(dice: &mut Dice, count: usize) -> usize {
+    throw(dice, (count as u64).wrapping_add(1)) as usize
+}
+
+/// The spot just after the rows above a place.
+fn spot_at(rows: &[Row], place: usize) -> Spot {
+    match rows.iter().take(place).last() {
+        Some(row) => Spot::After(RowId(row.id)),
+        None => Spot::Start,
+    }
+}
+
+/// The spot of a place, which for that behind the last row is the end in half of the cases.
+fn any_spot(game: &mut Game, place: usize) -> Spot {
+    if place == game.rows.len() && throw(&mut game.dice, 2) == 0 {
+        Spot::End
+    } else {
+        spot_at(game.rows.as_slice(), place)
+    }
+}
+
+/// The rows with one more at a place.
+fn with_row(alloc: Global, rows: &[Row], place: usize, row: Row) -> Result<Vec<Row>, AllocError> {
+    let mut new = Vec::new(alloc);
+    for above in rows.iter().take(place) {
+        new.push(*above)?;
+    }
+    new.push(row)?;
+    for below in rows.iter().skip(place) {
+        new.push(*below)?;
+    }
+    Ok(new)
+}
+
+/// The rows but that at a place.
+fn without_row(alloc: Global, rows: &[Row], place: usize) -> Result<Vec<Row>, AllocError> {
+    let mut new = Vec::new(alloc);
+    for (i, row) in rows.iter().enumerate() {
+        if i != place {
+            new.push(*row)?;
+        }
+    }
+    Ok(new)
+}
+
+/// A row that the last edit put into the program or replaced.
+fn fresh(game: &Game, id: u64, operation: Operation) -> Row {
+    let number = game.book.edits();
+    Row {
+        id,
+        set_by: number,
+        operation,
+        edition: number,
+        status: Status::Waiting,
+    }
+}
+
+fn insert_both(rt: &impl Abort, game: &mut Game, spot: Spot, operation: Operation) {
+    let other = twin_operation(&mut game.dice, operation);
+    insert(rt, &mut game.book, spot, spelled(rt, operation), game.next);
+    insert(rt, &mut game.twin, spot, spelled(rt, other), game.next);
+}
+
+fn plays_insert(rt: &impl Abort, game: &mut Game) -> Result<(), AllocError> {
+    let before = present_recipes(game)?;
+    let place = any_place(&mut game.dice, game.rows.len());
+    let spot = any_spot(game, place);
+    let operation = any_operation(&mut game.dice);
+    insert_both(rt, game, spot, operation);
+    let row = fresh(game, game.next, operation);
+    game.next = game.next.wrapping_add(1);
+    game.rows = with_row(game.alloc, game.rows.as_slice(), place, row)?;
+    mark(game, before.as_slice())
+}
+
+fn plays_delete(
+    rt: &impl Abort,
+    game: &mut Game,
+    place: usize,
+    row: Row,
+) -> Result<(), AllocError> {
+    let before = present_recipes(game)?;
+    accept(rt, &mut game.book, Edit::Delete(RowId(row.id)));
+    accept(rt, &mut game.twin, Edit::Delete(RowId(row.id)));
+    game.rows = without_row(game.alloc, game.rows.as_slice(), place)?;
+    mark(game, before.as_slice())
+}
+
+fn replace_both(rt: &impl Abort, game: &mut Game, id: u64, operation: Operation) {
+    let other = twin_operation(&mut game.dice, operation);
+    let own = Edit::Replace(RowId(id), spelled(rt, operation));
+    accept(rt, &mut game.book, own);
+    let others = Edit::Replace(RowId(id), spelled(rt, other));
+    accept(rt, &mut game.twin, others);
+}
+
+/// Gives a row another instruction, or in some cases the same again.
+fn plays_replace(
+    rt: &impl Abort,
+    game: &mut Game,
+    place: usize,
+    row: Row,
+) -> Result<(), AllocError> {
+    let before = present_recipes(game)?;
+    let operation = if throw(&mut game.dice, 4) == 0 {
+        row.operation
+    } else {
+        any_operation(&mut game.dice)
+    };
+    replace_both(rt, game, row.id, operation);
+    let new = fresh(game, row.id, operation);
+    if let Some(old) = game.rows.get_mut(place) {
+        *old = new;
+    }
+    mark(game, before.as_slice())
+}
+
+/// Deletes or replaces a row. Where the dice give the place behind the last row, no row has the id, and the edit is refused.
+fn plays_change(rt: &impl Abort, game: &mut Game, deletes: bool) -> Result<(), AllocError> {
+    let place = any_place(&mut game.dice, game.rows.len());
+    match game.rows.get(place).copied() {
+        Some(row) if deletes => plays_delete(rt, game, place, row),
+        Some(row) => plays_replace(rt, game, place, row),
+        None => {
+            let unknown = Edit::Delete(RowId(game.next));
+            refuse(rt, &mut game.book, unknown, Fault::NoRow);
+            Ok(())
+        }
+    }
+}
+
+/// Inserts a row where there are few, and deletes one where there are many.
+fn plays_growth(rt: &impl Abort, game: &mut Game) -> Result<(), AllocError> {
+    if game.rows.len() < 6 {
+        plays_insert(rt, game)
+    } else {
+        plays_change(rt, game, true)
+    }
+}
+
+/// Whether the origin of a key above a place is the start or a settled row.
+fn is_firm(rows: &[Row], place: usize, key: u64) -> bool {
+    match writer(rows, place, key) {
+        Some(row) => row.status.is_settled(),
+        None => true,
+    }
+}
+
+/// Whether that holds of all keys that a row reads.
+fn has_firm_origins(rows: &[Row], place: usize, row: &Row) -> bool {
+    let mut firm = true;
+    for key in 0..KEYS {
+        if reads(row.operation, key) && !is_firm(rows, place, key) {
+            firm = false;
+        }
+    }
+    firm
+}
+
+/// The first row that waits, and all of whose origins are firm.
+fn first_ready(rows: &[Row]) -> Option<Row> {
+    for (place, row) in rows.iter().enumerate() {
+        if row.status.is_waiting() && has_firm_origins(rows, place, row) {
+            return Some(*row);
+        }
+    }
+    None
+}
+
+fn set_status(game: &mut Game, id: u64, status: Status) {
+    for row in game.rows.iter_mut() {
+        if row.id == id {
+            row.status = status;
+        }
+    }
+}
+
+/// Takes an order, which is for the first row that is ready.
+fn takes(rt: &impl Abort, game: &mut Game) -> Result<Option<Order>, AllocError> {
+    let order = game.book.take()?;
+    match (&order, first_ready(game.rows.as_slice())) {
+        (Some(order), Some(row)) => {
+            assert_eq!(rt; (order.id().0, order.edition().0), (row.id, row.edition));
+            set_status(game, row.id, Status::Out);
+        }
+        (None, None) => {}
+        _ => assert!(rt; false),
+    }
+    Ok(order)
+}
+
+/// A new book of the present declarations, input data and rows, which is settled.
+fn run_once(rt: &impl Abort, game: &Game) -> Result<Book, Fail> {
+    let mut book = declared_book(rt, game.alloc)?;
+    for (key, numbers) in game.start.iter().enumerate() {
+        let values = Items::new(Vec::from_slice(game.alloc, numbers.as_slice())?);
+        accept(
+            rt,
+            &mut book,
+            Edit::Input(key_name(rt, key as u64), 0, values),
+        );
+    }
+    for (place, row) in game.rows.iter().enumerate() {
+        let id = (place as u64).wrapping_add(1);
+        insert(rt, &mut book, Spot::End, spelled(rt, row.operation), id);
+    }
+    assert!(rt; book.settle().is_ok());
+    Ok(book)
+}
+
+/// The spot of a place in the new book, whose ids are counted from 1.
+fn spot_once(place: usize) -> Spot {
+    if place == 0 {
+        Spot::Start
+    } else {
+        Spot::After(RowId(place as u64))
+    }
+}
+
+/// Whether a value is that which a key has at a place where the program is run once.
+fn is_present(rt: &impl Abort, once: &Book, place: usize, key: u64, value: &FieldValue) -> bool {
+    match once.show(key_name(rt, key), spot_once(place)) {
+        Ok(Look::Settled(present)) => present.equals(value),
+        _ => {
+            assert!(rt; false);
+            false
+        }
+    }
+}
+
+/// Whether an order's inputs are the present ones for the row at a place.
+fn has_present_inputs(rt: &impl Abort, once: &Book, place: usize, row: &Row, done: &Done) -> bool {
+    let mut equal = true;
+    let mut inputs = done.order().inputs().iter();
+    for key in 0..KEYS {
+        if reads(row.operation, key) {
+            match inputs.next() {
+                Some(value) => equal = is_present(rt, once, place, key, value) && equal,
+                None => equal = false,
+            }
+        }
+    }
+    equal
+}
+
+/// Whether a result is for the plan and the inputs that the row at a place has now.
+fn belongs(rt: &impl Abort, game: &Game, place: usize, row: &Row, done: &Done) -> bool {
+    done.order().plan().instr() == spelled(rt, row.operation)
+        && has_firm_origins(game.rows.as_slice(), place, row)
+        && has_present_inputs(rt, &game.once, place, row, done)
+}
+
+/// What has to become of a result for the row at a place.
+fn verdict_at(rt: &impl Abort, game: &Game, place: usize, row: &Row, done: &Done) -> Verdict {
+    if Edition(row.edition) != done.order().edition() {
+        return Verdict::Stale(Edition(row.edition));
+    }
+    if row.status.is_settled() {
+        return Verdict::Repeated;
+    }
+    if belongs(rt, game, place, row, done) {
+        Verdict::Kept
+    } else {
+        Verdict::Foreign
+    }
+}
+
+/// What has to become of a result.
+fn verdict(rt: &impl Abort, game: &Game, done: &Done) -> Verdict {
+    for (place, row) in game.rows.iter().enumerate() {
+        if RowId(row.id) == done.order().id() {
+            return verdict_at(rt, game, place, row, done);
+        }
+    }
+    Verdict::Gone
+}
+
+fn note(met: &mut Met, verdict: Verdict) {
+    match verdict {
+        Verdict::Gone => met.gone = met.gone.wrapping_add(1),
+        Verdict::Stale(_) => met.stale = met.stale.wrapping_add(1),
+        Verdict::Repeated => met.repeated = met.repeated.wrapping_add(1),
+        Verdict::Foreign => met.foreign = met.foreign.wrapping_add(1),
+        Verdict::Kept => met.kept = met.kept.wrapping_add(1),
+    }
+}
+
+fn brings(rt: &impl Abort, game: &mut Game, done: Done) {
+    let wanted = verdict(rt, game, &done);
+    let id = done.order().id().0;
+    assert_eq!(rt; game.book.bring(done), wanted);
+    note(&mut game.met, wanted);
+    if wanted == Verdict::Kept {
+        set_status(game, id, Status::Settled);
+    }
+}
+
+/// Takes an order, and brings its result at once.
+fn plays_work(rt: &impl Abort, game: &mut Game) -> Result<(), Fail> {
+    if let Some(order) = takes(rt, game)? {
+        let done = run(rt, game.alloc, order)?;
+        brings(rt, game, done);
+    }
+    Ok(())
+}
+
+/// Takes an order, whose result may be brought later.
+fn plays_take(rt: &impl Abort, game: &mut Game) -> Result<(), Fail> {
+    if let Some(order) = takes(rt, game)? {
+        let done = run(rt, game.alloc, order)?;
+        game.late.push(done)?;
+    }
+    Ok(())
+}
+
+/// Lets the twin settle a row by a result, a copy of which may be brought later.
+fn twin_settles(rt: &impl Abort, game: &mut Game) -> Result<(), Fail> {
+    if let Some(order) = game.twin.take()? {
+        let done = run(rt, game.alloc, order)?;
+        let copy = done.copy()?;
+        assert_eq!(rt; game.twin.bring(done), Verdict::Kept);
+        game.late.push(copy)?;
+    }
+    Ok(())
+}
+
+/// Lets the twin settle its rows.
+fn plays_twin(rt: &impl Abort, game: &mut Game) -> Result<(), Fail> {
+    for _ in 0..game.twin.unsettled_count() {
+        twin_settles(rt, game)?;
+    }
+    Ok(())
+}
+
+/// One of the last eight results that were kept for later.
+fn any_late(game: &mut Game) -> Result<Option<Done>, AllocError> {
+    let back = throw(&mut game.dice, 8) as usize;
+    match game.late.iter().rev().nth(back) {
+        Some(done) => Ok(Some(done.copy()?)),
+        None => Ok(None),
+    }
+}
+
+/// Brings a copy of a late result, which may have been brought before.
+fn plays_late(rt: &impl Abort, game: &mut Game) -> Result<(), Fail> {
+    if let Some(done) = any_late(game)? {
+        brings(rt, game, done);
+    }
+    Ok(())
+}
+
+fn plays_release(game: &mut Game) {
+    game.book.release();
+    for row in game.rows.iter_mut() {
+        if row.status == Status::Out {
+            row.status = Status::Waiting;
+        }
+    }
+}
+
+fn plays_any_edit(rt: &impl Abort, game: &mut Game) -> Result<(), AllocError> {
+    match throw(&mut game.dice, 6) {
+        0 | 1 => plays_input(rt, game),
+        2 => plays_change(rt, game, true),
+        3 => plays_change(rt, game, false),
+        _ => plays_growth(rt, game),
+    }
+}
+
+/// Makes an edit, and runs the program once that it leaves.
+fn plays_edit(rt: &impl Abort, game: &mut Game) -> Result<(), Fail> {
+    plays_any_edit(rt, game)?;
+    game.once = run_once(rt, game)?;
+    Ok(())
+}
+
+fn plays_any(rt: &impl Abort, game: &mut Game) -> Result<(), Fail> {
+    match throw(&mut game.dice, 16) {
+        0..=4 => plays_edit(rt, game),
+        5..=7 => plays_work(rt, game),
+        8 | 9 => plays_take(rt, game),
+        10 => plays_twin(rt, game),
+        11..=14 => plays_late(rt, game),
+        _ => {
+            plays_release(game);
+            Ok(())
+        }
+    }
+}
+
+/// The row that is listed for a row, whose cause is that of the program that is run once where the row is settled.
+fn listed(rt: &impl Abort, row: &Row, once: &RowLook) -> RowLook {
+    RowLook {
+        id: RowId(row.id),
+        edition: Edition(row.edition),
+        status: row.status,
+        instr: spelled(rt, row.operation),
+        cause: if row.status.is_settled() {
+            once.cause
+        } else {
+            None
+        },
+    }
+}
+
+/// The book lists the rows that it has to have, and settled rows are refused as in the program that is run once.
+fn lists_rightly(rt: &impl Abort, game: &Game) -> Result<(), AllocError> {
+    let (looks, wanted) = (game.book.list()?, game.once.list()?);
+    assert_eq!(rt; looks.len(), game.rows.len());
+    for (row, (look, once)) in game
+        .rows
+        .iter()
+        .zip(looks.as_slice().iter().zip(wanted.as_slice()))
+    {
+        assert_eq!(rt; *look, listed(rt, row, once));
+    }
+    Ok(())
+}
+
+/// As many rows are unsettled as have to be.
+fn counts_rightly(rt: &impl Abort, game: &Game) {
+    let mut count: usize = 0;
+    for row in game.rows.iter() {
+        if !row.status.is_settled() {
+            count = count.wrapping_add(1);
+        }
+    }
+    assert_eq!(rt; game.book.unsettled_count(), count);
+}
+
+/// The unsettled row that is a key's origin at a place.
+fn pending(rows: &[Row], place: usize, key: u64) -> Option<RowId> {
+    match writer(rows, place, key) {
+        Some(row) if !row.status.is_settled() => Some(RowId(row.id)),
+        _ => None,
+    }
+}
+
+/// A key is shown at a place: as pending for its origin, or with the value of the program that is run once.
+fn shows_rightly(
+    rt: &impl Abort,
+    game: &Game,
+    place: usize,
+    spot: Spot,
+    key: u64,
+) -> Result<(), Fault> {
+    let waits = pending(game.rows.as_slice(), place, key);
+    match game.book.show(key_name(rt, key), spot)? {
+        Look::Settled(value) => {
+            assert!(rt; waits.is_none() && is_present(rt, &game.once, place, key, value));
+        }
+        Look::Pending(id) => assert_eq!(rt; Some(id), waits),
+    }
+    Ok(())
+}
+
+fn shows_all_rightly(rt: &impl Abort, game: &Game, place: usize, spot: Spot) -> Result<(), Fault> {
+    for key in 0..KEYS {
+        shows_rightly(rt, game, place, spot, key)?;
+    }
+    Ok(())
+}
+
+/// The list, and each key at the end.
+fn is_right(rt: &impl Abort, game: &Game) -> Result<(), Fail> {
+    counts_rightly(rt, game);
+    lists_rightly(rt, game)?;
+    Ok(shows_all_rightly(rt, game, game.rows.len(), Spot::End)?)
+}
+
+/// Each key at the start and after each row.
+fn is_right_everywhere(rt: &impl Abort, game: &Game) -> Result<(), Fault> {
+    for place in 0..game.rows.len().wrapping_add(1) {
+        let spot = spot_at(game.rows.as_slice(), place);
+        shows_all_rightly(rt, game, place, spot)?;
+    }
+    Ok(())
+}
+
+/// How many games are played.
+const GAMES: u64 = 48;
+/// How many steps a game has.
+const STEPS: u64 = 64;
+
+/// Plays a step. After each eighth one the book is looked at everywhere.
+fn plays_step(rt: &impl Abort, game: &mut Game, step: u64) -> Result<(), Fail> {
+    plays_any(rt, game)?;
+    is_right(rt, game)?;
+    if step % 8 == 7 {
+        is_right_everywhere(rt, game)?;
+    }
+    Ok(())
+}
+
+/// Plays a game, and tells which verdicts were met.
+fn plays(rt: &impl Abort, alloc: Global, seed: u64) -> Result<Met, Fail> {
+    let mut game = new_game(rt, alloc, seed)?;
+    for step in 0..STEPS {
+        plays_step(rt, &mut game, step)?;
+    }
+    Ok(game.met)
+}
+
+fn both(one: Met, other: Met) -> Met {
+    Met {
+        gone: one.gone.wrapping_add(other.gone),
+        stale: one.stale.wrapping_add(other.stale),
+        repeated: one.repeated.wrapping_add(other.repeated),
+        foreign: one.foreign.wrapping_add(other.foreign),
+        kept: one.kept.wrapping_add(other.kept),
+    }
+}
+
+fn plays_games(rt: &impl Abort, alloc: Global, first: u64) -> Result<Met, Fail> {
+    let mut met = NOTHING_MET;
+    for seed in 0..GAMES {
+        met = both(met, plays(rt, alloc, first.wrapping_add(seed))?);
+    }
+    Ok(met)
+}
+
+#[test]
+fn a_book_agrees_with_a_single_run_after_random_steps(rt: HostRuntime) -> Result<(), Fail> {
+    let met = plays_games(&rt, rt.alloc(), 1987)?;
+    assert!(rt; met.gone > 0 && met.stale > 0 && met.repeated > 0);
+    assert!(rt; met.foreign > 0 && met.kept > 0);
+    Ok(())
+}
