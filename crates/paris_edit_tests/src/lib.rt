@@ -6,6 +6,10 @@ mod books;
 #[cfg(test)]
 mod edits;
 #[cfg(test)]
+mod ledger;
+#[cfg(test)]
+mod operations;
+#[cfg(test)]
 mod random;
 #[cfg(test)]
 mod spellings;

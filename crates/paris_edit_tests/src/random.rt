@@ -2,261 +2,19 @@
 //! book of the present program that is settled.
 
 use crate::books::{accept, declared_book, insert, refuse, run};
-use crate::spellings::*;
+use crate::ledger::{
+    Row, first_ready, has_firm_origins, pending, recipes, spot_at, with_row, without_row,
+};
+use crate::operations::{
+    CONTEXT, Dice, KEYS, Operation, any_operation, any_place, any_values, key_name, reads, spelled,
+    throw, twin_operation, twin_values,
+};
 use paris_book::{Book, Edit, Look, RowLook, Status, Verdict};
 use paris_exec::{Done, FieldValue, Order};
-use paris_instr::Instr;
-use paris_model::{Action, Comparison, Mail, Sign, UnaryOperator, Unconditional};
-use paris_names::{Edition, Fault, FlagName, Items, KeyName, RowId, Spot};
+use paris_names::{Edition, Fault, Items, RowId, Spot};
 use std::alloc::{AllocError, Global};
 use std::process::Abort;
 use std::test::*;
-
-/// The keys: the fields `a`, `b` and `c`, and then the flags.
-const KEYS: u64 = 7;
-
-const CONTEXT: u64 = 3;
-
-const TEST: u64 = 4;
-
-const CARRY: u64 = 5;
-
-const OVERFLOW: u64 = 6;
-
-/// Numbers that look random, and are the same in each run.
-#[derive(Drop)]
-struct Dice {
-    state: u64,
-}
-
-/// A number below a bound.
-fn throw(dice: &mut Dice, bound: u64) -> u64 {
-    dice.state = dice
-        .state
-        .wrapping_mul(6_364_136_223_846_793_005)
-        .wrapping_add(1_442_695_040_888_963_407);
-    (dice.state >> 33).checked_rem(bound).unwrap_or(0)
-}
-
-/// An instruction over the three fields, which stand by their numbers.
-#[derive(Clone, Copy, PartialEq, Eq, Debug)]
-enum Operation {
-    Sum { to: u64, left: u64, right: u64 },
-    Constant { to: u64, value: u64 },
-    Move { to: u64, from: u64 },
-    MoveAlways { to: u64, from: u64 },
-    Get { to: u64, addresses: u64, from: u64 },
-    Less { left: u64, right: u64 },
-    InvertContext,
-    AndContextWithTest,
-}
-
-fn field_text(number: u64) -> &'static [u8] {
-    match number {
-        0 => b"a".as_slice(),
-        1 => b"b".as_slice(),
-        _ => b"c".as_slice(),
-    }
-}
-
-fn key_name(rt: &impl Abort, key: u64) -> KeyName {
-    match key {
-        CONTEXT => flag_key(rt, FlagName::Context),
-        TEST => flag_key(rt, FlagName::Test),
-        CARRY => flag_key(rt, FlagName::Carry),
-        OVERFLOW => flag_key(rt, FlagName::Overflow),
-        _ => field_key(rt, field_text(key)),
-    }
-}
-
-fn move_always(rt: &impl Abort, to: &[u8], from: &[u8]) -> Instr {
-    Action::OnAll(Unconditional::MoveAlways {
-        to: name(rt, to),
-        from: name(rt, from),
-        length: 8,
-    })
-}
-
-fn get_by(rt: &impl Abort, to: &[u8], addresses: &[u8], from: &[u8]) -> Instr {
-    Action::ByMail(Mail::Get {
-        to: name(rt, to),
-        addresses: name(rt, addresses),
-        from: name(rt, from),
-        length: 8,
-    })
-}
-
-/// The instruction as it is written.
-fn spelled(rt: &impl Abort, operation: Operation) -> Instr {
-    match operation {
-        Operation::Sum { to, left, right } => {
-            sum(rt, field_text(to), field_text(left), field_text(right), 8)
-        }
-        Operation::Constant { to, value } => constant(rt, field_text(to), u128::from(value), 8),
-        Operation::Move { to, from } => {
-            unary(rt, UnaryOperator::Move, field_text(to), field_text(from), 8)
-        }
-        Operation::MoveAlways { to, from } => move_always(rt, field_text(to), field_text(from)),
-        Operation::Get {
-            to,
-            addresses,
-            from,
-        } => get_by(rt, field_text(to), field_text(addresses), field_text(from)),
-        Operation::Less { left, right } => compare(
-            rt,
-            Comparison::Less(Sign::Unsigned),
-            field_text(left),
-            field_text(right),
-            8,
-        ),
-        Operation::InvertContext => { Action::OnAll(Unconditional::InvertContext(name(rt, b"s"))) }
-        Operation::AndContextWithTest => {
-            Action::OnAll(Unconditional::AndContextWithTest(name(rt, b"s")))
-        }
-    }
-}
-
-/// Whether an instruction writes a key.
-fn writes(operation: Operation, key: u64) -> bool {
-    match operation {
-        Operation::Sum { to, .. } => key == to || key == CARRY || key == OVERFLOW,
-        Operation::Constant { to, .. }
-        | Operation::Move { to, .. }
-        | Operation::MoveAlways { to, .. }
-        | Operation::Get { to, .. } => key == to,
-        Operation::Less { .. } => key == TEST,
-        Operation::InvertContext | Operation::AndContextWithTest => key == CONTEXT,
-    }
-}
-
-/// Whether an instruction reads a key: a source, the context where it goes by that, and what it writes, but for a move in all
-/// processors, which leaves nothing of the old number.
-fn reads(operation: Operation, key: u64) -> bool {
-    match operation {
-        Operation::Sum { left, right, .. } => {
-            key == left || key == right || key == CONTEXT || writes(operation, key)
-        }
-        Operation::Constant { .. } => key == CONTEXT || writes(operation, key),
-        Operation::Move { from, .. } => { key == from || key == CONTEXT || writes(operation, key) }
-        Operation::MoveAlways { from, .. } => key == from,
-        Operation::Get {
-            addresses,
-            from,
-            ..
-        } => key == addresses || key == from || key == CONTEXT || writes(operation, key),
-        Operation::Less { left, right } => {
-            key == left || key == right || key == CONTEXT || writes(operation, key)
-        }
-        Operation::InvertContext => key == CONTEXT,
-        Operation::AndContextWithTest => key == CONTEXT || key == TEST,
-    }
-}
-
-/// A field's number.
-fn any_field(dice: &mut Dice) -> u64 {
-    throw(dice, 3)
-}
-
-/// A number of a field, which is an address of one of the four processors in most cases.
-fn any_number(dice: &mut Dice) -> u64 {
-    if throw(dice, 4) == 0 {
-        throw(dice, 256)
-    } else {
-        throw(dice, 4)
-    }
-}
-
-fn any_flag_instruction(dice: &mut Dice) -> Operation {
-    match throw(dice, 4) {
-        0 => Operation::InvertContext,
-        1 => Operation::AndContextWithTest,
-        _ => Operation::Less {
-            left: any_field(dice),
-            right: any_field(dice),
-        },
-    }
-}
-
-fn any_operation(dice: &mut Dice) -> Operation {
-    let (to, left, right) = (any_field(dice), any_field(dice), any_field(dice));
-    match throw(dice, 8) {
-        0 | 1 => Operation::Sum { to, left, right },
-        2 => Operation::Constant {
-            to,
-            value: any_number(dice),
-        },
-        3 | 4 => Operation::Move { to, from: left },
-        5 => Operation::MoveAlways { to, from: left },
-        6 => Operation::Get {
-            to,
-            addresses: left,
-            from: right,
-        },
-        _ => any_flag_instruction(dice),
-    }
-}
-
-/// A row as it has to be.
-#[derive(Clone, Copy, PartialEq, Eq, Debug)]
-struct Row {
-    id: u64,
-    set_by: u64,
-    operation: Operation,
-    edition: u64,
-    status: Status,
-}
-
-/// The last row above a place that writes a key.
-fn writer(rows: &[Row], place: usize, key: u64) -> Option<Row> {
-    let mut last = None;
-    for row in rows.iter().take(place) {
-        if writes(row.operation, key) {
-            last = Some(*row);
-        }
-    }
-    last
-}
-
-/// A code with a further number.
-fn joined(code: u64, number: u64) -> u64 {
-    let mixed = (code ^ number).wrapping_mul(11_400_714_819_323_198_485);
-    (mixed ^ (mixed >> 29)).wrapping_mul(13_787_848_793_156_543_929)
-}
-
-/// The code of the recipe of a key's origin, from the codes of the rows above. Where none of them writes the key, it is that of
-/// the edit that gave its start.
-fn origin_code(rows: &[Row], codes: &[u64], given: u64, key: u64) -> u64 {
-    let mut found = joined(0, given);
-    for (row, code) in rows.iter().zip(codes) {
-        if writes(row.operation, key) {
-            found = *code;
-        }
-    }
-    found
-}
-
-/// The code of a row's recipe: its id, the edit that set its instruction, and the recipes of the origins of the keys that it
-/// reads.
-fn row_code(rows: &[Row], codes: &[u64], given: &[u64], row: &Row) -> u64 {
-    let mut code = joined(joined(1, row.id), row.set_by);
-    for (key, number) in given.iter().enumerate() {
-        let key = key as u64;
-        if reads(row.operation, key) {
-            code = joined(code, origin_code(rows, codes, *number, key));
-        }
-    }
-    code
-}
-
-/// The codes of all rows' recipes.
-fn recipes(alloc: Global, rows: &[Row], given: &[u64]) -> Result<Vec<u64>, AllocError> {
-    let mut codes = Vec::new(alloc);
-    for row in rows {
-        let code = row_code(rows, codes.as_slice(), given, row);
-        codes.push(code)?;
-    }
-    Ok(codes)
-}
 
 /// A book and the rows that it has to have, with each key's numbers at the start and the edit that gave them; a new book of the
 /// same program, which is settled; a twin, which is given the same edits but for some numbers; and results that are brought
@@ -356,44 +114,6 @@ fn with_input(
     Ok(new)
 }
 
-/// A number of a key. The context is 1 in most cases.
-fn any_value(dice: &mut Dice, key: u64) -> u128 {
-    if key == CONTEXT {
-        return if throw(dice, 4) == 0 { 0 } else { 1 };
-    }
-    let number = if key < CONTEXT {
-        any_number(dice)
-    } else {
-        throw(dice, 2)
-    };
-    u128::from(number)
-}
-
-/// Numbers for a key from a processor on.
-fn any_values(
-    alloc: Global,
-    dice: &mut Dice,
-    key: u64,
-    from: u64,
-) -> Result<Vec<u128>, AllocError> {
-    let count = throw(dice, 4_u64.wrapping_sub(from)).wrapping_add(1);
-    let mut values = Vec::new(alloc);
-    for _ in 0..count {
-        values.push(any_value(dice, key))?;
-    }
-    Ok(values)
-}
-
-/// The numbers that the twin is given: the same, or the last bit of each turned.
-fn twin_values(alloc: Global, dice: &mut Dice, values: &[u128]) -> Result<Vec<u128>, AllocError> {
-    let turned = if throw(dice, 3) == 0 { 1 } else { 0 };
-    let mut others = Vec::new(alloc);
-    for value in values {
-        others.push(*value ^ turned)?;
-    }
-    Ok(others)
-}
-
 fn give_both(
     rt: &impl Abort,
     game: &mut Game,
@@ -431,30 +151,6 @@ fn plays_input(rt: &impl Abort, game: &mut Game) -> Result<(), AllocError> {
     mark(game, before.as_slice())
 }
 
-/// The instruction that the twin is given: the same, or another constant.
-fn twin_operation(dice: &mut Dice, operation: Operation) -> Operation {
-    match operation {
-        Operation::Constant { to, value } => Operation::Constant {
-            to,
-            value: value ^ throw(dice, 2),
-        },
-        _ => operation,
-    }
-}
-
-/// A place among so many rows, or the one behind them.
-fn any_place(dice: &mut Dice, count: usize) -> usize {
-    throw(dice, (count as u64).wrapping_add(1)) as usize
-}
-
-/// The spot just after the rows above a place.
-fn spot_at(rows: &[Row], place: usize) -> Spot {
-    match rows.iter().take(place).last() {
-        Some(row) => Spot::After(RowId(row.id)),
-        None => Spot::Start,
-    }
-}
-
 /// The spot of a place, which for that behind the last row is the end in half of the cases.
 fn any_spot(game: &mut Game, place: usize) -> Spot {
     if place == game.rows.len() && throw(&mut game.dice, 2) == 0 {
@@ -462,30 +158,6 @@ fn any_spot(game: &mut Game, place: usize) -> Spot {
     } else {
         spot_at(game.rows.as_slice(), place)
     }
-}
-
-/// The rows with one more at a place.
-fn with_row(alloc: Global, rows: &[Row], place: usize, row: Row) -> Result<Vec<Row>, AllocError> {
-    let mut new = Vec::new(alloc);
-    for above in rows.iter().take(place) {
-        new.push(*above)?;
-    }
-    new.push(row)?;
-    for below in rows.iter().skip(place) {
-        new.push(*below)?;
-    }
-    Ok(new)
-}
-
-/// The rows but that at a place.
-fn without_row(alloc: Global, rows: &[Row], place: usize) -> Result<Vec<Row>, AllocError> {
-    let mut new = Vec::new(alloc);
-    for (i, row) in rows.iter().enumerate() {
-        if i != place {
-            new.push(*row)?;
-        }
-    }
-    Ok(new)
 }
 
 /// A row that the last edit put into the program or replaced.
@@ -581,35 +253,6 @@ fn plays_growth(rt: &impl Abort, game: &mut Game) -> Result<(), AllocError> {
     } else {
         plays_change(rt, game, true)
     }
-}
-
-/// Whether the origin of a key above a place is the start or a settled row.
-fn is_firm(rows: &[Row], place: usize, key: u64) -> bool {
-    match writer(rows, place, key) {
-        Some(row) => row.status.is_settled(),
-        None => true,
-    }
-}
-
-/// Whether that holds of all keys that a row reads.
-fn has_firm_origins(rows: &[Row], place: usize, row: &Row) -> bool {
-    let mut firm = true;
-    for key in 0..KEYS {
-        if reads(row.operation, key) && !is_firm(rows, place, key) {
-            firm = false;
-        }
-    }
-    firm
-}
-
-/// The first row that waits, and all of whose origins are firm.
-fn first_ready(rows: &[Row]) -> Option<Row> {
-    for (place, row) in rows.iter().enumerate() {
-        if row.status.is_waiting() && has_firm_origins(rows, place, row) {
-            return Some(*row);
-        }
-    }
-    None
 }
 
 fn set_status(game: &mut Game, id: u64, status: Status) {
@@ -873,14 +516,6 @@ fn counts_rightly(rt: &impl Abort, game: &Game) {
     assert_eq!(rt; game.book.unsettled_count(), count);
 }
 
-/// The unsettled row that is a key's origin at a place.
-fn pending(rows: &[Row], place: usize, key: u64) -> Option<RowId> {
-    match writer(rows, place, key) {
-        Some(row) if !row.status.is_settled() => Some(RowId(row.id)),
-        _ => None,
-    }
-}
-
 /// A key is shown at a place: as pending for its origin, or with the value of the program that is run once.
 fn shows_rightly(
     rt: &impl Abort,
@@ -924,6 +559,7 @@ fn is_right_everywhere(rt: &impl Abort, game: &Game) -> Result<(), Fault> {
 
 /// How many games are played.
 const GAMES: u64 = 48;
+
 /// How many steps a game has.
 const STEPS: u64 = 64;
 
