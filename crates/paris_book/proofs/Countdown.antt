@@ -73,7 +73,7 @@ settled_is Waiting h = absurd (let x : false ≡ true = h in cc)
 settled_is Out h = absurd (let x : false ≡ true = h in cc)
 settled_is Settled h = refl
 
-none_left : (rs : List Row) → unsettled_rows rs ≡ 0 → rs ≡ map settled_row rs
+pub none_left : (rs : List Row) → unsettled_rows rs ≡ 0 → rs ≡ map settled_row rs
 none_left [] h = refl
 none_left (r ∷ rs) h = by_status (is_settled r.status) refl (none_left rs) h
   where
@@ -99,7 +99,7 @@ pub times_all : (rs : List Row) → settled_times (unsettled_rows rs) rs ≡ map
 times_all rs = none_left (settled_times (unsettled_rows rs) rs) (count_times (unsettled_rows rs) 0 rs (add-zero (unsettled_rows rs))) ∙ settled_all (unsettled_rows rs) rs
 
 -- after a release no row is out, and the same rows are unsettled
-idle_recalled : (rs : List Row) → IsIdle (map recalled_row rs)
+pub idle_recalled : (rs : List Row) → IsIdle (map recalled_row rs)
 idle_recalled [] = tt
 idle_recalled (r ∷ rs) = (by_status r.status, idle_recalled rs)
   where
@@ -116,7 +116,7 @@ pub count_recalled : (rs : List Row) → unsettled_rows (map recalled_row rs) �
 count_recalled [] = refl
 count_recalled (r ∷ rs) = ap₂ (λ b n. cond b 0 1 + n) (settled_same r.status) (count_recalled rs)
 
-settled_recalled : (rs : List Row) → map settled_row (map recalled_row rs) ≡ map settled_row rs
+pub settled_recalled : (rs : List Row) → map settled_row (map recalled_row rs) ≡ map settled_row rs
 settled_recalled [] = refl
 settled_recalled (r ∷ rs) = ap (λ xs. settled_row r ∷ xs) (settled_recalled rs)
 
@@ -154,13 +154,19 @@ count_out [] k r x u = refl
 count_out (y ∷ rs) zero r x u = let same : y ≡ r = cc in ap (λ b. cond b 0 1 + unsettled_rows rs) (sym (ap (λ (z : Row). is_settled z.status) same ∙ u))
 count_out (y ∷ rs) (suc k) r x u = ap (λ n. cond (is_settled y.status) 0 1 + n) (count_out rs k r x u)
 
+-- the row of the next order stands at its place, and waits
+pub next_waits : (s : State) (k : ℕ) (r : Row) → next_ready s ≡ Some (k, r) → (slice_get s.rows k ≡ Some r) × (is_waiting r.status ≡ true)
+next_waits s k r e =
+    let at = find_at_place (λ (x : ℕ × Row). is_ready s x.0 x.1) s.rows 0 k r e in
+    let ready : is_ready s k r ≡ true = found_passes (λ (x : ℕ × Row). is_ready s x.0 x.1) (enumerate_from 0 s.rows) (k, r) e in
+    let place : at.0 ≡ k = omega (arith, at.1) in (
+      subst (λ i. slice_get s.rows i ≡ Some r) place at.2,
+      and_first (is_waiting r.status) (list_all (λ j. is_firm (origin_at s k j)) (reads r.plan)) ready,
+    )
+
 pub take_left : (s : State) → unsettled_rows (after_take s).rows ≡ unsettled_rows s.rows
 take_left s = by_next (next_ready s) refl
   where
     by_next : (o : Option (ℕ × Row)) → next_ready s ≡ o → unsettled_rows (taken s o).rows ≡ unsettled_rows s.rows
     by_next None e = refl
-    by_next (Some (k, r)) e =
-        let at = find_at_place (λ (x : ℕ × Row). is_ready s x.0 x.1) s.rows 0 k r e in
-        let ready : is_ready s k r ≡ true = found_passes (λ (x : ℕ × Row). is_ready s x.0 x.1) (enumerate_from 0 s.rows) (k, r) e in
-        let place : at.0 ≡ k = omega (arith, at.1) in
-        count_out s.rows k r (subst (λ i. slice_get s.rows i ≡ Some r) place at.2) (waiting_unsettled r.status (and_first (is_waiting r.status) (list_all (λ j. is_firm (origin_at s k j)) (reads r.plan)) ready))
+    by_next (Some (k, r)) e = let waits = next_waits s k r e in count_out s.rows k r waits.0 (waiting_unsettled r.status waits.1)

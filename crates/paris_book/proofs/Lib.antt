@@ -16,6 +16,7 @@ pub mod RefusalHere
 pub mod RefusedRows
 pub mod Releases
 pub mod Replaces
+pub mod Rounding
 pub mod Runs
 pub mod Settling
 pub mod Shows

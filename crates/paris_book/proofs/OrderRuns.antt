@@ -110,7 +110,7 @@ apart_at i (y ∷ rs) zero r h x = let same : y ≡ r = cc in subst (λ (z : Row
 apart_at i (y ∷ rs) (suc k) r h x = apart_at i rs k r (or_second (eqb y.id.0 i) (list_any (λ j. eqb j i) (row_ids rs)) h) x
 
 -- a row is found by its id, whatever its status
-find_put : (rs : List Row) (n k m : ℕ) (r x : Row) → m ≡ n + k → x.id ≡ r.id → slice_get rs k ≡ Some r → IdsApart (row_ids rs) → find (λ e. eqb e.1.id.0 r.id.0) (enumerate_from n (set rs k x)) ≡ Some (m, x)
+pub find_put : (rs : List Row) (n k m : ℕ) (r x : Row) → m ≡ n + k → x.id ≡ r.id → slice_get rs k ≡ Some r → IdsApart (row_ids rs) → find (λ e. eqb e.1.id.0 r.id.0) (enumerate_from n (set rs k x)) ≡ Some (m, x)
 find_put [] n k m r x e id at apart = absurd (cc)
 find_put (y ∷ rs) n zero m r x e id at apart =
     let place : n ≡ m = omega arith in
@@ -129,15 +129,20 @@ same_values (x ∷ xs) = ap₂ (λ a b. a && b) (same_value x) (same_values xs)
 abbrev out_row : Row → Row
 out_row r = record r { status = Out }
 
--- the order of a row that is out is kept, where all rows before it are settled
+-- the order that an unsettled row would give is kept, where all rows before it are settled
+pub present_kept : (s : State) (k : ℕ) (r : Row) → is_settled r.status ≡ false → are_settled (take k s.rows) ≡ true → verdict_at s (k, r) (order_of s (k, r)) ≡ Kept
+present_kept s k r unsettled before =
+    let firm : list_all (λ j. is_firm (origin row_plan j (take k s.rows))) (reads r.plan) ≡ true = all_pass (λ j. is_firm (origin row_plan j (take k s.rows))) (λ j. firm_settled (take k s.rows) j before) (reads r.plan) in
+    let values : pointwise field_eq (inputs_now s k r.plan) (inputs_now s k r.plan) ≡ true = same_values (inputs_now s k r.plan) in
+    rw (eq-eqb r.edition.0 r.edition.0 refl, unsettled, plan_same r.plan, firm, values) refl
+
+-- and so is its order where it is out
 own_kept : (s : State) (k : ℕ) (r : Row) → are_settled (take k s.rows) ≡ true → verdict_at (with_status s (k, r) Out) (k, out_row r) (order_of s (k, r)) ≡ Kept
 own_kept s k r before =
-    let front : take k (set s.rows k (out_row r)) ≡ take k s.rows = take-set s.rows k (out_row r) in
-    let firm : list_all (λ j. is_firm (origin row_plan j (take k (set s.rows k (out_row r))))) (reads r.plan) ≡ true =
-    all_pass (λ j. is_firm (origin row_plan j (take k (set s.rows k (out_row r))))) (λ j. ap (λ xs. is_firm (origin row_plan j xs)) front ∙ firm_settled (take k s.rows) j before) (reads r.plan) in
-    let values : pointwise field_eq (inputs_now (with_status s (k, r) Out) k r.plan) (inputs_now s k r.plan) ≡ true =
-    ap (λ (xs : List Row). pointwise field_eq (map (λ j. field_of r.plan j (run (start_world s.inputs) (map row_plan xs) j)) (reads r.plan)) (inputs_now s k r.plan)) front ∙ same_values (inputs_now s k r.plan) in
-    rw (eq-eqb r.edition.0 r.edition.0 refl, plan_same r.plan, firm, values) refl
+    let u : State = with_status s (k, r) Out in
+    let front : take k u.rows ≡ take k s.rows = take-set s.rows k (out_row r) in
+    ap (λ (xs : List Row). verdict_at u (k, out_row r) (record { id = r.id; edition = r.edition; plan = r.plan; inputs = map (λ j. field_of r.plan j (run (start_world s.inputs) (map row_plan xs) j)) (reads r.plan) })) (sym front)
+    ∙ present_kept u k (out_row r) refl (ap are_settled front ∙ before)
 
 pub run_settles : (s : State) → IsIdle s.rows → IdsApart (row_ids s.rows) → after_run s ≡ record s { rows = first_settled s.rows }
 run_settles s idle apart = by_first (first_of s.rows)

@@ -4,5 +4,6 @@ pub mod Events
 pub mod Kept
 pub mod Machine
 pub mod Marks
+pub mod Rounds
 pub mod Verdicts
 pub mod Whole

@@ -9,6 +9,7 @@ mod listing;
 mod looks;
 mod marks;
 mod refusals;
+mod rounds;
 pub mod rows;
 pub mod settlement;
 

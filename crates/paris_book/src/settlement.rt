@@ -15,7 +15,7 @@ use thiserror::Error;
 #[derive(Clone, Copy, PartialEq, Eq, Debug, Error)]
 #[error("no memory after {ran} orders were run")]
 pub struct SettleFault {
-    /// How many orders were run before that, each of which settled its row.
+    /// How many orders were run all the same, each of which settled its row.
     pub ran: u64,
 }
 

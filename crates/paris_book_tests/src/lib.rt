@@ -8,6 +8,8 @@ mod instructions;
 #[cfg(test)]
 mod programs;
 #[cfg(test)]
+mod settling;
+#[cfg(test)]
 mod sizes;
 #[cfg(test)]
 mod spellings;

@@ -79,8 +79,8 @@ fn give_flags(
     Ok(())
 }
 
-/// Puts instructions at the end of a program, and settles it.
-pub(crate) fn run(rt: &impl Abort, book: &mut Book, program: &[Instr]) {
+/// Puts instructions into a program of no rows, and answers how many they are.
+pub(crate) fn append(rt: &impl Abort, book: &mut Book, program: &[Instr]) -> u64 {
     let mut count: u64 = 0;
     for instr in program {
         count = count.wrapping_add(1);
@@ -89,6 +89,12 @@ pub(crate) fn run(rt: &impl Abort, book: &mut Book, program: &[Instr]) {
             Ok(EditReply::Row(RowId(count)))
         );
     }
+    count
+}
+
+/// Puts instructions into a program of no rows, and settles it.
+pub(crate) fn run(rt: &impl Abort, book: &mut Book, program: &[Instr]) {
+    let count = append(rt, book, program);
     assert!(rt; book.settle() == Ok(count));
     assert_eq!(rt; book.unsettled_count(), 0);
 }

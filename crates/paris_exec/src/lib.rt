@@ -3,8 +3,10 @@
 
 pub mod execution;
 pub mod fields;
+pub mod gate;
 pub mod orders;
 
 pub use execution::execute;
 pub use fields::FieldValue;
+pub use gate::{Gate, OpenGate};
 pub use orders::{Done, Order, Outcome};

@@ -1,0 +1,8 @@
+-- Each round left a row fewer unsettled, and all else as it was.
+use Rattle.std.proofs.Common.{◌+◌, ◌≤◌}
+use Rattle.paris_book.specs.Machine.{unsettled_rows}
+use Rattle.paris_book.specs.Rounds.{Advances}
+use Rattle.paris_book.proofs.book.Book.settle_par.Given as goal
+
+abbrev pub invariant-loop-round : goal.invariant-loop-round
+invariant-loop-round g l = Advances l.fn.self l.self × (unsettled_rows l.self.rows + l._round ≤ unsettled_rows l.fn.self.rows)
