@@ -1,0 +1,2 @@
+pub mod RefusedWords
+pub mod TakenWords

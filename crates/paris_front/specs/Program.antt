@@ -31,6 +31,13 @@ pub record Finishes (reader_old reader_new writer_old writer_new errors_old erro
   pub status_is : status ≡ exit_status (sitting_after read).refusals
   pub silent : Keeps errors_old errors_new
 
+-- the words were refused: nothing was read and nothing was written, but for what is said of them
+pub record Refuses (reader_old reader_new writer_old writer_new errors_old errors_new : Option (List ℕ)) : Type 0 where
+  pub said : List ℕ
+  pub unread : Keeps reader_old reader_new
+  pub unwritten : Keeps writer_old writer_new
+  pub told : Appends errors_old errors_new said
+
 -- a fault stopped the run, the status says which, and a front of the line that names it was written
 pub record Stops (reader_old reader_new writer_old writer_new errors_old errors_new : Option (List ℕ)) (status : ℕ) : Type 0 where
   pub fault : RunFault

@@ -2,17 +2,47 @@
 #![tactic(auto)]
 
 mod program;
+mod words;
 
+use std::env::Env;
 use std::process::ExitCode;
+use std::{env, io};
+use words::WordsFault;
+
+/// The words of the command line behind the program's name.
+fn words_behind_name<H: Env + AllocGlobal>(rt: &H) -> io::Result<Vec<String>> {
+    let mut words = Vec::new(rt.alloc());
+    for word in env::args(rt)?.skip(1) {
+        words.push(word)?;
+    }
+    Ok(words)
+}
 
 fn main(rt: HostRuntime) -> ExitCode {
-    let words = Vec::new(rt.alloc());
-    let mut reader = rt.stdin();
-    let mut writer = rt.stdout();
     let mut errors = rt.stderr();
-    let status = program::run_words(&rt, words.as_slice(), &mut reader, &mut writer, &mut errors);
+    let status = match words_behind_name(&rt) {
+        Ok(words) => {
+            let mut reader = rt.stdin();
+            let mut writer = rt.stdout();
+            program::run_words(&rt, words.as_slice(), &mut reader, &mut writer, &mut errors)
+        }
+        Err(error) => {
+            let fault = if error.kind() == io::ErrorKind::OutOfMemory {
+                WordsFault::NoMemory
+            } else {
+                WordsFault::NotText
+            };
+            program::refuse_words(&rt, &mut errors, &fault)
+        }
+    };
     ExitCode::from(status)
 }
 
+#[cfg(test)]
+mod cuts;
+#[cfg(test)]
+mod rows;
+#[cfg(test)]
+mod scripts;
 #[cfg(test)]
 mod tests;

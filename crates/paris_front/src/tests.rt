@@ -4,11 +4,13 @@ ghost use Rattle.std.specs.Prelude.{Some};
 
 use crate::program::run_words;
 use paris_session::{RunFault, Summary, Tally, run_counted};
+use std::alloc::Global;
 use std::io;
 use std::io::{ErrorKind, Read, Write};
 use std::process::Abort;
 use std::sync::Wait;
 use std::test::*;
+use std::thread::Threads;
 
 /// Gives at most `step` bytes a call. Call `fails` fails, and each odd call is interrupted where `interrupts`.
 #[derive(Drop)]
@@ -84,7 +86,12 @@ fn slow_reader(bytes: &[u8], step: usize) -> Slow<'_> {
 }
 
 /// Runs a script, and asserts the status and what is written. Nothing is written for a fault.
-fn assert_run<H: Abort + Wait + AllocGlobal>(rt: &H, script: &[u8], status: u8, want: &[u8]) {
+fn assert_run<H: Abort + Threads + Wait + Sync + AllocGlobal>(
+    rt: &H,
+    script: &[u8],
+    status: u8,
+    want: &[u8],
+) {
     let words = Vec::new(rt.alloc());
     let mut reader = script;
     let mut out = Vec::new(rt.alloc());
@@ -96,109 +103,97 @@ fn assert_run<H: Abort + Wait + AllocGlobal>(rt: &H, script: &[u8], status: u8, 
 }
 
 #[test]
-fn shows_a_sum_after_take_and_bring(rt: HostRuntime) {
-    let script =
-        b"set S 4\nfield a S 8\nfield b S 8\nfield c S 8\ninput a 0 10 20 30 250\ninput b 0 1 2 3 10\ninsert end u-add-3-1L c a b 8\nshow c end\ntake\nbring 1\nshow c end\n";
-    let want =
-        b"ok\nok\nok\nok\nok\nok\nrow 1\npending 1\norder 1 row 1 edition 7\nkept\nvalues 11 22 33 4\n";
-    assert_run(&rt, script, 0, want);
-}
-
-#[test]
-fn shows_overflow_at_the_end_alone(rt: HostRuntime) {
-    let script =
-        b"set S 4\nfield a S 8\nfield b S 8\nfield c S 8\ninput a 0 10 20 30 250\ninput b 0 1 2 3 10\ninsert end u-add-3-1L c a b 8\nshow c end\ntake\nbring 1\nshow c end\nshow S.overflow end\nshow c start\n";
-    let want =
-        b"ok\nok\nok\nok\nok\nok\nrow 1\npending 1\norder 1 row 1 edition 7\nkept\nvalues 11 22 33 4\nvalues 0 0 0 1\nvalues 0 0 0 0\n";
-    assert_run(&rt, script, 0, want);
-}
-
-#[test]
-fn equal_input_makes_a_taken_order_stale(rt: HostRuntime) {
-    let script =
-        b"set S 4\nfield a S 8\nfield b S 8\nfield c S 8\ninput a 0 10 20 30 250\ninput b 0 1 2 3 10\ninsert end u-add-3-1L c a b 8\ntake\ninput a 0 10 20 30 250\nbring 1\ntake\nbring 2\nbring 2\ntake\n";
-    let want =
-        b"ok\nok\nok\nok\nok\nok\nrow 1\norder 1 row 1 edition 7\nok\nstale 8\norder 2 row 1 edition 8\nkept\nrepeated\nnothing\n";
-    assert_run(&rt, script, 0, want);
-}
-
-#[test]
-fn refuses_edits_by_their_faults(rt: HostRuntime) {
-    let script =
-        b"set S 4\nfield a S 8\nset T 3\nset S 2\nfield q U 8\nfield a S 9\nfield q S 65\ninput zz 0 1\ninput a 3 1 2\ninput a 0 1 300\nbring 7\n";
-    let want =
-        b"ok\nok\nrefused 2\nrefused 3\nrefused 4\nrefused 3\nrefused 6\nrefused 7\nrefused 8\nrefused 9 1\nrefused 22\n";
-    assert_run(&rt, script, 1, want);
-}
-
-#[test]
-fn writes_nothing_for_an_empty_script(rt: HostRuntime) {
-    let script = b"";
-    let want = b"";
-    assert_run(&rt, script, 0, want);
-}
-
-#[test]
-fn writes_nothing_for_an_empty_line(rt: HostRuntime) {
-    let script = b"\n";
-    let want = b"";
-    assert_run(&rt, script, 0, want);
-}
-
-#[test]
-fn refuses_one_set_too_many(rt: HostRuntime) {
-    let script =
-        b"set s0 1\nset s1 1\nset s2 1\nset s3 1\nset s4 1\nset s5 1\nset s6 1\nset s7 1\nset s8 1\n";
-    let want = b"ok\nok\nok\nok\nok\nok\nok\nok\nrefused 1\n";
-    assert_run(&rt, script, 1, want);
-}
-
-#[test]
-fn refuses_one_field_too_many(rt: HostRuntime) {
-    let script =
-        b"set S 4\nfield f0 S 1\nfield f1 S 1\nfield f2 S 1\nfield f3 S 1\nfield f4 S 1\nfield f5 S 1\nfield f6 S 1\nfield f7 S 1\nfield f8 S 1\nfield f9 S 1\nfield f10 S 1\nfield f11 S 1\nfield f12 S 1\nfield f13 S 1\nfield f14 S 1\nfield f15 S 1\nfield f16 S 1\nfield f17 S 1\nfield f18 S 1\nfield f19 S 1\nfield f20 S 1\nfield f21 S 1\nfield f22 S 1\nfield f23 S 1\nfield f24 S 1\nfield f25 S 1\nfield f26 S 1\nfield f27 S 1\nfield f28 S 1\nfield f29 S 1\nfield f30 S 1\nfield f31 S 1\nfield f32 S 1\nfield f33 S 1\nfield f34 S 1\nfield f35 S 1\nfield f36 S 1\nfield f37 S 1\nfield f38 S 1\nfield f39 S 1\nfield f40 S 1\nfield f41 S 1\nfield f42 S 1\nfield f43 S 1\nfield f44 S 1\nfield f45 S 1\nfield f46 S 1\nfield f47 S 1\nfield f48 S 1\nfield f49 S 1\nfield f50 S 1\nfield f51 S 1\nfield f52 S 1\nfield f53 S 1\nfield f54 S 1\nfield f55 S 1\nfield f56 S 1\nfield f57 S 1\nfield f58 S 1\nfield f59 S 1\nfield f60 S 1\nfield f61 S 1\nfield f62 S 1\nfield f63 S 1\nfield g S 1\n";
-    let want =
-        b"ok\nok\nok\nok\nok\nok\nok\nok\nok\nok\nok\nok\nok\nok\nok\nok\nok\nok\nok\nok\nok\nok\nok\nok\nok\nok\nok\nok\nok\nok\nok\nok\nok\nok\nok\nok\nok\nok\nok\nok\nok\nok\nok\nok\nok\nok\nok\nok\nok\nok\nok\nok\nok\nok\nok\nok\nok\nok\nok\nok\nok\nok\nok\nok\nok\nrefused 5\n";
-    assert_run(&rt, script, 1, want);
-}
-
-#[test]
-fn unselected_processors_keep_their_flags(rt: HostRuntime) {
-    let script =
-        b"set S 4\nfield a S 8\nfield b S 8\nfield c S 8\ninput S.context 0 1 0 1 1\ninput S.carry 0 0 1 0 1\ninput S.overflow 0 0 1 0 1\ninput a 0 255 255 1 1\ninput b 0 1 1 1 1\ninput c 0 9 9 9 9\ninsert end u-add-3-1L c a b 8\ntake\nbring 1\nshow c end\nshow S.carry end\nshow S.overflow end\n";
-    let want =
-        b"ok\nok\nok\nok\nok\nok\nok\nok\nok\nok\nrow 1\norder 1 row 1 edition 11\nkept\nvalues 0 9 2 2\nvalues 1 1 0 0\nvalues 1 1 0 0\n";
-    assert_run(&rt, script, 0, want);
-}
-
-#[test]
-fn refuses_fields_of_128_bits(rt: HostRuntime) {
-    let script = b"set S 2\nfield a S 128\nfield b S 128\nfield c S 128\n";
-    let want = b"ok\nrefused 6\nrefused 6\nrefused 6\n";
-    assert_run(&rt, script, 1, want);
-}
-
-#[test]
-fn paris_begins_no_command(rt: HostRuntime) {
-    let script = b"paris 2\nparis 1\n";
-    let want = b"refused 20 1\nrefused 20 1\n";
-    assert_run(&rt, script, 1, want);
-}
-
-#[test]
 fn refuses_lines_outside_the_grammar(rt: HostRuntime) {
     let script =
-        b"set S 04\nset  S 4\nset S 4 \n set S 4\ninput S.context 0\ninput S.flag 0 1\nbring 18446744073709551616\ntake x\ninsert start u-move-constant-1L a 1 1\nshow S.test middle\nbring 18446744073709551615\nbring 0\n# note\nset S 4\r\nset none 4\n";
+        b"set S 04\nset  S 4\nset S 4 \n set S 4\nset S 2x\nset S 2x04\nset S 2x2 4\ninput S.context 0\ninput S.flag 0 1\ninput a 0 1 340282366920938463463374607431768211456\nbring 18446744073709551616\ntake x\ninsert start u-move-constant-1L a 1\ninsert after u-move-constant-1L a 1 1\ninsert middle set-test S\ninsert end set-test\ninsert end u-add-4-1L a a a 8\ninsert end get-from-news-1L a a 0 up 8\ninsert end scan-with-u-add-1L a a 0 8 upward all none\ninsert end send-1L a a a 8 9\nreplace 1\nreplace 1 set-test S S\ndelete one\nshow S.test middle\nshow S.test after\nshow S.test after 1 2\nlist all\nfaults 1\nsettle now\nrelease 1\nbring 18446744073709551615\nbring 0\n# note\nset S 4\r\nset none 4\n";
     let want =
-        b"refused 20 1\nrefused 20 1\nrefused 20 1\nrefused 20 1\nrefused 20 1\nrefused 20 1\nrefused 20 1\nrefused 20 1\nrefused 20 1\nrefused 20 1\nrefused 22\nrefused 22\nrefused 20 1\nrefused 20 1\n";
+        b"refused 20 7\nrefused 20 5\nrefused 20 9\nrefused 20 1\nrefused 20 7\nrefused 20 7\nrefused 20 11\nrefused 20 18\nrefused 20 7\nrefused 20 13\nrefused 20 7\nrefused 20 6\nrefused 20 36\nrefused 20 14\nrefused 20 8\nrefused 20 20\nrefused 20 12\nrefused 20 35\nrefused 20 46\nrefused 20 28\nrefused 20 10\nrefused 20 22\nrefused 20 8\nrefused 20 13\nrefused 20 18\nrefused 20 21\nrefused 20 6\nrefused 20 8\nrefused 20 8\nrefused 20 9\nrefused 22\nrefused 22\nrefused 20 7\nrefused 20 5\n";
     assert_run(&rt, script, 1, want);
 }
 
 #[test]
-fn refuses_an_overlong_line_and_reads_on(rt: HostRuntime) -> Result<(), Fail> {
-    let mut script = vec![in rt.alloc(); b'x'; 65537]?;
-    script.extend_from_slice(b"\ntake")?;
-    assert_run(&rt, script.as_slice(), 1, b"refused 20 1\nnothing\n");
+fn lists_rows_by_status(rt: HostRuntime) {
+    let script =
+        b"list\nset S 4\nfield a S 8\ninsert end u-move-constant-1L a 5 8\ninsert start set-context S\nlist\ntake\nlist\nsettle\nlist\nfaults\n";
+    let want =
+        b"rows 0\nok\nok\nrow 1\nrow 2\nrows 2\n2 edition 4 waiting set-context S\n1 edition 4 waiting u-move-constant-1L a 5 8\norder 1 row 2 edition 4\nrows 2\n2 edition 4 out set-context S\n1 edition 4 waiting u-move-constant-1L a 5 8\nsettled 2\nrows 2\n2 edition 4 settled set-context S\n1 edition 4 settled u-move-constant-1L a 5 8\nfaults 0\n";
+    assert_run(&rt, script, 0, want);
+}
+
+#[test]
+fn tells_the_causes_of_refused_rows(rt: HostRuntime) {
+    let script =
+        b"set S 4\nfield d S 8\nfield p S 8\nfield q S 8\ninput p 0 3 3 0 1\ninput q 0 0 9 0 0\ninsert end send-1L d p q 8 none\ninsert end get-1L d q p 8\nfaults\nsettle\nfaults\n";
+    let want =
+        b"ok\nok\nok\nok\nok\nok\nrow 1\nrow 2\nfaults 0\nsettled 2\nfaults 2\n1 collision 3\n2 bad-address 1\n";
+    assert_run(&rt, script, 0, want);
+}
+
+#[test]
+fn released_orders_stay_in_the_tray(rt: HostRuntime) {
+    let script =
+        b"set S 4\nfield a S 8\ninsert end u-move-constant-1L a 5 8\ntake\ntake\nrelease\ntake\nbring 1\nbring 2\nshow a end\n";
+    let want =
+        b"ok\nok\nrow 1\norder 1 row 1 edition 3\nnothing\nok\norder 2 row 1 edition 3\nkept\nrepeated\nvalues 5 5 5 5\n";
+    assert_run(&rt, script, 0, want);
+}
+
+#[test]
+fn edits_rows_by_id(rt: HostRuntime) {
+    let script =
+        b"set S 2x2\nfield a S 8\nfield b S 8\ninsert end u-move-constant-1L a 1 8\ninsert after 1 u-move-1L b a 8\nreplace 1 u-move-constant-1L a 2 8\nsettle\nshow b end\nshow b after 1\ndelete 2\nshow b end\ndelete 2\nreplace 1 u-move-1L a c 8\n";
+    let want =
+        b"ok\nok\nok\nrow 1\nrow 2\nok\nsettled 2\nvalues 2 2 2 2\nvalues 0 0 0 0\nok\nvalues 0 0 0 0\nrefused 10\nrefused 7\n";
+    assert_run(&rt, script, 1, want);
+}
+
+/// The words of a command line that is cut at spaces.
+fn words_in(alloc: Global, line: &str) -> Result<Vec<String>, Fail> {
+    let mut words = Vec::new(alloc);
+    for word in line.split(' ') {
+        words.push(String::from_str(alloc, word)?)?;
+    }
+    Ok(words)
+}
+
+#[test]
+fn takes_a_number_of_workers(rt: HostRuntime) -> Result<(), Fail> {
+    for line in ["--workers 16", "--workers=1", "--workers 2"] {
+        let words = words_in(rt.alloc(), line)?;
+        let mut reader = b"settle\n".as_slice();
+        let mut out = Vec::new(rt.alloc());
+        let mut errors = Vec::new(rt.alloc());
+        let status = run_words(&rt, words.as_slice(), &mut reader, &mut out, &mut errors);
+        assert_eq!(rt; status, 0, "at {line}");
+        assert_eq!(rt; out.as_slice(), b"settled 0\n".as_slice(), "at {line}");
+        assert!(rt; errors.is_empty(), "at {line}");
+    }
+    Ok(())
+}
+
+#[test]
+fn refuses_other_words(rt: HostRuntime) -> Result<(), Fail> {
+    for line in [
+        "--workers 17",
+        "--workers 0",
+        "--workers",
+        "--workers x",
+        "--workers 1 --workers 2",
+        "--desk",
+        "x",
+        "",
+        "--help",
+    ] {
+        let words = words_in(rt.alloc(), line)?;
+        let mut reader = b"take\n".as_slice();
+        let mut out = Vec::new(rt.alloc());
+        let mut errors = Vec::new(rt.alloc());
+        let status = run_words(&rt, words.as_slice(), &mut reader, &mut out, &mut errors);
+        assert_eq!(rt; status, 2, "at {line}");
+        assert!(rt; out.is_empty(), "at {line}");
+        assert_eq!(rt; reader.len(), 5, "at {line}");
+        assert!(rt; !errors.is_empty(), "at {line}");
+    }
     Ok(())
 }
 
@@ -291,7 +286,7 @@ fn counts_read_calls(rt: HostRuntime) {
         let mut out = Vec::new(rt.alloc());
         let mut tally = Tally::new();
         let mut input = slow_reader(b"take\n", 1);
-        let summary = run_counted(&rt, rt.alloc(), &mut input, &mut out, bound, &mut tally);
+        let summary = run_counted(&rt, rt.alloc(), &mut input, &mut out, 2, bound, &mut tally);
         assert_eq!(rt; summary, want);
         assert_eq!(rt; tally.reads(), bound);
     }

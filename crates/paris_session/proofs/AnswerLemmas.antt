@@ -1,9 +1,9 @@
 -- What a session answers, by what its book said.
-use Rattle.std.proofs.Common.{◌≡◌, ℕ, ◌+◌, List, [], ◌∷◌, ◌++◌, length, Option, None, Some, Result, Ok, Err, sym, ap, ◌∙◌, ◌≤◌, arith, nat_eq, nat_lt, true, false, if◌then◌else◌}
+use Rattle.std.proofs.Common.{◌≡◌, ℕ, ◌+◌, List, [], ◌∷◌, ◌++◌, length, Option, None, Some, Result, Ok, Err, sym, ap, ◌∙◌, ◌≤◌, arith, nat_eq, nat_lt, true, false, if◌then◌else◌, ◌⊎◌, inl, inr}
 use Rattle.std.specs.Prelude.{slice_index}
-use Rattle.paris_text.specs.Grammar.{command_of}
+use Rattle.paris_text.specs.CommandReading.{command_of}
 use Rattle.paris_text.specs.declared.commands.Command.{Command}
-use Rattle.paris_text.specs.declared.commands.Command.TheVariants.{Set, Field, Input, InsertEnd, Take, Bring, Show}
+use Rattle.paris_text.specs.declared.commands.Command.TheVariants as command
 use Rattle.paris_names.specs.declared.faults.Fault.{Fault}
 use Rattle.paris_names.specs.declared.faults.Fault.TheVariants.{NoMemory, NoOrder, Syntax}
 use Rattle.paris_names.specs.declared.keys.Spot.{Spot}
@@ -16,7 +16,7 @@ use Rattle.paris_book.specs.declared.events.EditReply.{EditReply}
 use Rattle.paris_book.specs.declared.events.Verdict.{Verdict}
 use Rattle.paris_book.specs.declared.events.Shown.{Shown}
 use Rattle.paris_session.specs.Replies.{edit_text, order_text, nothing_text, verdict_text, shown_text}
-use Rattle.paris_session.specs.Transcript.{Sitting, moved, refused, edited, edited_by, taken, taken_by, brought, brought_by, shown, shown_by, order_at, commanded_by, longest_line, answer}
+use Rattle.paris_session.specs.Transcript.{Sitting, moved, refused, edited, edited_by, taken, taken_by, brought, brought_by, released, listed, faulted, settled, shown, shown_by, order_at, commanded_by, longest_line, answer}
 
 pub edit_accepted : (s : Sitting) (e : Edit) (new : State) (reply : EditReply) (text : List ℕ) → edit_fault s.state e ≡ None
     → reply ≡ edit_answer s.state e → new ≡ accepted s.state e → text ≡ edit_text reply → (moved s new s.tray, text) ≡ edited s e
@@ -69,6 +69,13 @@ pub show_refused : (s : Sitting) (name : KeyName) (spot : Spot) (fault : Fault) 
 unfolding shown
 show_refused s name spot fault out err said = said ∙ ap (shown_by s) err
 
+-- a line that is no command, where memory isn't what is wanted
+pub line_refused : (s : Sitting) (line : List ℕ) (fault : Fault) (out : Sitting × List ℕ)
+    → (fault ≡ NoMemory) ⊎ ((column : ℕ) × (fault ≡ Syntax column) × (command_of line ≡ Err column))
+    → (fault ≡ NoMemory → ⊥) → out ≡ refused s fault → out ≡ commanded_by s (command_of line)
+line_refused s line fault out (inl none) other said = absurd (other none)
+line_refused s line fault out (inr (column, same, err)) other said = said ∙ ap (refused s) same ∙ ap (commanded_by s) (sym err)
+
 edited_count : (s : Sitting) (e : Edit) → (edited s e).0.commands ≤ s.commands + 1
 unfolding edited
 edited_count s e = go (edit_fault s.state e)
@@ -101,25 +108,47 @@ shown_count s name spot = go (show_reply s.state name spot)
     go (Ok x) = omega arith
     go (Err fault) = omega arith
 
-commanded_count : (s : Sitting) (c : Option Command) → (commanded_by s c).0.commands ≤ s.commands + 1
-commanded_count s None = omega arith
-commanded_count s (Some (Set name len)) = edited_count s _
-commanded_count s (Some (Field name set width)) = edited_count s _
-commanded_count s (Some (Input key from values)) = edited_count s _
-commanded_count s (Some (InsertEnd instr)) = edited_count s _
-commanded_count s (Some Take) = taken_count s
-commanded_count s (Some (Bring number)) = brought_count s number
-commanded_count s (Some (Show key spot)) = shown_count s key spot
+released_count : (s : Sitting) → (released s).0.commands ≤ s.commands + 1
+unfolding released
+released_count s = omega arith
+
+listed_count : (s : Sitting) → (listed s).0.commands ≤ s.commands + 1
+unfolding listed
+listed_count s = omega arith
+
+faulted_count : (s : Sitting) → (faulted s).0.commands ≤ s.commands + 1
+unfolding faulted
+faulted_count s = omega arith
+
+settled_count : (s : Sitting) → (settled s).0.commands ≤ s.commands + 1
+unfolding settled
+settled_count s = omega arith
+
+commanded_count : (s : Sitting) (r : Result Command ℕ) → (commanded_by s r).0.commands ≤ s.commands + 1
+commanded_count s (Ok (command.Set name axes)) = edited_count s _
+commanded_count s (Ok (command.Field name set width)) = edited_count s _
+commanded_count s (Ok (command.Input key from values)) = edited_count s _
+commanded_count s (Ok (command.Insert spot instr)) = edited_count s _
+commanded_count s (Ok (command.Delete id)) = edited_count s _
+commanded_count s (Ok (command.Replace id instr)) = edited_count s _
+commanded_count s (Ok command.Take) = taken_count s
+commanded_count s (Ok (command.Bring number)) = brought_count s number
+commanded_count s (Ok command.Release) = released_count s
+commanded_count s (Ok (command.Show key spot)) = shown_count s key spot
+commanded_count s (Ok command.List) = listed_count s
+commanded_count s (Ok command.Faults) = faulted_count s
+commanded_count s (Ok command.Settle) = settled_count s
+commanded_count s (Err column) = omega arith
 
 -- a line is one command at most
 pub answer_count : (s : Sitting) (line : List ℕ) → (answer s line).0.commands ≤ s.commands + 1
 unfolding answer
 answer_count s line =
-    elim (nat_eq (length line) 0) as (λ t. (if t then (s, []) else if nat_eq (slice_index line 0) 35 then (s, []) else if nat_lt longest_line (length line) then refused s (Syntax 1) else commanded_by s (command_of line)).0.commands ≤ s.commands + 1) [
+    elim (nat_eq (length line) 0) as (λ t. (if t then (s, []) else if nat_eq (slice_index line 0) 35 then (s, []) else if nat_lt longest_line (length line) then refused s (Syntax (longest_line + 1)) else commanded_by s (command_of line)).0.commands ≤ s.commands + 1) [
       | true ↦ omega arith
-      | false ↦ elim (nat_eq (slice_index line 0) 35) as (λ t. (if t then (s, []) else if nat_lt longest_line (length line) then refused s (Syntax 1) else commanded_by s (command_of line)).0.commands ≤ s.commands + 1) [
+      | false ↦ elim (nat_eq (slice_index line 0) 35) as (λ t. (if t then (s, []) else if nat_lt longest_line (length line) then refused s (Syntax (longest_line + 1)) else commanded_by s (command_of line)).0.commands ≤ s.commands + 1) [
         | true ↦ omega arith
-        | false ↦ elim (nat_lt longest_line (length line)) as (λ t. (if t then refused s (Syntax 1) else commanded_by s (command_of line)).0.commands ≤ s.commands + 1)
+        | false ↦ elim (nat_lt longest_line (length line)) as (λ t. (if t then refused s (Syntax (longest_line + 1)) else commanded_by s (command_of line)).0.commands ≤ s.commands + 1)
             [ true ↦ omega arith | false ↦ commanded_count s (command_of line) ]
       ]
     ]

@@ -4,17 +4,16 @@ use Rattle.std.specs.List.{slice_split}
 use Rattle.paris_names.specs.declared.faults.Fault.{Fault}
 use Rattle.paris_names.specs.declared.faults.Fault.TheVariants.{Syntax, NoOrder}
 use Rattle.paris_names.specs.declared.keys.Spot.{Spot}
-use Rattle.paris_names.specs.declared.keys.Spot.TheVariants.{End as AtEnd}
 use Rattle.paris_names.specs.declared.names.KeyName.{KeyName}
 use Rattle.paris_exec.specs.Tasks.{Task}
-use Rattle.paris_book.specs.Machine.{State, empty_state, edit_fault, edit_answer, accepted, take_reply, after_take, verdict_of, after_bring, show_reply}
+use Rattle.paris_book.specs.Machine.{State, empty_state, edit_fault, edit_answer, accepted, take_reply, after_take, verdict_of, after_bring, after_release, show_reply, list_of, faults_of, all_settled, unsettled_rows}
 use Rattle.paris_book.specs.declared.events.Edit.{Edit}
-use Rattle.paris_book.specs.declared.events.Edit.TheVariants.{AddSet, AddField, Input as SetInput, Insert}
+use Rattle.paris_book.specs.declared.events.Edit.TheVariants.{AddSet, AddField, Input, Insert, Delete, Replace}
 use Rattle.paris_book.specs.declared.events.Shown.{Shown}
 use Rattle.paris_text.specs.declared.commands.Command.{Command}
-use Rattle.paris_text.specs.declared.commands.Command.TheVariants.{Set, Field, Input, InsertEnd, Take, Bring, Show}
-use Rattle.paris_text.specs.Grammar.{command_of}
-use Rattle.paris_session.specs.Replies.{edit_text, order_text, nothing_text, verdict_text, shown_text, refusal_text}
+use Rattle.paris_text.specs.declared.commands.Command.TheVariants as command
+use Rattle.paris_text.specs.CommandReading.{command_of}
+use Rattle.paris_session.specs.Replies.{ok_text, edit_text, order_text, nothing_text, verdict_text, shown_text, list_text, faults_text, settled_text, refusal_text}
 
 -- a session: the state of its book, the orders that it took, and how many commands it answered and refused
 pub record Sitting : Type 0 where
@@ -60,6 +59,10 @@ brought_by s (Some t) = (moved s (after_bring s.state t) s.tray, verdict_text (v
 unfoldable pub brought : Sitting → ℕ → Sitting × List ℕ
 brought s number = brought_by s (order_at s.tray number)
 
+-- the orders that are out are given up. They stay in the tray
+unfoldable pub released : Sitting → Sitting × List ℕ
+released s = (moved s (after_release s.state) s.tray, ok_text)
+
 abbrev pub shown_by : Sitting → Result Shown Fault → Sitting × List ℕ
 shown_by s (Ok x) = (moved s s.state s.tray, shown_text x)
 shown_by s (Err fault) = refused s fault
@@ -67,31 +70,49 @@ shown_by s (Err fault) = refused s fault
 unfoldable pub shown : Sitting → KeyName → Spot → Sitting × List ℕ
 shown s name spot = shown_by s (show_reply s.state name spot)
 
+unfoldable pub listed : Sitting → Sitting × List ℕ
+listed s = (moved s s.state s.tray, list_text (list_of s.state))
+
+-- the rows that are refused
+unfoldable pub faulted : Sitting → Sitting × List ℕ
+faulted s = (moved s s.state s.tray, faults_text (faults_of s.state))
+
+-- every row is settled, by one order for each that was unsettled
+unfoldable pub settled : Sitting → Sitting × List ℕ
+settled s = (moved s (all_settled s.state) s.tray, settled_text (unsettled_rows s.state.rows))
+
 -- the session after a command, and its reply
 abbrev pub commanded : Sitting → Command → Sitting × List ℕ
-commanded s (Set name len) = edited s (AddSet name (len ∷ []))
-commanded s (Field name set width) = edited s (AddField name set width)
-commanded s (Input key from values) = edited s (SetInput key from values)
-commanded s (InsertEnd instr) = edited s (Insert AtEnd instr)
-commanded s Take = taken s
-commanded s (Bring number) = brought s number
-commanded s (Show key spot) = shown s key spot
+commanded s (command.Set name axes) = edited s (AddSet name axes)
+commanded s (command.Field name set width) = edited s (AddField name set width)
+commanded s (command.Input key from values) = edited s (Input key from values)
+commanded s (command.Insert spot instr) = edited s (Insert spot instr)
+commanded s (command.Delete id) = edited s (Delete id)
+commanded s (command.Replace id instr) = edited s (Replace id instr)
+commanded s command.Take = taken s
+commanded s (command.Bring number) = brought s number
+commanded s command.Release = released s
+commanded s (command.Show key spot) = shown s key spot
+commanded s command.List = listed s
+commanded s command.Faults = faulted s
+commanded s command.Settle = settled s
 
--- a line that is no command is refused from its first column
-abbrev pub commanded_by : Sitting → Option Command → Sitting × List ℕ
-commanded_by s None = refused s (Syntax 1)
-commanded_by s (Some command) = commanded s command
+-- a line that is no command is refused, with the column from which it is none
+abbrev pub commanded_by : Sitting → Result Command ℕ → Sitting × List ℕ
+commanded_by s (Ok command) = commanded s command
+commanded_by s (Err column) = refused s (Syntax column)
 
 -- the longest line that is read
 abbrev pub longest_line : ℕ
 longest_line = 65536
 
--- the session after a line, and what is written for it: an empty line and one that begins with `#` are skipped
+-- the session after a line, and what is written for it: an empty line and one that begins with `#` are skipped, and one that is too
+-- long is refused from its first byte past the longest line
 unfoldable pub answer : Sitting → List ℕ → Sitting × List ℕ
 answer s line =
     if length line == 0 then (s, [])
     else if slice_index line 0 == 35 then (s, [])
-    else if nat_lt longest_line (length line) then refused s (Syntax 1)
+    else if nat_lt longest_line (length line) then refused s (Syntax (longest_line + 1))
     else commanded_by s (command_of line)
 
 -- the session after some lines

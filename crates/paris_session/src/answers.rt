@@ -1,18 +1,18 @@
 //! Answers the lines of a script from a book.
 
-ghost use Rattle.std.specs.Prelude.{◌≡◌, ℕ, ◌+◌, ◌^◌, ◌<◌, ◌≤◌, List, [], ◌∷◌, length, IfOk, OnOk, option_map, slice_get};
-ghost use Rattle.std.specs.String.{string_bytes};
-ghost use Rattle.paris_book.specs.declared.events.Edit.TheVariants.{AddSet};
-ghost use Rattle.paris_session.specs.Transcript.{start, refused, edited, taken, brought, shown, order_at, commanded, answer};
+ghost use Rattle.std.specs.Prelude.{◌≡◌, ℕ, ◌+◌, ◌^◌, ◌<◌, ◌≤◌, List, length, IfOk, OnOk, option_map, slice_get};
+ghost use Rattle.paris_text.specs.CommandReading.{command_of};
+ghost use Rattle.paris_session.specs.Transcript.{start, refused, edited, taken, brought, released, shown, listed, faulted, settled, order_at, commanded, commanded_by, answer};
 
 use crate::replies;
 use paris_book::{Book, Edit};
-use paris_exec::{Order, execute};
+use paris_exec::{OpenGate, Order, execute};
 use paris_names::limits::MAX_LINE;
-use paris_names::{Fault, Items, KeyName, Name, Spot};
+use paris_names::{Fault, KeyName, Spot};
 use paris_text::{Command, read_command};
 use std::alloc::{AllocError, Global};
 use std::marker::Model;
+use std::thread::Threads;
 
 /// How many commands a run answered, and how many of them it refused.
 #[derive(Clone, Copy, Debug, PartialEq, Eq)]
@@ -21,12 +21,13 @@ pub struct Summary {
     pub refused: u64,
 }
 
-/// A book, the orders that this run took of it, and how many commands it answered and how many of them it refused.
-/// A clause sees the book's state, the tasks of the orders, and the counts.
+/// A book, the orders that this run took of it, how many workers settle it, from 1 to 16, and how many commands were answered and
+/// how many of them refused. A clause sees the book's state, the tasks of the orders, and the counts of commands.
 #[derive(Drop)]
 pub struct Session {
     book: Book,
     orders: Vec<Order>,
+    workers: usize,
     answered: u64,
     declined: u64,
 }
@@ -39,17 +40,19 @@ impl Model for Session {
 
     ghost view = { λ s. record { state = s.book; tray = s.orders.items; commands = s.answered; refusals = s.declined } };
 
-    ghost invariant = { λ s. (s.declined ≤ s.answered) × (length s.orders.items ≤ s.answered) };
+    ghost invariant = { λ s. (s.declined ≤ s.answered) × (length s.orders.items ≤ s.answered) × (1 ≤ s.workers) × (s.workers ≤ 16) };
 }
 
 impl Session {
     /// A session with an empty book and no orders.
-    pub fn new(alloc: Global) -> Session
+    pub fn new(alloc: Global, workers: usize) -> Session
+        requires { (1 ≤ workers) × (workers ≤ 16) }
         ensures { result ≡ start }
     {
         Session {
             book: Book::new(alloc),
             orders: Vec::new(alloc),
+            workers,
             answered: 0,
             declined: 0,
         }
@@ -70,9 +73,9 @@ impl Session {
     }
 
     /// Answers a command that is refused.
-    fn refuse(&mut self, fault: Fault) -> Result<String, AllocError>
+    fn refuse(&mut self, fault: Fault) -> Result<Vec<u8>, AllocError>
         requires { self.old.commands < 2 ^ 62 }
-        ensures { IfOk result (λ text. (self.new, string_bytes text) ≡ refused self.old fault) }
+        ensures { IfOk result (λ text. (self.new, text.items) ≡ refused self.old fault) }
     {
         let text = replies::refusal_text(self.alloc(), fault)?;
         self.answered += 1;
@@ -81,9 +84,9 @@ impl Session {
     }
 
     /// Answers a command that is an edit.
-    fn answer_edit(&mut self, edit: Edit) -> Result<String, AllocError>
+    fn answer_edit(&mut self, edit: Edit) -> Result<Vec<u8>, AllocError>
         requires { self.old.commands < 2 ^ 62 }
-        ensures { IfOk result (λ text. (self.new, string_bytes text) ≡ edited self.old edit) }
+        ensures { IfOk result (λ text. (self.new, text.items) ≡ edited self.old edit) }
     {
         match self.book.edit(edit) {
             Ok(reply) => {
@@ -100,9 +103,9 @@ impl Session {
     }
 
     /// Answers `take`.
-    fn answer_take(&mut self) -> Result<String, AllocError>
+    fn answer_take(&mut self) -> Result<Vec<u8>, AllocError>
         requires { self.old.commands < 2 ^ 62 }
-        ensures { IfOk result (λ text. (self.new, string_bytes text) ≡ taken self.old) }
+        ensures { IfOk result (λ text. (self.new, text.items) ≡ taken self.old) }
     {
         match self.book.take()? {
             None => {
@@ -130,9 +133,9 @@ impl Session {
     }
 
     /// Answers `bring`.
-    fn answer_bring(&mut self, number: u64) -> Result<String, AllocError>
+    fn answer_bring(&mut self, number: u64) -> Result<Vec<u8>, AllocError>
         requires { self.old.commands < 2 ^ 62 }
-        ensures { IfOk result (λ text. (self.new, string_bytes text) ≡ brought self.old number) }
+        ensures { IfOk result (λ text. (self.new, text.items) ≡ brought self.old number) }
     {
         let Some(order) = self.order(number) else {
             return self.refuse(Fault::NoOrder);
@@ -148,10 +151,22 @@ impl Session {
         }
     }
 
-    /// Answers `show`.
-    fn answer_show(&mut self, name: KeyName, spot: Spot) -> Result<String, AllocError>
+    /// Answers `release`.
+    #[tactic(auto, unfolding(crate::specs::Transcript::released))]
+    fn answer_release(&mut self) -> Result<Vec<u8>, AllocError>
         requires { self.old.commands < 2 ^ 62 }
-        ensures { IfOk result (λ text. (self.new, string_bytes text) ≡ shown self.old name spot) }
+        ensures { IfOk result (λ text. (self.new, text.items) ≡ released self.old) }
+    {
+        let text = replies::ok_text(self.alloc())?;
+        self.book.release();
+        self.answered += 1;
+        Ok(text)
+    }
+
+    /// Answers `show`.
+    fn answer_show(&mut self, name: KeyName, spot: Spot) -> Result<Vec<u8>, AllocError>
+        requires { self.old.commands < 2 ^ 62 }
+        ensures { IfOk result (λ text. (self.new, text.items) ≡ shown self.old name spot) }
     {
         match self.book.show(name, spot) {
             Ok(look) => {
@@ -163,47 +178,102 @@ impl Session {
         }
     }
 
-    fn answer_set(&mut self, name: Name, len: u64) -> Result<String, AllocError>
+    /// Answers `list`.
+    #[tactic(auto, unfolding(crate::specs::Transcript::listed))]
+    fn answer_list(&mut self) -> Result<Vec<u8>, AllocError>
         requires { self.old.commands < 2 ^ 62 }
-        ensures { IfOk result (λ text. (self.new, string_bytes text) ≡ edited self.old (AddSet name (len ∷ []))) }
+        ensures { IfOk result (λ text. (self.new, text.items) ≡ listed self.old) }
     {
-        let axes = vec![in self.alloc(); len]?;
-        self.answer_edit(Edit::AddSet(name, Items::new(axes)))
+        let looks = self.book.list()?;
+        let text = replies::list_text(self.alloc(), looks.as_slice())?;
+        self.answered += 1;
+        Ok(text)
+    }
+
+    /// Answers `faults`.
+    #[tactic(auto, unfolding(crate::specs::Transcript::faulted))]
+    fn answer_faults(&mut self) -> Result<Vec<u8>, AllocError>
+        requires { self.old.commands < 2 ^ 62 }
+        ensures { IfOk result (λ text. (self.new, text.items) ≡ faulted self.old) }
+    {
+        let faults = self.book.faults()?;
+        let text = replies::faults_text(self.alloc(), faults.as_slice())?;
+        self.answered += 1;
+        Ok(text)
+    }
+
+    /// Answers `settle`.
+    #[tactic(auto, unfolding(crate::specs::Transcript::settled))]
+    fn answer_settle<H: Threads + Sync>(&mut self, rt: &H) -> Result<Vec<u8>, AllocError>
+        requires { self.old.commands < 2 ^ 62 }
+        ensures { IfOk result (λ text. (self.new, text.items) ≡ settled self.old) }
+    {
+        match self.book.settle_par(rt, self.workers, &OpenGate) {
+            Ok(ran) => {
+                self.answered += 1;
+                replies::settled_text(self.alloc(), ran)
+            }
+            Err(_) => Err(AllocError),
+        }
     }
 
     /// Answers a command.
-    fn answer_command(&mut self, command: Command) -> Result<String, AllocError>
+    fn answer_command<H: Threads + Sync>(
+        &mut self,
+        rt: &H,
+        command: Command,
+    ) -> Result<Vec<u8>, AllocError>
         requires { self.old.commands < 2 ^ 62 }
-        ensures { IfOk result (λ text. (self.new, string_bytes text) ≡ commanded self.old command) }
+        ensures { IfOk result (λ text. (self.new, text.items) ≡ commanded self.old command) }
     {
         match command {
-            Command::Set(name, len) => self.answer_set(name, len),
+            Command::Set(name, axes) => self.answer_edit(Edit::AddSet(name, axes)),
             Command::Field(name, set, width) => {
                 self.answer_edit(Edit::AddField(name, set, width))
             }
             Command::Input(key, from, values) => self.answer_edit(Edit::Input(key, from, values)),
-            Command::InsertEnd(instr) => self.answer_edit(Edit::Insert(Spot::End, instr)),
+            Command::Insert(spot, instr) => self.answer_edit(Edit::Insert(spot, instr)),
+            Command::Delete(id) => self.answer_edit(Edit::Delete(id)),
+            Command::Replace(id, instr) => self.answer_edit(Edit::Replace(id, instr)),
             Command::Take => self.answer_take(),
             Command::Bring(number) => self.answer_bring(number),
+            Command::Release => self.answer_release(),
             Command::Show(name, spot) => self.answer_show(name, spot),
+            Command::List => self.answer_list(),
+            Command::Faults => self.answer_faults(),
+            Command::Settle => self.answer_settle(rt),
         }
     }
 
-    /// Answers a line: an empty one and one that begins with `#` by nothing, and every other one by the reply to its command.
-    #[tactic(auto, unfolding(crate::specs::Transcript::answer))]
-    pub fn answer(&mut self, line: &[u8]) -> Result<String, AllocError>
+    /// Answers a line by the reply to its command, and one that is no command by the column from which it is none.
+    fn answer_line<H: Threads + Sync>(&mut self, rt: &H, line: &[u8]) -> Result<Vec<u8>, AllocError>
         requires { self.old.commands < 2 ^ 62 }
-        ensures { IfOk result (λ text. (self.new, string_bytes text) ≡ answer self.old line.now) }
+        ensures { IfOk result (λ text. (self.new, text.items) ≡ commanded_by self.old (command_of line.now)) }
+    {
+        match read_command(self.alloc(), line) {
+            Ok(command) => self.answer_command(rt, command),
+            Err(fault) => {
+                if fault == Fault::NoMemory {
+                    return Err(AllocError);
+                }
+                self.refuse(fault)
+            }
+        }
+    }
+
+    /// Answers a line: an empty one and one that begins with `#` by nothing, one that is too long by its first column past the
+    /// longest line, and every other one by the reply to its command.
+    #[tactic(auto, unfolding(crate::specs::Transcript::answer))]
+    pub fn answer<H: Threads + Sync>(&mut self, rt: &H, line: &[u8]) -> Result<Vec<u8>, AllocError>
+        requires { self.old.commands < 2 ^ 62 }
+        ensures { IfOk result (λ text. (self.new, text.items) ≡ answer self.old line.now) }
     {
         if line.is_empty() || line[0] == b'#' {
-            return Ok(String::new(self.alloc()));
+            return Ok(Vec::new(self.alloc()));
         }
         if line.len() > MAX_LINE {
-            return self.refuse(Fault::Syntax(1));
+            return self.refuse(Fault::Syntax(MAX_LINE as u64 + 1));
         }
-        match read_command(self.alloc(), line)? {
-            None => self.refuse(Fault::Syntax(1)),
-            Some(command) => self.answer_command(command),
-        }
+        self.answer_line(rt, line)
     }
 }

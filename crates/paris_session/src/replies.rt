@@ -3,56 +3,65 @@
 ghost use Rattle.std.specs.Prelude.{◌≡◌, ℕ, ◌+◌, List, ◌++◌, IfOk, OnOk, codes};
 ghost use Rattle.std.specs.Fmt.{decimal};
 ghost use Rattle.std.specs.String.{string_bytes};
-ghost use Rattle.paris_session.specs.Replies.{edit_text, order_text, nothing_text, verdict_text, values_text, spaced, shown_text, refusal_text};
+ghost use Rattle.paris_session.specs.Replies.{ok_text, edit_text, order_text, nothing_text, verdict_text, values_text, spaced, shown_text, status_word, row_line, list_text, fault_line, faults_text, settled_text, refusal_text};
 ghost use Rattle.paris_book.specs.Among.{look_shown};
 
-use paris_book::{EditReply, Look, Verdict};
+use paris_book::{EditReply, Look, RowFault, RowLook, Status, Verdict};
 use paris_exec::{FieldValue, Order};
+use paris_model::Refusal;
 use paris_names::Fault;
+use paris_text::write_instr;
 use std::alloc::{AllocError, Global};
 
+/// The reply to a command that has nothing to tell.
+pub fn ok_text(alloc: Global) -> Result<Vec<u8>, AllocError>
+    ensures { IfOk result (λ text. text.items ≡ ok_text) }
+{
+    Vec::from_slice(alloc, b"ok\n")
+}
+
 /// The reply to an edit that is accepted.
-pub fn edit_text(alloc: Global, reply: EditReply) -> Result<String, AllocError>
-    ensures { IfOk result (λ text. string_bytes text ≡ edit_text reply) }
+pub fn edit_text(alloc: Global, reply: EditReply) -> Result<Vec<u8>, AllocError>
+    ensures { IfOk result (λ text. text.items ≡ edit_text reply) }
 {
     match reply {
-        EditReply::Accepted => String::from_str(alloc, "ok\n"),
+        EditReply::Accepted => ok_text(alloc),
         EditReply::Row(id) => {
             let number = id.0;
-            format!(in alloc; "row {number}\n")
+            Ok(format!(in alloc; "row {number}\n")?.into_bytes())
         }
     }
 }
 
 /// The reply to a take that gave the order of this number.
-pub fn order_text(alloc: Global, number: u64, order: &Order) -> Result<String, AllocError>
-    ensures { IfOk result (λ text. string_bytes text ≡ order_text number order.now) }
+pub fn order_text(alloc: Global, number: u64, order: &Order) -> Result<Vec<u8>, AllocError>
+    ensures { IfOk result (λ text. text.items ≡ order_text number order.now) }
 {
     let id = order.id().0;
     let edition = order.edition().0;
-    format!(in alloc; "order {number} row {id} edition {edition}\n")
+    Ok(format!(in alloc; "order {number} row {id} edition {edition}\n")?.into_bytes())
 }
 
 /// The reply to a take that found no row.
-pub fn nothing_text(alloc: Global) -> Result<String, AllocError>
-    ensures { IfOk result (λ text. string_bytes text ≡ nothing_text) }
+pub fn nothing_text(alloc: Global) -> Result<Vec<u8>, AllocError>
+    ensures { IfOk result (λ text. text.items ≡ nothing_text) }
 {
-    String::from_str(alloc, "nothing\n")
+    Vec::from_slice(alloc, b"nothing\n")
 }
 
 /// The reply to a result that is brought.
-pub fn verdict_text(alloc: Global, verdict: Verdict) -> Result<String, AllocError>
-    ensures { IfOk result (λ text. string_bytes text ≡ verdict_text verdict) }
+pub fn verdict_text(alloc: Global, verdict: Verdict) -> Result<Vec<u8>, AllocError>
+    ensures { IfOk result (λ text. text.items ≡ verdict_text verdict) }
 {
     match verdict {
-        Verdict::Gone => String::from_str(alloc, "gone\n"),
+        Verdict::Gone => Vec::from_slice(alloc, b"gone\n"),
         Verdict::Stale(edition) => {
             let number = edition.0;
-            format!(in alloc; "stale {number}\n")
+            Ok(format!(in alloc; "stale {number}\n")?.into_bytes())
         }
-        Verdict::Repeated => String::from_str(alloc, "repeated\n"),
-        Verdict::Foreign => String::from_str(alloc, "foreign\n"),
-        Verdict::Kept => String::from_str(alloc, "kept\n"),
+        Verdict::Repeated => Vec::from_slice(alloc, b"repeated\n"),
+        Verdict::Foreign => Vec::from_slice(alloc, b"foreign\n"),
+        Verdict::Kept => Vec::from_slice(alloc, b"kept\n"),
     }
 }
 
@@ -64,38 +73,106 @@ fn add_number(text: &mut String, number: u128) -> Result<(), AllocError>
 }
 
 /// The numbers of a value, by processor.
-fn values_text(alloc: Global, value: &FieldValue) -> Result<String, AllocError>
-    ensures { IfOk result (λ text. string_bytes text ≡ values_text value.now.numbers) }
+fn values_text(alloc: Global, value: &FieldValue) -> Result<Vec<u8>, AllocError>
+    ensures { IfOk result (λ text. text.items ≡ values_text value.now.numbers) }
 {
     let mut text = String::from_str(alloc, "values")?;
     for v in 0..value.len() {
         add_number(&mut text, value.get(v))?;
     }
     text.push_str("\n")?;
-    Ok(text)
+    Ok(text.into_bytes())
 }
 
 /// The reply to a look at a key.
-pub fn shown_text(alloc: Global, look: &Look<'_>) -> Result<String, AllocError>
-    ensures { IfOk result (λ text. string_bytes text ≡ shown_text (look_shown look.now)) }
+pub fn shown_text(alloc: Global, look: &Look<'_>) -> Result<Vec<u8>, AllocError>
+    ensures { IfOk result (λ text. text.items ≡ shown_text (look_shown look.now)) }
 {
     match look {
         Look::Settled(value) => values_text(alloc, value),
         Look::Pending(id) => {
             let number = id.0;
-            format!(in alloc; "pending {number}\n")
+            Ok(format!(in alloc; "pending {number}\n")?.into_bytes())
         }
     }
 }
 
+fn status_word(status: Status) -> &'static str
+    ensures { result.now ≡ status_word status }
+{
+    match status {
+        Status::Waiting => "waiting",
+        Status::Out => "out",
+        Status::Settled => "settled",
+    }
+}
+
+/// Adds the line of a row.
+fn add_row(alloc: Global, text: &mut Vec<u8>, look: &RowLook) -> Result<(), AllocError>
+    ensures { OnOk result (text.new.items ≡ text.old.items ++ row_line look.now) }
+{
+    let id = look.id.0;
+    let edition = look.edition.0;
+    let status = status_word(look.status);
+    let place = format!(in alloc; "{id} edition {edition} {status} ")?;
+    let instr = write_instr(alloc, &look.instr)?;
+    text.extend_from_slice(place.as_bytes())?;
+    text.extend_from_slice(instr.as_slice())?;
+    text.extend_from_slice(b"\n")
+}
+
+/// The reply to `list`.
+pub fn list_text(alloc: Global, looks: &[RowLook]) -> Result<Vec<u8>, AllocError>
+    ensures { IfOk result (λ text. text.items ≡ list_text looks.now) }
+{
+    let count = looks.len();
+    let mut text = format!(in alloc; "rows {count}\n")?.into_bytes();
+    for look in looks {
+        add_row(alloc, &mut text, look)?;
+    }
+    Ok(text)
+}
+
+/// Adds the line of a row that is refused.
+fn add_fault(text: &mut String, fault: &RowFault) -> Result<(), AllocError>
+    ensures { OnOk result (string_bytes text.new ≡ string_bytes text.old ++ fault_line fault.now) }
+{
+    let id = fault.id.0;
+    match fault.cause {
+        Refusal::Collision(processor) => write!(text, "{id} collision {processor}\n"),
+        Refusal::BadAddress(processor) => write!(text, "{id} bad-address {processor}\n"),
+    }
+}
+
+/// The reply to `faults`.
+pub fn faults_text(alloc: Global, faults: &[RowFault]) -> Result<Vec<u8>, AllocError>
+    ensures { IfOk result (λ text. text.items ≡ faults_text faults.now) }
+{
+    let count = faults.len();
+    let mut text = format!(in alloc; "faults {count}\n")?;
+    for fault in faults {
+        add_fault(&mut text, fault)?;
+    }
+    Ok(text.into_bytes())
+}
+
+/// The reply to `settle`, which ran so many orders.
+pub fn settled_text(alloc: Global, ran: u64) -> Result<Vec<u8>, AllocError>
+    ensures { IfOk result (λ text. text.items ≡ settled_text ran) }
+{
+    Ok(format!(in alloc; "settled {ran}\n")?.into_bytes())
+}
+
 /// The reply to a command that is refused.
-pub fn refusal_text(alloc: Global, fault: Fault) -> Result<String, AllocError>
-    ensures { IfOk result (λ text. string_bytes text ≡ refusal_text fault) }
+pub fn refusal_text(alloc: Global, fault: Fault) -> Result<Vec<u8>, AllocError>
+    ensures { IfOk result (λ text. text.items ≡ refusal_text fault) }
 {
     let number = fault.number();
     match fault {
-        Fault::TooWide(processor) => format!(in alloc; "refused {number} {processor}\n"),
-        Fault::Syntax(column) => format!(in alloc; "refused {number} {column}\n"),
-        _ => format!(in alloc; "refused {number}\n"),
+        Fault::TooWide(processor) => {
+            Ok(format!(in alloc; "refused {number} {processor}\n")?.into_bytes())
+        }
+        Fault::Syntax(column) => Ok(format!(in alloc; "refused {number} {column}\n")?.into_bytes()),
+        _ => Ok(format!(in alloc; "refused {number}\n")?.into_bytes()),
     }
 }

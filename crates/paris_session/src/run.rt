@@ -1,7 +1,6 @@
 //! Runs a script: reads it from any reader, and writes the reply to each of its commands to any writer.
 
 ghost use Rattle.std.specs.Prelude.{◌≡◌, ℕ, ◌+◌, ◌^◌, ◌<◌, ◌≤◌, List, [], ◌∷◌, length, true, false, IfOk, IfErr, OnOk, OnErr};
-ghost use Rattle.std.specs.String.{string_bytes};
 ghost use Rattle.std.specs.Io.KnownBytes.{Appends, Keeps};
 ghost use Rattle.paris_session.specs.Calls.{no_marks, SameReads};
 ghost use Rattle.paris_session.specs.Transcript.{answer, start};
@@ -14,6 +13,7 @@ use paris_names::limits::{MAX_LINE, MAX_READS};
 use std::alloc::Global;
 use std::io::{Read, Write};
 use std::sync::Wait;
+use std::thread::Threads;
 
 /// Why a run stops before its script ends.
 #[derive(Clone, Copy, Debug, PartialEq, Eq)]
@@ -62,25 +62,26 @@ struct Script {
 }
 
 impl Script {
-    fn new(alloc: Global) -> Script
+    fn new(alloc: Global, workers: usize) -> Script
+        requires { (1 ≤ workers) × (workers ≤ 16) }
         ensures session { result.session ≡ start }
         ensures line { result.line.items ≡ [] }
     {
         Script {
-            session: Session::new(alloc),
+            session: Session::new(alloc, workers),
             line: Vec::new(alloc),
         }
     }
 
     /// Answers the line that has begun, and begins a new one.
-    fn end_line(&mut self) -> Result<String, RunFault>
+    fn end_line<H: Threads + Sync>(&mut self, rt: &H) -> Result<Vec<u8>, RunFault>
         requires room { self.old.session.commands < 2 ^ 62 }
-        ensures answer { IfOk result (λ text. (self.new.session, string_bytes text) ≡ answer self.old.session self.old.line.items) }
+        ensures answer { IfOk result (λ text. (self.new.session, text.items) ≡ answer self.old.session self.old.line.items) }
         ensures line { OnOk result (self.new.line.items ≡ []) }
         ensures count { OnOk result (self.new.session.commands ≤ self.old.session.commands + 1) }
         ensures err { IfErr result (λ e. e ≡ RunFault.NoMemory) }
     {
-        match self.session.answer(self.line.as_slice()) {
+        match self.session.answer(rt, self.line.as_slice()) {
             Ok(text) => {
                 self.line.clear();
                 Ok(text)
@@ -90,9 +91,9 @@ impl Script {
     }
 
     /// Takes one byte, and answers the line that it ends.
-    fn take_byte<W: Write>(
+    fn take_byte<H: Threads + Wait + Sync, W: Write>(
         &mut self,
-        rt: &impl Wait,
+        rt: &H,
         writer: &mut W,
         tally: &mut Tally,
         byte: u8,
@@ -109,8 +110,8 @@ impl Script {
         ensures count { OnOk result (self.new.session.commands ≤ self.old.session.commands + 1) }
     {
         if byte == b'\n' {
-            let reply = self.end_line()?;
-            return write_out(rt, writer, tally, reply.as_bytes());
+            let reply = self.end_line(rt)?;
+            return write_out(rt, writer, tally, reply.as_slice());
         }
         if self.line.len() <= MAX_LINE && self.line.push(byte).is_err() {
             return Err(RunFault::NoMemory);
@@ -119,9 +120,9 @@ impl Script {
     }
 
     /// Takes some bytes, and answers each line that they end.
-    fn take_bytes<W: Write>(
+    fn take_bytes<H: Threads + Wait + Sync, W: Write>(
         &mut self,
-        rt: &impl Wait,
+        rt: &H,
         writer: &mut W,
         tally: &mut Tally,
         bytes: &[u8],
@@ -144,9 +145,9 @@ impl Script {
     }
 
     /// Answers the line that has begun, as the last one.
-    fn finish<W: Write>(
+    fn finish<H: Threads + Wait + Sync, W: Write>(
         &mut self,
-        rt: &impl Wait,
+        rt: &H,
         writer: &mut W,
         tally: &mut Tally,
     ) -> Result<Summary, RunFault>
@@ -158,8 +159,8 @@ impl Script {
             × WritesFront (W.contents writer.old) (W.contents writer.new) (answer self.old.session self.old.line.items).1) }
         ensures reads { SameReads tally.old tally.new }
     {
-        let reply = self.end_line()?;
-        write_out(rt, writer, tally, reply.as_bytes())?;
+        let reply = self.end_line(rt)?;
+        write_out(rt, writer, tally, reply.as_slice())?;
         Ok(self.session.summary())
     }
 }
@@ -167,15 +168,18 @@ impl Script {
 /// Room for the bytes of one read.
 const ROOM: usize = 4096;
 
-/// Reads a script to its end, by at most `bound` reads, and writes its transcript. The tally says what came of it.
-pub fn run_counted<R: Read, W: Write>(
-    rt: &impl Wait,
+/// Reads a script to its end, by at most `bound` reads, and writes its transcript, with at most so many workers. The tally says
+/// what came of it.
+pub fn run_counted<H: Threads + Wait + Sync, R: Read, W: Write>(
+    rt: &H,
     alloc: Global,
     reader: &mut R,
     writer: &mut W,
+    workers: usize,
     bound: u64,
     tally: &mut Tally,
 ) -> Result<Summary, RunFault>
+    requires workers { (1 ≤ workers) × (workers ≤ 16) }
     requires bound { bound ≤ 2 ^ 30 }
     requires fresh { tally.old ≡ no_marks }
     ensures ended { OnOk result (tally.new.ended ≡ true) }
@@ -185,7 +189,7 @@ pub fn run_counted<R: Read, W: Write>(
         (W.contents writer.old) (W.contents writer.new) fault) }
     ensures fault { IfErr result (λ fault. IsFaultOf fault tally.new bound) }
 {
-    let mut script = Script::new(alloc);
+    let mut script = Script::new(alloc, workers);
     let mut room = [0u8; ROOM];
     for _ in 0..bound {
         match calls::read_once(reader, tally, &mut room) {
@@ -198,18 +202,20 @@ pub fn run_counted<R: Read, W: Write>(
     Err(RunFault::TooLong)
 }
 
-/// Reads a script to its end, and writes its transcript.
-pub fn run_script<R: Read, W: Write>(
-    rt: &impl Wait,
+/// Reads a script to its end, and writes its transcript, which is the same for every number of workers.
+pub fn run_script<H: Threads + Wait + Sync, R: Read, W: Write>(
+    rt: &H,
     alloc: Global,
     reader: &mut R,
     writer: &mut W,
+    workers: usize,
 ) -> Result<Summary, RunFault>
+    requires { (1 ≤ workers) × (workers ≤ 16) }
     ensures ok { IfOk result (λ summary. EndsWell (R.remaining reader.old) (R.remaining reader.new)
         (W.contents writer.old) (W.contents writer.new) summary) }
     ensures short { IfErr result (λ fault. StopsShort (R.remaining reader.old) (R.remaining reader.new)
         (W.contents writer.old) (W.contents writer.new) fault) }
 {
     let mut tally = Tally::new();
-    run_counted(rt, alloc, reader, writer, MAX_READS, &mut tally)
+    run_counted(rt, alloc, reader, writer, workers, MAX_READS, &mut tally)
 }

@@ -1,2 +1,17 @@
 pub mod WordLemmas
 pub mod NumberLemmas
+pub mod PlaceLemmas
+pub mod JoinLemmas
+pub mod MnemonicLemmas
+pub mod VerbLemmas
+pub mod KindLemmas
+pub mod StepLemmas
+pub mod ReadingLemmas
+pub mod RefusalLemmas
+pub mod ManyLemmas
+pub mod InstructionLemmas
+pub mod WritingLemmas
+pub mod ColumnLemmas
+pub mod ShapeLemmas
+pub mod CommandLemmas
+pub mod LawLemmas

@@ -1,6 +1,6 @@
 -- A number is spelled in one way: by its decimal text.
 use Rattle.std.proofs.Common.{◌≡◌, ℕ, ◌+◌, ◌-◌, ◌*◌, ◌/◌, ◌%◌, ◌^◌, ◌<◌, ◌≤◌, List, [], ◌∷◌, ◌++◌, length, true, false, refl, sym, ap, ◌∙◌, arith, append_assoc, append-nil, None, Some, nat_lt, if◌then◌else◌}
-use Rattle.std.specs.Prelude.{Bool, ◌&&◌, IfSome, slice_index}
+use Rattle.std.specs.Prelude.{Bool, IfSome, slice_index}
 use Rattle.std.specs.List.{list_all}
 use Rattle.std.specs.Fmt.{decimal}
 use Rattle.std.proofs.lemmas.Fmt.{decimal_digit, decimal_step_wide}
@@ -8,14 +8,10 @@ use Rattle.std.proofs.lemmas.Bool.{ltb-true}
 use Rattle.std.proofs.lemmas.Bool.Decides.{nat_tests}
 use Rattle.paris_text.specs.Words.{is_digit, is_number, value_from, value_word, number_word}
 use Rattle.paris_text.proofs.WordLemmas.{value_from_ge}
+use Rattle.paris_text.proofs.JoinLemmas.{and_parts}
 
 digit_bounds : (b : ℕ) → is_digit b ≡ true → (48 ≤ b) × (b ≤ 57)
 digit_bounds b h = grind (arith, nat_tests)
-
-and_parts : (a b : Bool) → (a && b) ≡ true → (a ≡ true) × (b ≡ true)
-and_parts true true h = (refl, refl)
-and_parts true false h = cc
-and_parts false b h = cc
 
 digits_split : (b : ℕ) (bs : List ℕ) → list_all is_digit (b ∷ bs) ≡ true → (is_digit b ≡ true) × (list_all is_digit bs ≡ true)
 digits_split b bs h = and_parts (is_digit b) (list_all is_digit bs) h

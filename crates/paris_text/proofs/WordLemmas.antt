@@ -5,11 +5,10 @@ use Rattle.std.specs.List.{onto_first, position_or_len}
 use Rattle.std.proofs.lemmas.List.Splits.{slice_split_first}
 use Rattle.std.proofs.lemmas.Bool.{ltb-true, ltb-false, le-ltb}
 use Rattle.std.proofs.lemmas.Bool.Decides.{nat_tests}
-use Rattle.std.proofs.lemmas.List.{drop-drop, length-drop, take_all}
-use Rattle.std.proofs.lemmas.Option.{some_pair_parts}
-use Rattle.paris_text.specs.Words.{words, value_from, name_word, value_word}
+use Rattle.std.proofs.lemmas.List.{drop-drop, length-drop, take_all, at_drop_more}
+use Rattle.paris_text.specs.Words.{words, value_from, name_word, number_word, with_first, numbers_of}
 use Rattle.paris_names.specs.Names.{is_name}
-use Rattle.paris_text.specs.Grammar.{left, next_word, read_word, Left, all_values, ◌>>=◌, Gives}
+use Rattle.paris_text.specs.Reading.{left}
 
 pub value_from_ge : (n : ℕ) (bs : List ℕ) → n ≤ value_from n bs
 value_from_ge n [] = omega arith
@@ -94,51 +93,21 @@ left_all line =
     let here : nat_le 0 (length line) ≡ true = grind (arith, nat_tests) in
     rw here refl
 
--- a word that is there reads as its test says
-pub next_of_word : {X : Type 0} (read : List ℕ → Option X) (ws : List (List ℕ)) (w : List ℕ) (more : Left) → next_word Some ws ≡ Some (w, more)
-    → next_word read ws ≡ read_word (read w) more
-next_of_word read [] w more e = cc
-next_of_word {X = X} read (v ∷ vs) w more e =
-    let pair : (let p : List ℕ × Left = (v, vs) in p) ≡ (w, more) = cc in
-    let same : v ≡ w = ap (λ (p : List ℕ × Left). p.0) pair in
-    let rest : vs ≡ more = ap (λ (p : List ℕ × Left). p.1) pair in
-    rw (same, rest) refl
-
-pub no_next_word : {X : Type 0} (read : List ℕ → Option X) (ws : List (List ℕ)) → next_word Some ws ≡ None → next_word read ws ≡ None
-no_next_word read [] h = refl
-no_next_word read (w ∷ ws) h = cc
-
-pub word_reads : {X : Type 0} (read : List ℕ → Option X) (ws : List (List ℕ)) (w : List ℕ) (more : Left) (x : X) → next_word Some ws ≡ Some (w, more)
-    → read w ≡ Some x → next_word read ws ≡ Some (x, more)
-word_reads read ws w more x e r = next_of_word read ws w more e ∙ rw r refl
-
-pub word_fails : {X : Type 0} (read : List ℕ → Option X) (ws : List (List ℕ)) (w : List ℕ) (more : Left) → next_word Some ws ≡ Some (w, more)
-    → read w ≡ None → next_word read ws ≡ None
-word_fails read ws w more e r = next_of_word read ws w more e ∙ rw r refl
-
--- a list of values stops at a word that is none
-pub values_stop : (w : List ℕ) (ws : Left) → next_word value_word (w ∷ ws) ≡ None → all_values (w ∷ ws) ≡ None
-values_stop w ws = go (value_word w)
-  where
-    go : (r : Option ℕ) → read_word r ws ≡ None → (r >>= λ v. option_map (λ vs. v ∷ vs) (all_values ws)) ≡ None
-    go None h = refl
-    go (Some v) h = cc
+-- a list of numbers stops at a word that is none
+pub numbers_stop : (ws : List (List ℕ)) (i : ℕ) (w : List ℕ) → i < length ws → w ≡ get_or ws i w → number_word w ≡ None → numbers_of (drop i ws) ≡ None
+numbers_stop ws i w within is none =
+    let here : numbers_of (drop i ws) ≡ with_first (number_word (get_or ws i w)) (numbers_of (drop (i + 1) ws)) = at_drop_more numbers_of ws i w within in
+    let same : number_word (get_or ws i w) ≡ None = ap number_word (sym is) ∙ none in
+    here ∙ ap (λ (o : Option ℕ). with_first o (numbers_of (drop (i + 1) ws))) same
 
 -- and goes on behind one
-pub values_more : (ws : Left) (v : ℕ) (more : Left) → next_word value_word ws ≡ Some (v, more) → all_values ws ≡ option_map (λ vs. v ∷ vs) (all_values more)
-values_more [] v more h = cc
-values_more (w ∷ ws) v more h = go (value_word w) h
-  where
-    go : (r : Option ℕ) → read_word r ws ≡ Some (v, more) → (r >>= λ x. option_map (λ vs. x ∷ vs) (all_values ws)) ≡ option_map (λ vs. v ∷ vs) (all_values more)
-    go None e = cc
-    go (Some x) e =
-        let p = some_pair_parts x v ws more e in
-        rw (p.0, p.1) refl
+pub numbers_more : (ws : List (List ℕ)) (i : ℕ) (w : List ℕ) (n : ℕ) → i < length ws → w ≡ get_or ws i w → number_word w ≡ Some n
+    → numbers_of (drop i ws) ≡ option_map (λ ns. n ∷ ns) (numbers_of (drop (i + 1) ws))
+numbers_more ws i w n within is some =
+    let here : numbers_of (drop i ws) ≡ with_first (number_word (get_or ws i w)) (numbers_of (drop (i + 1) ws)) = at_drop_more numbers_of ws i w within in
+    let same : number_word (get_or ws i w) ≡ Some n = ap number_word (sym is) ∙ some in
+    here ∙ ap (λ (o : Option ℕ). with_first o (numbers_of (drop (i + 1) ws))) same
 
-pub values_on : (done : List ℕ) (v : ℕ) (o : Option (List ℕ)) → option_map (λ vs. done ++ vs) (option_map (λ vs. v ∷ vs) o) ≡ option_map (λ vs. (done ++ v ∷ []) ++ vs) o
-values_on done v None = refl
-values_on done v (Some vs) = ap Some (sym (append_assoc done (v ∷ []) vs))
-
-pub gives_same : {X : Type 0} (found read : Option X) → Gives (λ x. x) found read → found ≡ read
-gives_same None read h = sym h
-gives_same (Some x) read h = sym h
+pub numbers_on : (done : List ℕ) (n : ℕ) (o : Option (List ℕ)) → option_map (λ ns. done ++ ns) (option_map (λ ns. n ∷ ns) o) ≡ option_map (λ ns. (done ++ n ∷ []) ++ ns) o
+numbers_on done n None = refl
+numbers_on done n (Some ns) = ap Some (sym (append_assoc done (n ∷ []) ns))

@@ -1,2 +1,12 @@
 pub mod Words
-pub mod Grammar
+pub mod Mnemonics
+pub mod Kinds
+pub mod Columns
+pub mod Spelling
+pub mod Reading
+pub mod Writing
+pub mod Verbs
+pub mod Shapes
+pub mod Commands
+pub mod CommandReading
+pub mod Laws

@@ -1,17 +1,11 @@
 -- The words of a line, and what a word spells.
-use Rattle.std.specs.Prelude.{ℕ, ◌+◌, ◌-◌, ◌*◌, ◌^◌, List, [], ◌∷◌, length, take, drop, Bool, ◌&&◌, ◌||◌, if◌then◌else◌, nat_le, nat_lt, nat_eq, codes, slice_index, Option, None, Some}
+use Rattle.std.specs.Prelude.{ℕ, ◌+◌, ◌-◌, ◌*◌, ◌^◌, List, [], ◌∷◌, length, take, drop, Bool, ◌&&◌, ◌||◌, if◌then◌else◌, nat_le, nat_lt, nat_eq, codes, slice_index, Option, None, Some, option_map}
 use Rattle.std.specs.List.{slice_split, list_all, position_or_len}
 use Rattle.std.specs.Str.{bytes_eq}
 use Rattle.paris_names.specs.Names.{is_name}
 use Rattle.paris_names.specs.declared.names.KeyName.{KeyName}
 use Rattle.paris_names.specs.declared.keys.FlagName.{FlagName}
 use Rattle.paris_names.specs.declared.keys.FlagName.TheVariants.{Context, Test, Carry, Overflow}
-use Rattle.paris_names.specs.declared.keys.Spot.{Spot}
-use Rattle.paris_names.specs.declared.keys.Spot.TheVariants.{Start, End}
-use Rattle.paris_text.specs.declared.commands.Verb.{Verb}
-use Rattle.paris_text.specs.declared.commands.Verb.TheVariants.{Set, Field, Input, Insert, Take, Bring, Show}
-use Rattle.paris_text.specs.declared.commands.Mnemonic.{Mnemonic}
-use Rattle.paris_text.specs.declared.commands.Mnemonic.TheVariants.{UnsignedAdd, MoveConstant}
 
 -- a line is cut at each single space
 abbrev pub words : List ℕ → List (List ℕ)
@@ -52,9 +46,6 @@ flag_word w =
     else if bytes_eq w (codes "overflow") then Some Overflow
     else None
 
-abbrev pub spot_word : List ℕ → Option Spot
-spot_word w = if bytes_eq w (codes "start") then Some Start else if bytes_eq w (codes "end") then Some End else None
-
 -- how many bytes stand before the first dot
 abbrev pub dot_place : List ℕ → ℕ
 dot_place w = position_or_len (λ b. nat_eq b 46) w
@@ -74,19 +65,15 @@ key_word w =
     if nat_eq (dot_place w) (length w) then plain_key (name_word w)
     else flag_key (name_word (take (dot_place w) w)) (flag_word (drop (dot_place w + 1) w))
 
-abbrev pub verb_word : List ℕ → Option Verb
-verb_word w =
-    if bytes_eq w (codes "set") then Some Set
-    else if bytes_eq w (codes "field") then Some Field
-    else if bytes_eq w (codes "input") then Some Input
-    else if bytes_eq w (codes "insert") then Some Insert
-    else if bytes_eq w (codes "take") then Some Take
-    else if bytes_eq w (codes "bring") then Some Bring
-    else if bytes_eq w (codes "show") then Some Show
-    else None
+abbrev pub with_first : Option ℕ → Option (List ℕ) → Option (List ℕ)
+with_first None ns = None
+with_first (Some n) ns = option_map (λ rest. n ∷ rest) ns
 
-abbrev pub mnemonic_word : List ℕ → Option Mnemonic
-mnemonic_word w =
-    if bytes_eq w (codes "u-add-3-1L") then Some UnsignedAdd
-    else if bytes_eq w (codes "u-move-constant-1L") then Some MoveConstant
-    else None
+-- the numbers that words spell, one by one
+abbrev pub numbers_of : List (List ℕ) → Option (List ℕ)
+numbers_of [] = Some []
+numbers_of (w ∷ ws) = with_first (number_word w) (numbers_of ws)
+
+-- numbers joined by `x`
+abbrev pub axes_word : List ℕ → Option (List ℕ)
+axes_word w = numbers_of (slice_split (λ b. nat_eq b 120) w)

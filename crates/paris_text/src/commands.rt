@@ -1,42 +1,173 @@
-//! The commands of a script.
+//! The commands of a script. Each reader of a command takes a line and the place behind its first word.
 
+ghost use Rattle.std.specs.Prelude.{◌≡◌, ◌+◌, ◌≤◌, length, IfOk, IfErr, Ok};
+ghost use Rattle.paris_text.specs.Reading.{place, Gives};
+ghost use Rattle.paris_text.specs.CommandReading.{GivesIfRoom, IsRefusal, alone_at, rest_at, command_of};
+
+use crate::instructions::next_instr;
+use crate::reader::{
+    Syntax, line_end, next_axes, next_key, next_name, next_number, next_spot, next_values,
+    next_verb,
+};
+use crate::verbs::Verb;
 use paris_model::Instr;
-use paris_names::{Items, KeyName, Name, Spot};
+use paris_names::{Fault, Items, KeyName, Name, RowId, Spot};
+use std::alloc::Global;
 
 /// What a line of a script asks for.
 #[derive(Debug, Drop)]
 pub enum Command {
-    /// Declares a set of this name, with one axis of this length.
-    Set(Name, u64),
+    /// Declares a set of this name, with axes of these lengths.
+    Set(Name, Items<u64>),
     /// Declares a field of this name in the set of that name, with its width in bits.
     Field(Name, Name, u64),
     /// Gives a key these values, from a processor on.
     Input(KeyName, u64, Items<u128>),
-    /// Puts an instruction at the end of the program.
-    InsertEnd(Instr),
+    /// Puts an instruction at a place of the program.
+    Insert(Spot, Instr),
+    /// Takes a row out of the program.
+    Delete(RowId),
+    /// Puts an instruction in the place of a row's.
+    Replace(RowId, Instr),
     /// Takes an order for the first row that is ready.
     Take,
     /// Brings the result of the order of this number.
     Bring(u64),
+    /// Gives back the orders that were taken.
+    Release,
     /// Shows a key at a place of the program.
     Show(KeyName, Spot),
+    /// Lists the rows of the program.
+    List,
+    /// Lists the faults of the rows.
+    Faults,
+    /// Runs orders until all rows are settled.
+    Settle,
 }
 
-/// The first word of a command.
-#[derive(Clone, Copy, PartialEq, Eq, Debug)]
-pub enum Verb {
-    Set,
-    Field,
-    Input,
-    Insert,
-    Take,
-    Bring,
-    Show,
+#[tactic(auto, unfolding(crate::specs::CommandReading::rest_at))]
+fn set_command(alloc: Global, line: &[u8], at: usize) -> Result<Command, Fault>
+    requires { at ≤ length line.now + 1 }
+    ensures { GivesIfRoom (λ x. x) result (rest_at Verb.Set (place line.now at)) }
+{
+    let (name, at) = next_name(line, at)?;
+    let (axes, at) = next_axes(alloc, line, at)?;
+    line_end(line, at)?;
+    Ok(Command::Set(name, axes))
 }
 
-/// The first word of an instruction.
-#[derive(Clone, Copy, PartialEq, Eq, Debug)]
-pub enum Mnemonic {
-    UnsignedAdd,
-    MoveConstant,
+#[tactic(auto, unfolding(crate::specs::CommandReading::rest_at))]
+fn field_command(line: &[u8], at: usize) -> Result<Command, Syntax>
+    requires { at ≤ length line.now + 1 }
+    ensures { Gives (λ x. x) result (rest_at Verb.Field (place line.now at)) }
+{
+    let (name, at) = next_name(line, at)?;
+    let (set, at) = next_name(line, at)?;
+    let (width, at) = next_number(line, at)?;
+    line_end(line, at)?;
+    Ok(Command::Field(name, set, width))
+}
+
+#[tactic(auto, unfolding(crate::specs::CommandReading::rest_at))]
+fn input_command(alloc: Global, line: &[u8], at: usize) -> Result<Command, Fault>
+    requires { at ≤ length line.now + 1 }
+    ensures { GivesIfRoom (λ x. x) result (rest_at Verb.Input (place line.now at)) }
+{
+    let (key, at) = next_key(line, at)?;
+    let (from, at) = next_number(line, at)?;
+    let values = next_values(alloc, line, at)?;
+    Ok(Command::Input(key, from, values))
+}
+
+#[tactic(auto, unfolding(crate::specs::CommandReading::rest_at))]
+fn insert_command(line: &[u8], at: usize) -> Result<Command, Syntax>
+    requires { at ≤ length line.now + 1 }
+    ensures { Gives (λ x. x) result (rest_at Verb.Insert (place line.now at)) }
+{
+    let (spot, at) = next_spot(line, at)?;
+    let instr = next_instr(line, at)?;
+    Ok(Command::Insert(spot, instr))
+}
+
+#[tactic(auto, unfolding(crate::specs::CommandReading::rest_at))]
+fn delete_command(line: &[u8], at: usize) -> Result<Command, Syntax>
+    requires { at ≤ length line.now + 1 }
+    ensures { Gives (λ x. x) result (rest_at Verb.Delete (place line.now at)) }
+{
+    let (row, at) = next_number(line, at)?;
+    line_end(line, at)?;
+    Ok(Command::Delete(RowId(row)))
+}
+
+#[tactic(auto, unfolding(crate::specs::CommandReading::rest_at))]
+fn replace_command(line: &[u8], at: usize) -> Result<Command, Syntax>
+    requires { at ≤ length line.now + 1 }
+    ensures { Gives (λ x. x) result (rest_at Verb.Replace (place line.now at)) }
+{
+    let (row, at) = next_number(line, at)?;
+    let instr = next_instr(line, at)?;
+    Ok(Command::Replace(RowId(row), instr))
+}
+
+#[tactic(auto, unfolding(crate::specs::CommandReading::rest_at))]
+fn bring_command(line: &[u8], at: usize) -> Result<Command, Syntax>
+    requires { at ≤ length line.now + 1 }
+    ensures { Gives (λ x. x) result (rest_at Verb.Bring (place line.now at)) }
+{
+    let (order, at) = next_number(line, at)?;
+    line_end(line, at)?;
+    Ok(Command::Bring(order))
+}
+
+#[tactic(auto, unfolding(crate::specs::CommandReading::rest_at))]
+fn show_command(line: &[u8], at: usize) -> Result<Command, Syntax>
+    requires { at ≤ length line.now + 1 }
+    ensures { Gives (λ x. x) result (rest_at Verb.Show (place line.now at)) }
+{
+    let (key, at) = next_key(line, at)?;
+    let (spot, at) = next_spot(line, at)?;
+    line_end(line, at)?;
+    Ok(Command::Show(key, spot))
+}
+
+/// A command that is one word alone.
+fn bare_command(command: Command, line: &[u8], at: usize) -> Result<Command, Syntax>
+    requires { at ≤ length line.now + 1 }
+    ensures { Gives (λ x. x) result (alone_at command (place line.now at)) }
+{
+    line_end(line, at)?;
+    Ok(command)
+}
+
+/// The command of a first word and of the words from a place on.
+#[tactic(auto, unfolding(crate::specs::CommandReading::rest_at))]
+fn rest_of_command(alloc: Global, verb: Verb, line: &[u8], at: usize) -> Result<Command, Fault>
+    requires { at ≤ length line.now + 1 }
+    ensures { GivesIfRoom (λ x. x) result (rest_at verb (place line.now at)) }
+{
+    let command = match verb {
+        Verb::Set => return set_command(alloc, line, at),
+        Verb::Input => return input_command(alloc, line, at),
+        Verb::Field => field_command(line, at),
+        Verb::Insert => insert_command(line, at),
+        Verb::Delete => delete_command(line, at),
+        Verb::Replace => replace_command(line, at),
+        Verb::Take => bare_command(Command::Take, line, at),
+        Verb::Bring => bring_command(line, at),
+        Verb::Release => bare_command(Command::Release, line, at),
+        Verb::Show => show_command(line, at),
+        Verb::List => bare_command(Command::List, line, at),
+        Verb::Faults => bare_command(Command::Faults, line, at),
+        Verb::Settle => bare_command(Command::Settle, line, at),
+    };
+    Ok(command?)
+}
+
+/// The command that a line spells, or the column at which the line leaves the grammar of commands.
+pub fn read_command(alloc: Global, line: &[u8]) -> Result<Command, Fault>
+    ensures ok { IfOk result (λ c. command_of line.now ≡ Ok c) }
+    ensures err { IfErr result (λ fault. IsRefusal (command_of line.now) fault) }
+{
+    let (verb, at) = next_verb(line, 0)?;
+    rest_of_command(alloc, verb, line, at)
 }

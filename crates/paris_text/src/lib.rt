@@ -1,9 +1,20 @@
 //! The text of a script: the words of a line, and the command that a line spells.
 #![tactic(auto)]
 
+#[cfg(test)]
+mod command_tests;
 pub mod commands;
-pub mod grammar;
+pub mod instructions;
+pub mod laws;
+pub mod mnemonics;
+pub mod reader;
+#[cfg(test)]
+mod tests;
+pub mod verbs;
 pub mod words;
+pub mod writer;
 
-pub use commands::Command;
-pub use grammar::read_command;
+pub use commands::{Command, read_command};
+pub use instructions::read_instr;
+pub use reader::Syntax;
+pub use writer::write_instr;

@@ -1,13 +1,13 @@
 //! The words of a line, and what each of them spells.
 
-ghost use Rattle.std.specs.Prelude.{◌≡◌, ℕ, ◌+◌, ◌-◌, ◌^◌, ◌<◌, ◌≤◌, List, length, take, drop, nat_eq, nat_lt, nat_le, slice_index, ◌||◌, Option, Some, None, if◌then◌else◌, true, false};
+ghost use Rattle.std.specs.Prelude.{◌≡◌, ℕ, ◌+◌, ◌-◌, ◌^◌, ◌<◌, ◌≤◌, List, length, take, drop, nat_eq, nat_lt, nat_le, slice_index, ◌||◌, Option, Some, None, if◌then◌else◌, true, false, IfOk};
 ghost use Rattle.std.specs.Fmt.{decimal};
 ghost use Rattle.std.specs.List.{position_or_len, list_all};
 ghost use Rattle.std.specs.Option.{IfSome};
-ghost use Rattle.paris_text.specs.Words.{is_digit, is_number, value_from, value_word, number_word, flag_word, spot_word, key_word, verb_word, mnemonic_word};
+ghost use Rattle.paris_text.specs.Words.{is_digit, is_number, value_from, value_word, number_word, flag_word, key_word, axes_word};
 
-use crate::commands::{Mnemonic, Verb};
-use paris_names::{FlagName, KeyName, Name, Spot};
+use paris_names::{FlagName, Items, KeyName, Name};
+use std::alloc::{AllocError, Global};
 
 /// How many bytes come before the first one that is equal to `stop`.
 pub fn len_before(bytes: &[u8], stop: u8) -> usize
@@ -114,19 +114,6 @@ fn flag_of_word(word: &[u8]) -> Option<FlagName>
     }
 }
 
-/// The place of the program that a word names.
-pub fn spot_of_word(word: &[u8]) -> Option<Spot>
-    ensures { result ≡ spot_word word.now }
-{
-    if word == b"start".as_slice() {
-        Some(Spot::Start)
-    } else if word == b"end".as_slice() {
-        Some(Spot::End)
-    } else {
-        None
-    }
-}
-
 /// The key that a word names: a name, or a name with a dot and a flag after it.
 pub fn key_of_word(word: &[u8]) -> Option<KeyName>
     ensures { result ≡ key_word word.now }
@@ -144,38 +131,16 @@ pub fn key_of_word(word: &[u8]) -> Option<KeyName>
     })
 }
 
-/// The command that a first word begins.
-pub fn verb_of_word(word: &[u8]) -> Option<Verb>
-    ensures { result ≡ verb_word word.now }
+/// The lengths of axes that a word spells: numbers below `2 ^ 64` that are joined by `x`.
+pub fn axes_of_word(alloc: Global, word: &[u8]) -> Result<Option<Items<u64>>, AllocError>
+    ensures { IfOk result (λ axes. axes ≡ axes_word word.now) }
 {
-    if word == b"set".as_slice() {
-        Some(Verb::Set)
-    } else if word == b"field".as_slice() {
-        Some(Verb::Field)
-    } else if word == b"input".as_slice() {
-        Some(Verb::Input)
-    } else if word == b"insert".as_slice() {
-        Some(Verb::Insert)
-    } else if word == b"take".as_slice() {
-        Some(Verb::Take)
-    } else if word == b"bring".as_slice() {
-        Some(Verb::Bring)
-    } else if word == b"show".as_slice() {
-        Some(Verb::Show)
-    } else {
-        None
+    let mut axes = Vec::new(alloc);
+    for part in word.split(|byte| *byte == b'x') {
+        let Some(axis) = number_of_word(part) else {
+            return Ok(None);
+        };
+        axes.push(axis)?;
     }
-}
-
-/// The instruction that a word begins.
-pub fn mnemonic_of_word(word: &[u8]) -> Option<Mnemonic>
-    ensures { result ≡ mnemonic_word word.now }
-{
-    if word == b"u-add-3-1L".as_slice() {
-        Some(Mnemonic::UnsignedAdd)
-    } else if word == b"u-move-constant-1L".as_slice() {
-        Some(Mnemonic::MoveConstant)
-    } else {
-        None
-    }
+    Ok(Some(Items::new(axes)))
 }

@@ -1,0 +1,97 @@
+-- Reading a command from the left: the command, or the column of the first word that does not fit.
+use Rattle.std.specs.Prelude.{◌≡◌, ℕ, ◌+◌, List, [], ◌∷◌, length, Result, Ok, Err, codes, if◌then◌else◌, ◌⊎◌}
+use Rattle.std.specs.Str.{bytes_eq}
+use Rattle.paris_names.specs.declared.faults.Fault.{Fault}
+use Rattle.paris_names.specs.declared.faults.Fault.TheVariants.{NoMemory, Syntax}
+use Rattle.paris_names.specs.declared.keys.Spot.{Spot}
+use Rattle.paris_names.specs.declared.keys.Spot.TheVariants.{Start, After, End}
+use Rattle.paris_text.specs.declared.verbs.Verb.{Verb}
+use Rattle.paris_text.specs.declared.verbs.Verb.TheVariants as verb
+use Rattle.paris_text.specs.declared.commands.Command.{Command}
+use Rattle.paris_text.specs.declared.commands.Command.TheVariants as command
+use Rattle.paris_text.specs.Words.{words}
+use Rattle.paris_text.specs.Verbs.{verb_word}
+use Rattle.paris_text.specs.Kinds.{Kind, Meaning, meaning}
+use Rattle.paris_text.specs.Kinds.Kind.{NumberWord}
+use Rattle.paris_text.specs.Spelling.{Instruction}
+use Rattle.paris_text.specs.Shapes.{Shape, shape_of}
+use Rattle.paris_text.specs.Shapes.Shape.{Done, One, Many, AtSpot, Whole}
+use Rattle.paris_text.specs.Reading.{Place, ◌>>=◌, read_word, next_word, word_at, kind_at, end_at, instr_at}
+
+unfoldable pub verb_at : Place → Result (Verb × Place) ℕ
+verb_at p = next_word verb_word p.0 p.1
+
+-- all words from a column on, each of a kind
+abbrev pub each_at : (k : Kind) → ℕ → List (List ℕ) → Result (List (Meaning k)) ℕ
+each_at k c [] = Ok []
+each_at k c (w ∷ ws) = read_word (meaning k w) c w ws >>= λ x. each_at k (c + length w + 1) ws >>= λ xs. Ok (x.0 ∷ xs)
+
+-- one word or more, each of a kind, and then the end of the line
+unfoldable pub many_at : (k : Kind) → Place → Result (List (Meaning k)) ℕ
+many_at k p = kind_at k p >>= λ x. each_at k x.1.0 x.1.1 >>= λ xs. Ok (x.0 ∷ xs)
+
+-- the place of the program that begins with a word at a column
+abbrev pub spot_from : List ℕ → ℕ → Place → Result (Spot × Place) ℕ
+spot_from w c behind =
+    if bytes_eq w (codes "start") then Ok (Start, behind)
+    else if bytes_eq w (codes "after") then (kind_at NumberWord behind >>= λ row. Ok (After (record { 0 = row.0 }), row.1))
+    else if bytes_eq w (codes "end") then Ok (End, behind)
+    else Err c
+
+unfoldable pub spot_at : Place → Result (Spot × Place) ℕ
+spot_at p = word_at p >>= λ x. spot_from x.0 p.0 x.1
+
+-- a command of one word, which ends the line
+abbrev pub alone_at : Command → Place → Result Command ℕ
+alone_at c p = end_at p >>= λ over. Ok c
+
+-- what words of a shape stand for
+abbrev pub Means : Shape → Type 0
+Means Done = Unit {0}
+Means (One k rest) = Meaning k × Means rest
+Means (Many k) = List (Meaning k)
+Means (AtSpot rest) = Spot × Means rest
+Means Whole = Instruction
+
+-- words of this shape, and then the end of the line
+abbrev pub shape_at : (s : Shape) → Place → Result (Means s) ℕ
+shape_at Done p = end_at p
+shape_at (One k rest) p = kind_at k p >>= λ x. shape_at rest x.1 >>= λ xs. Ok (x.0, xs)
+shape_at (Many k) p = many_at k p
+shape_at (AtSpot rest) p = spot_at p >>= λ x. shape_at rest x.1 >>= λ xs. Ok (x.0, xs)
+shape_at Whole p = instr_at p
+
+-- the command of a first word and of what the words behind it stand for
+abbrev pub command_from : (v : Verb) → Means (shape_of v) → Command
+command_from verb.Set (name, (axes, end)) = command.Set name axes
+command_from verb.Field (name, (set, (width, end))) = command.Field name set width
+command_from verb.Input (key, (from, values)) = command.Input key from values
+command_from verb.Insert (spot, instr) = command.Insert spot instr
+command_from verb.Delete (row, end) = command.Delete (record { 0 = row })
+command_from verb.Replace (row, instr) = command.Replace (record { 0 = row }) instr
+command_from verb.Take end = command.Take
+command_from verb.Bring (order, end) = command.Bring order
+command_from verb.Release end = command.Release
+command_from verb.Show (key, (spot, end)) = command.Show key spot
+command_from verb.List end = command.List
+command_from verb.Faults end = command.Faults
+command_from verb.Settle end = command.Settle
+
+unfoldable pub rest_at : Verb → Place → Result Command ℕ
+rest_at v p = shape_at (shape_of v) p >>= λ xs. Ok (command_from v xs)
+
+unfoldable pub command_at : Place → Result Command ℕ
+command_at p = verb_at p >>= λ first. rest_at first.0 first.1
+
+-- the command that a line is, or the column at which the line leaves the grammar of commands
+unfoldable pub command_of : List ℕ → Result Command ℕ
+command_of line = command_at (1, words line)
+
+-- the fault that is due: the column where reading stops, or want of memory
+abbrev pub IsRefusal : {X : Type 0} → Result X ℕ → Fault → Type 0
+IsRefusal read fault = (fault ≡ NoMemory) ⊎ ((column : ℕ) × (fault ≡ Syntax column) × (read ≡ Err column))
+
+-- what a reader of the code gave, which may want memory, is what reading gives
+abbrev pub GivesIfRoom : {X Y : Type 0} → (X → Y) → Result X Fault → Result Y ℕ → Type 0
+GivesIfRoom view (Ok x) read = read ≡ Ok (view x)
+GivesIfRoom view (Err fault) read = IsRefusal read fault

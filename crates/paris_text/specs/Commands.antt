@@ -1,0 +1,46 @@
+-- The one spelling of each command.
+use Rattle.std.specs.Prelude.{◌≢◌, ℕ, List, [], ◌∷◌, ◌++◌, map, codes}
+use Rattle.std.specs.List.{join_with_byte, AllByRecursion}
+use Rattle.std.specs.Fmt.{decimal}
+use Rattle.paris_text.specs.declared.commands.Command.{Command}
+use Rattle.paris_text.specs.declared.commands.Command.TheVariants as command
+use Rattle.paris_text.specs.Kinds.{key_text, axes_text, Fits}
+use Rattle.paris_text.specs.Kinds.Kind.{NameWord, NumberWord, ValueWord, KeyWord, AxesWord}
+use Rattle.paris_text.specs.Spelling.{words_of, IsInBounds}
+use Rattle.paris_text.specs.Shapes.{spot_words, SpotFits}
+
+-- the words of a command
+abbrev pub command_words : Command → List (List ℕ)
+command_words (command.Set name axes) = codes "set" ∷ name ∷ axes_text axes ∷ []
+command_words (command.Field name set width) = codes "field" ∷ name ∷ set ∷ decimal width ∷ []
+command_words (command.Input key from values) = codes "input" ∷ key_text key ∷ decimal from ∷ map decimal values
+command_words (command.Insert spot instr) = codes "insert" ∷ (spot_words spot ++ words_of instr)
+command_words (command.Delete row) = codes "delete" ∷ decimal row.0 ∷ []
+command_words (command.Replace row instr) = codes "replace" ∷ decimal row.0 ∷ words_of instr
+command_words command.Take = codes "take" ∷ []
+command_words (command.Bring order) = codes "bring" ∷ decimal order ∷ []
+command_words command.Release = codes "release" ∷ []
+command_words (command.Show key spot) = codes "show" ∷ key_text key ∷ spot_words spot
+command_words command.List = codes "list" ∷ []
+command_words command.Faults = codes "faults" ∷ []
+command_words command.Settle = codes "settle" ∷ []
+
+-- the words with one space between each two
+unfoldable pub command_spelling : Command → List ℕ
+command_spelling c = join_with_byte 32 (command_words c)
+
+-- the names are names, the numbers are below the bounds of their kinds, and there is an axis and a value
+abbrev pub IsCommandInBounds : Command → Type 0
+IsCommandInBounds (command.Set name axes) = Fits NameWord name × Fits AxesWord axes
+IsCommandInBounds (command.Field name set width) = Fits NameWord name × Fits NameWord set × Fits NumberWord width
+IsCommandInBounds (command.Input key from values) = Fits KeyWord key × Fits NumberWord from × (values ≢ []) × AllByRecursion (Fits ValueWord) values
+IsCommandInBounds (command.Insert spot instr) = SpotFits spot × IsInBounds instr
+IsCommandInBounds (command.Delete row) = Fits NumberWord row.0
+IsCommandInBounds (command.Replace row instr) = Fits NumberWord row.0 × IsInBounds instr
+IsCommandInBounds (command.Bring order) = Fits NumberWord order
+IsCommandInBounds (command.Show key spot) = Fits KeyWord key × SpotFits spot
+IsCommandInBounds command.Take = Unit {0}
+IsCommandInBounds command.Release = Unit {0}
+IsCommandInBounds command.List = Unit {0}
+IsCommandInBounds command.Faults = Unit {0}
+IsCommandInBounds command.Settle = Unit {0}

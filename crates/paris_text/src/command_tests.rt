@@ -1,0 +1,116 @@
+//! Commands that are read, and wrong lines.
+
+use crate::{Command, read_command};
+use paris_model::{Action, Conditional};
+use paris_names::{Fault, FlagName, RowId, Spot};
+
+#[test]
+fn each_command_is_read(rt: HostRuntime) {
+    for line in [
+        "set S 4",
+        "set S 8x4x2x18446744073709551615",
+        "field a S 8",
+        "input a 0 10",
+        "input S.test 3 0 1 340282366920938463463374607431768211455",
+        "insert start u-add-3-1L c a b 8",
+        "insert after 12 set-test S",
+        "insert end scan-with-copy-1L d v 0 8 upward none",
+        "delete 1",
+        "replace 2 u-move-1L d a 8",
+        "take",
+        "bring 3",
+        "release",
+        "show a start",
+        "show S.overflow after 7",
+        "show S.context end",
+        "list",
+        "faults",
+        "settle",
+    ] {
+        let read = read_command(rt.alloc(), line.as_bytes());
+        assert!(rt; read.is_ok(), "{line} is not read");
+    }
+}
+
+#[test]
+fn a_set_has_its_axes(rt: HostRuntime) {
+    let read = read_command(rt.alloc(), b"set S 8x4x2");
+    match &read {
+        Ok(Command::Set(name, axes)) => {
+            assert!(rt; name.as_bytes() == b"S".as_slice());
+            assert!(rt; axes.as_slice() == [8, 4, 2].as_slice());
+        }
+        _other => assert!(rt; false, "a set is read"),
+    }
+}
+
+#[test]
+fn an_input_has_its_values(rt: HostRuntime) {
+    let read = read_command(rt.alloc(), b"input S.carry 2 1 0 1");
+    match &read {
+        Ok(Command::Input(key, from, values)) => {
+            assert!(rt; key.name.as_bytes() == b"S".as_slice());
+            assert!(rt; key.flag == Some(FlagName::Carry));
+            assert!(rt; *from == 2);
+            assert!(rt; values.as_slice() == [1, 0, 1].as_slice());
+        }
+        _other => assert!(rt; false, "an input is read"),
+    }
+}
+
+#[test]
+fn an_insertion_has_its_place(rt: HostRuntime) {
+    let read = read_command(rt.alloc(), b"insert after 7 set-test S");
+    match &read {
+        Ok(Command::Insert(spot, Action::OnSelected(Conditional::SetTest(set)))) => {
+            assert!(rt; *spot == Spot::After(RowId(7)));
+            assert!(rt; set.as_bytes() == b"S".as_slice());
+        }
+        _other => assert!(rt; false, "an insertion is read"),
+    }
+}
+
+#[test]
+fn wrong_lines_have_the_column_of_the_first_wrong_word(rt: HostRuntime) {
+    for (line, column) in [
+        ("", 1),
+        ("shw a end", 1),
+        ("show a", 7),
+        ("show  a end", 6),
+        ("field a S", 10),
+        ("paris 2", 1),
+        ("session", 1),
+        ("SET S 4", 1),
+        ("take ", 6),
+        ("settle\r", 1),
+        ("set S", 6),
+        ("set S 2x", 7),
+        ("set S 2x02", 7),
+        ("set S 18446744073709551616", 7),
+        ("set S 2 2", 9),
+        ("input a 0", 10),
+        ("input a 0 1 x", 13),
+        ("input a.flag 0 1", 7),
+        ("input a. 0 1", 7),
+        ("insert at end", 8),
+        ("insert end", 11),
+        ("insert after u-add-3-1L c a b 8", 14),
+        ("insert after 1", 15),
+        ("insert end add c", 12),
+        ("insert end u-add-3-1L c a b", 28),
+        ("insert start u-add-3-1L c none b 8", 27),
+        ("replace 1 set-test S x", 22),
+        ("replace 1", 10),
+        ("delete -1", 8),
+        ("bring 18446744073709551616", 7),
+        ("release now", 9),
+        ("show S.carry after end", 20),
+        ("show a at", 8),
+    ] {
+        let found = match read_command(rt.alloc(), line.as_bytes()) {
+            Err(Fault::Syntax(found)) => found,
+            _ => 0,
+        };
+        assert_eq!(rt; found, column, "of {line}");
+    }
+}
