@@ -41,6 +41,8 @@ fn main(rt: HostRuntime) -> ExitCode {
 #[cfg(test)]
 mod cuts;
 #[cfg(test)]
+mod gallery;
+#[cfg(test)]
 mod rows;
 #[cfg(test)]
 mod scripts;
