@@ -1,0 +1,6 @@
+pub mod Numbers
+pub mod Lists
+pub mod Values
+pub mod Turn
+pub mod Six
+pub mod Halves

@@ -1,0 +1,48 @@
+-- From each place to whole lists of numbers.
+use Rattle.std.proofs.Common.{◌≡◌, ◌≤◌, ℕ, ◌+◌, ◌<◌, ◌*◌, ◌%◌, ◌^◌, List, [], ◌∷◌, ◌++◌, Bool, length, get_or, arith, ◌∙◌, sym, ap, false, true, refl, subst, cond, drop, take, ◌-◌}
+use Rattle.std.proofs.lemmas.List.FromFn.{length-map-range_with_len, get_or-map-range_with_len, map-range_with_len_more, fill_by_all}
+use Rattle.paris_model.specs.Store.{put, stored}
+use Rattle.paris_field.specs.Fields.{FieldNumbers}
+use Rattle.paris_field.specs.Numbers.{number_at, numbers}
+use Rattle.paris_field.proofs.Numbers.{number_at_lt, number_at_put, number_at_split}
+
+pub length-numbers : (n : ℕ) (ps : List (List Bool)) → length (numbers n ps) ≡ n
+unfolding numbers
+length-numbers n ps = length-map-range_with_len (number_at ps) 0 n
+
+pub get_or-numbers : (n : ℕ) (ps : List (List Bool)) (v : ℕ) → v < n → get_or (numbers n ps) v 0 ≡ number_at ps v
+unfolding numbers
+get_or-numbers n ps v h = get_or-map-range_with_len (number_at ps) 0 n v v 0 h (omega arith)
+
+pub numbers_are : (n : ℕ) (ps : List (List Bool)) (xs : List ℕ) → length xs ≡ n → ((v : ℕ) → v < n → number_at ps v ≡ get_or xs v 0) → numbers n ps ≡ xs
+unfolding numbers
+numbers_are n ps xs long each = sym (fill_by_all (number_at ps) xs n 0 long (λ v h. sym (each v h)))
+
+pub number_of : {n : ℕ} (ps : List (List Bool)) {xs : List ℕ} → numbers n ps ≡ xs → (v : ℕ) → v < n → get_or xs v 0 ≡ number_at ps v
+number_of {n} ps is v h = ap (λ l. get_or l v 0) (sym is) ∙ get_or-numbers n ps v h
+
+pub count_of : {n : ℕ} (ps : List (List Bool)) {xs : List ℕ} → numbers n ps ≡ xs → length xs ≡ n
+count_of {n} ps is = ap length (sym is) ∙ length-numbers n ps
+
+pub below_of : (ps : List (List Bool)) (v w : ℕ) → length ps ≡ w → number_at ps v < 2 ^ w
+below_of ps v w long = subst (λ k. number_at ps v < 2 ^ k) long (number_at_lt ps v)
+
+pub numbers_more : (k : ℕ) (ps : List (List Bool)) → numbers (k + 1) ps ≡ numbers k ps ++ number_at ps k ∷ []
+unfolding numbers
+numbers_more k ps = map-range_with_len_more (number_at ps) 0 k k (omega arith)
+
+-- a merge at one place
+merged_at : (b : Bool) (old new other : List (List Bool)) (len v : ℕ) → len ≤ length old → len ≤ length other → number_at (take len new) v ≡ cond b (number_at (take len other) v) (number_at (take len old) v) → drop len new ≡ drop len old → number_at new v ≡ cond b (put (number_at old v) (number_at other v) len) (number_at old v)
+merged_at true old new other len v ho hx low high = number_at_put old new other len v ho hx low high
+merged_at false old new other len v ho hx low high =
+    omega (arith, number_at_split new len v, number_at_split old len v, low, ap (λ ps. 2 ^ len * number_at ps v) high)
+
+-- a merge of planes is a store under the mask
+pub merged_are : (n len : ℕ) (old new other : List (List Bool)) (xs : List ℕ) (mask : List Bool) → numbers n old ≡ xs → length mask ≡ length xs → len ≤ length old → len ≤ length other → ((v : ℕ) → v < length mask → number_at (take len new) v ≡ cond (get_or mask v false) (number_at (take len other) v) (number_at (take len old) v)) → drop len new ≡ drop len old
+    → numbers n new ≡ stored (length xs) (λ v. get_or mask v false) (λ v. get_or xs v 0) len (number_at other)
+merged_are n len old new other xs mask is_xs xm ho hx low high =
+    let nx : length xs ≡ n = count_of old is_xs in
+    numbers_are n new _ (length-map-range_with_len _ 0 (length xs) ∙ nx) (λ v h.
+    merged_at (get_or mask v false) old new other len v ho hx (low v (omega arith)) high
+    ∙ ap (λ x. cond (get_or mask v false) (put x (number_at other v) len) x) (sym (number_of old is_xs v h))
+    ∙ sym (get_or-map-range_with_len _ 0 (length xs) v v 0 (omega arith) (omega arith)))

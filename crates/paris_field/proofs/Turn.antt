@@ -1,0 +1,216 @@
+-- What the exchange of two rows of a square of bits does to each bit, and six exchanges together.
+use Rattle.std.proofs.Common.{◌≡◌, ℕ, zero, suc, ◌+◌, ◌-◌, ◌*◌, ◌/◌, ◌%◌, ◌^◌, ◌<◌, ◌≤◌, ◌≢◌, ◌&&◌, Bool, true, false, cond, List, get_or, set, length, arith, ap, ◌∙◌, sym, eqb, bit_and, bit_xor, add-zero, inl, inr, refl, ◌⊎◌}
+use Rattle.std.specs.Int.{bit_at}
+use Rattle.std.proofs.Math.Nat.{div-div-eq-div-mul, pow-succ', add-mul-div_left, div-eq_of_lt}
+use Rattle.std.proofs.lemmas.Bool.{cases_lt, cases_eq}
+use Rattle.std.proofs.lemmas.Bool.Decides.{nat_tests}
+use Rattle.std.proofs.lemmas.Grind.{get_or-set_at}
+use Rattle.std.proofs.lemmas.List.{get_or-set_other, length-set}
+use Rattle.std.proofs.lemmas.Nat.Bits.{bit_at_cat_low, bit_at_cat_high, bit_at-zero}
+use Rattle.std.proofs.lemmas.Nat.{pow-add, div-add-mod'}
+use Rattle.paris_plane.specs.Bits.{word_bit}
+use Rattle.paris_plane.specs.Laws.{xor_by_bit, and_by_bit}
+use Rattle.paris_field.specs.Square.{digit, crossed, MarksZeros}
+
+pub shr_bit : (n s i : ℕ) → word_bit (n / 2 ^ s) i ≡ word_bit n (s + i)
+unfolding word_bit
+shr_bit n s i = ap (λ x. eqb (x % 2) 1) (div-div-eq-div-mul n (2 ^ s) (2 ^ i) ∙ ap (λ p. n / p) (sym (pow-add 2 s i)))
+
+pow-pos : (s : ℕ) → 0 < 2 ^ s
+pow-pos zero = omega arith
+pow-pos (suc s) = omega (arith, pow-pos s, pow-succ' 2 s)
+
+mod_bit : (n i : ℕ) → i < 64 → bit_at (n % 2 ^ 64) i ≡ bit_at n i
+mod_bit n i h = sym (bit_at_cat_low (n / 2 ^ 64) 64 (n % 2 ^ 64) i h) ∙ ap (λ x. bit_at x i) (div-add-mod' n (2 ^ 64))
+
+low_bit : (n i : ℕ) → i < 64 → word_bit (n % 2 ^ 64) i ≡ word_bit n i
+unfolding word_bit
+low_bit n i h = ap (λ x. eqb x 1) (mod_bit n i h)
+
+-- a bit of the word that is made of the 64 bits from s on
+pub word_from : (n s i : ℕ) → i < 64 → word_bit (n / 2 ^ s % 2 ^ 64) i ≡ word_bit n (s + i)
+word_from n s i h = low_bit (n / 2 ^ s) i h ∙ shr_bit n s i
+
+shl_low : (t s i : ℕ) → i < s → i < 64 → word_bit (t * 2 ^ s % 2 ^ 64) i ≡ false
+unfolding word_bit
+shl_low t s i h below = ap (λ x. eqb x 1) (mod_bit (t * 2 ^ s) i below ∙ ap (λ x. bit_at x i) (sym (add-zero (t * 2 ^ s))) ∙ bit_at_cat_low t s 0 i h ∙ bit_at-zero i)
+
+shl_high : (t s i : ℕ) → s ≤ i → i < 64 → word_bit (t * 2 ^ s % 2 ^ 64) i ≡ word_bit t (i - s)
+unfolding word_bit
+shl_high t s i h below = ap (λ x. eqb x 1) (mod_bit (t * 2 ^ s) i below ∙ ap (λ x. bit_at x i) (sym (add-zero (t * 2 ^ s))) ∙ bit_at_cat_high t s 0 i (pow-pos s) h)
+
+-- what two rows exchange
+abbrev exchanged : ℕ → ℕ → ℕ → ℕ → ℕ
+exchanged x y s m = bit_and (bit_xor (x / 2 ^ s) y) m
+
+upper_of_lower : (x y s m i : ℕ) → word_bit (bit_xor y (exchanged x y s m)) i ≡ cond (word_bit m i) (word_bit x (s + i)) (word_bit y i)
+upper_of_lower x y s m i = grind (arith, xor_by_bit y (exchanged x y s m) i, and_by_bit (bit_xor (x / 2 ^ s) y) m i, xor_by_bit (x / 2 ^ s) y i, shr_bit x s i)
+
+stays_low : (x y s m i : ℕ) → i < s → i < 64 → word_bit (bit_xor x (exchanged x y s m * 2 ^ s % 2 ^ 64)) i ≡ word_bit x i
+stays_low x y s m i h below = grind (arith, xor_by_bit x (exchanged x y s m * 2 ^ s % 2 ^ 64) i, shl_low (exchanged x y s m) s i h below)
+
+lower_of_upper : (x y s m i : ℕ) → s ≤ i → i < 64 → word_bit (bit_xor x (exchanged x y s m * 2 ^ s % 2 ^ 64)) i ≡ cond (word_bit m (i - s)) (word_bit y (i - s)) (word_bit x i)
+lower_of_upper x y s m i h below =
+    let back : word_bit x (s + (i - s)) ≡ word_bit x i = ap (word_bit x) (omega arith) in
+    grind (arith, back, xor_by_bit x (exchanged x y s m * 2 ^ s % 2 ^ 64) i, shl_high (exchanged x y s m) s i h below, and_by_bit (bit_xor (x / 2 ^ s) y) m (i - s), xor_by_bit (x / 2 ^ s) y (i - s), shr_bit x s (i - s))
+
+-- digits
+pub digit-add : (s n : ℕ) → 0 < s → digit s (n + s) ≡ (digit s n + 1) % 2
+digit-add s n h =
+    let more : (n + s) / s ≡ n / s + 1 = ap (λ t. (n + t) / s) (omega arith) ∙ add-mul-div_left n 1 h in
+    ap (λ q. q % 2) more ∙ omega arith
+
+digit_below : (s n : ℕ) → n < s → digit s n ≡ 0
+digit_below s n below = ap (λ q. q % 2) (div-eq_of_lt below)
+
+pub digit_cases : (s n : ℕ) → (digit s n ≡ 0) ⊎ (digit s n ≡ 1)
+digit_cases s n =
+    elim (cases_eq (digit s n) 0) [ inl e ↦ inl e | inr e ↦ inr (omega arith) ]
+
+-- the two words of an exchange
+pub lower_word : (x y s m i : ℕ) → MarksZeros s m → i < 64 → word_bit (bit_xor y (exchanged x y s m)) i ≡ cond (eqb (digit s i) 0) (word_bit x (i + s)) (word_bit y i)
+lower_word x y s m i marks h =
+    upper_of_lower x y s m i ∙ ap (λ b. cond b (word_bit x (s + i)) (word_bit y i)) (marks i h)
+    ∙ ap (λ k. cond (eqb (digit s i) 0) (word_bit x k) (word_bit y i)) (omega arith)
+
+test_back : (s i : ℕ) → 0 < s → s ≤ i → (a b : Bool) → cond (eqb (digit s (i - s)) 0) a b ≡ cond (eqb (digit s i) 0) b a
+test_back s i h above a b =
+    let e : digit s i ≡ (digit s (i - s) + 1) % 2 = ap (digit s) (omega arith) ∙ digit-add s (i - s) h in
+    elim (digit_cases s (i - s)) [
+      | inl z ↦
+          let w : digit s i ≡ 1 = e ∙ ap (λ t. (t + 1) % 2) z in
+          ap (λ t. cond (eqb t 0) a b) z ∙ sym (ap (λ t. cond (eqb t 0) b a) w)
+      | inr z ↦
+          let w : digit s i ≡ 0 = e ∙ ap (λ t. (t + 1) % 2) z in
+          ap (λ t. cond (eqb t 0) a b) z ∙ sym (ap (λ t. cond (eqb t 0) b a) w)
+    ]
+
+pub upper_word : (x y s m i : ℕ) → 0 < s → MarksZeros s m → i < 64 → word_bit (bit_xor x (exchanged x y s m * 2 ^ s % 2 ^ 64)) i ≡ cond (eqb (digit s i) 0) (word_bit x i) (word_bit y (i - s))
+upper_word x y s m i pos marks h =
+    elim (cases_lt i s) [
+      | inl below ↦
+          stays_low x y s m i below h ∙ sym (ap (λ t. cond (eqb t 0) (word_bit x i) (word_bit y (i - s))) (digit_below s i below))
+      | inr above ↦
+          lower_of_upper x y s m i above h
+          ∙ ap (λ b. cond b (word_bit y (i - s)) (word_bit x i)) (marks (i - s) (omega arith))
+          ∙ test_back s i pos above (word_bit y (i - s)) (word_bit x i)
+    ]
+
+-- the first of the two rows that are exchanged with this one
+abbrev pub first : ℕ → ℕ → ℕ
+first s n = n - s * digit s n
+
+first_zero : (s n : ℕ) → digit s n ≡ 0 → first s n ≡ n
+first_zero s n e = ap (λ d. n - s * d) e ∙ omega arith
+
+first_one : (s n : ℕ) → digit s n ≡ 1 → first s n ≡ n - s
+first_one s n e = ap (λ d. n - s * d) e ∙ omega arith
+
+one_at_least : (s n : ℕ) → digit s n ≡ 1 → s ≤ n
+one_at_least s n e =
+    elim (cases_lt n s) [ inl below ↦ absurd (omega (arith, e, digit_below s n below)) | inr above ↦ above ]
+
+digit_first : (s n : ℕ) → 0 < s → digit s (first s n) ≡ 0
+digit_first s n h =
+    elim (digit_cases s n) [
+      | inl e ↦ ap (digit s) (first_zero s n e) ∙ e
+      | inr e ↦
+          let above : s ≤ n = one_at_least s n e in
+          let more : digit s n ≡ (digit s (n - s) + 1) % 2 = ap (digit s) (omega arith) ∙ digit-add s (n - s) h in
+          let back : digit s (n - s) ≡ 0 = elim (digit_cases s (n - s)) [ inl z ↦ z | inr z ↦ absurd (omega (arith, e, more, z)) ] in
+          ap (digit s) (first_one s n e) ∙ back
+    ]
+
+crossed_is : (s n m a b : ℕ) → digit s n ≡ a → digit s m ≡ b → crossed s n m ≡ n - s * a + s * b
+crossed_is s n m a b e f =
+    ap (λ d. n - s * d + s * digit s m) e ∙ ap (λ d. n - s * a + s * d) f
+
+-- the place of a bit after the exchange, by the two digits
+placed : (old : List ℕ) (s j i a b row place : ℕ) → digit s j ≡ a → digit s i ≡ b → row ≡ j - s * a + s * b → place ≡ i - s * b + s * a → word_bit (get_or old row 0) place ≡ word_bit (get_or old (crossed s j i) 0) (crossed s i j)
+placed old s j i a b row place e f r p =
+    ap (λ t. word_bit (get_or old t 0) place) (r ∙ sym (crossed_is s j i a b e f))
+    ∙ ap (word_bit (get_or old (crossed s j i) 0)) (p ∙ sym (crossed_is s i j b a f e))
+
+pub upper_placed : (old : List ℕ) (s j i : ℕ) → digit s j ≡ 0 → cond (eqb (digit s i) 0) (word_bit (get_or old j 0) i) (word_bit (get_or old (j + s) 0) (i - s)) ≡ word_bit (get_or old (crossed s j i) 0) (crossed s i j)
+upper_placed old s j i e =
+    elim (digit_cases s i) [
+      | inl z ↦
+          ap (λ t. cond (eqb t 0) (word_bit (get_or old j 0) i) (word_bit (get_or old (j + s) 0) (i - s))) z
+          ∙ placed old s j i 0 0 j i e z (omega arith) (omega arith)
+      | inr z ↦
+          ap (λ t. cond (eqb t 0) (word_bit (get_or old j 0) i) (word_bit (get_or old (j + s) 0) (i - s))) z
+          ∙ placed old s j i 0 1 (j + s) (i - s) e z (omega arith) (omega arith)
+    ]
+
+pub lower_placed : (old : List ℕ) (s j i : ℕ) → 0 < s → digit s j ≡ 0 → cond (eqb (digit s i) 0) (word_bit (get_or old j 0) (i + s)) (word_bit (get_or old (j + s) 0) i) ≡ word_bit (get_or old (crossed s (j + s) i) 0) (crossed s i (j + s))
+lower_placed old s j i pos e =
+    let one : digit s (j + s) ≡ 1 = digit-add s j pos ∙ ap (λ t. (t + 1) % 2) e in
+    elim (digit_cases s i) [
+      | inl z ↦
+          ap (λ t. cond (eqb t 0) (word_bit (get_or old j 0) (i + s)) (word_bit (get_or old (j + s) 0) i)) z
+          ∙ placed old s (j + s) i 1 0 j (i + s) one z (omega arith) (omega arith)
+      | inr z ↦
+          let above : s ≤ i = one_at_least s i z in
+          ap (λ t. cond (eqb t 0) (word_bit (get_or old j 0) (i + s)) (word_bit (get_or old (j + s) 0) i)) z
+          ∙ placed old s (j + s) i 1 1 (j + s) i one z (omega arith) (omega arith)
+    ]
+
+-- the rows as far as the loop has come: those whose first row is below j are done, the others are as they were
+pub record Halfway (s j : ℕ) (rows old : List ℕ) : Type 0 where
+  pub done : (x i : ℕ) → x < 64 → i < 64 → first s x < j → word_bit (get_or rows x 0) i ≡ word_bit (get_or old (crossed s x i) 0) (crossed s i x)
+  pub left : (x : ℕ) → j ≤ first s x → get_or rows x 0 ≡ get_or old x 0
+
+-- a row with the digit 1 has been done with its first row
+pub halfway_passes : (s j : ℕ) (rows old : List ℕ) → 0 < s → digit s j ≢ 0 → Halfway s j rows old → Halfway s (j + 1) rows old
+halfway_passes s j rows old pos one h =
+    record {
+      done = λ x i hx hi below.
+          let other : first s x ≢ j = λ e. one (ap (digit s) (sym e) ∙ digit_first s x pos) in
+          h.done x i hx hi (omega arith);
+      left = λ x above. h.left x (omega arith);
+    }
+
+pub halfway_exchanges : (s j a b : ℕ) (rows old : List ℕ) → length rows ≡ 64 → 0 < s → j + s < 64 → digit s j ≡ 0
+    → ((i : ℕ) → i < 64 → word_bit a i ≡ cond (eqb (digit s i) 0) (word_bit (get_or rows j 0) i) (word_bit (get_or rows (j + s) 0) (i - s)))
+    → ((i : ℕ) → i < 64 → word_bit b i ≡ cond (eqb (digit s i) 0) (word_bit (get_or rows j 0) (i + s)) (word_bit (get_or rows (j + s) 0) i))
+    → Halfway s j rows old → Halfway s (j + 1) (set (set rows j a) (j + s) b) old
+halfway_exchanges s j a b rows old long pos room zero_j upper lower h =
+    let one : digit s (j + s) ≡ 1 = digit-add s j pos ∙ ap (λ t. (t + 1) % 2) zero_j in
+    let first_j : first s j ≡ j = first_zero s j zero_j in
+    let first_js : first s (j + s) ≡ j = first_one s (j + s) one ∙ omega arith in
+    let old_j : get_or rows j 0 ≡ get_or old j 0 = h.left j (omega arith) in
+    let old_js : get_or rows (j + s) 0 ≡ get_or old (j + s) 0 = h.left (j + s) (omega arith) in
+    let apart : j ≢ j + s = omega arith in
+    let at_j : get_or (set (set rows j a) (j + s) b) j 0 ≡ a = get_or-set_other (set rows j a) (j + s) j b 0 apart ∙ get_or-set_at rows j j a 0 refl (omega arith) in
+    let at_js : get_or (set (set rows j a) (j + s) b) (j + s) 0 ≡ b = get_or-set_at (set rows j a) (j + s) (j + s) b 0 refl (omega (arith, length-set rows j a)) in
+    let others : (x : ℕ) → x ≢ j → x ≢ j + s → get_or (set (set rows j a) (j + s) b) x 0 ≡ get_or rows x 0 = λ x n m. get_or-set_other (set rows j a) (j + s) x b 0 m ∙ get_or-set_other rows j x a 0 n in
+    record {
+      done = λ x i hx hi below.
+          elim (cases_lt (first s x) j) [
+            | inl under ↦
+                ap (λ w. word_bit w i) (others x (λ e. absurd (omega (arith, under, ap (first s) e, first_j))) (λ e. absurd (omega (arith, under, ap (first s) e, first_js))))
+                ∙ h.done x i hx hi under
+            | inr over ↦
+                let here : first s x ≡ j = omega arith in
+                elim (digit_cases s x) [
+                  | inl z ↦
+                      let e : x ≡ j = sym (first_zero s x z) ∙ here in
+                      ap (λ y. word_bit (get_or (set (set rows j a) (j + s) b) y 0) i) e ∙ ap (λ w. word_bit w i) at_j ∙ upper i hi
+                      ∙ ap (λ w. cond (eqb (digit s i) 0) (word_bit w i) (word_bit (get_or rows (j + s) 0) (i - s))) old_j
+                      ∙ ap (λ w. cond (eqb (digit s i) 0) (word_bit (get_or old j 0) i) (word_bit w (i - s))) old_js
+                      ∙ upper_placed old s j i zero_j
+                      ∙ ap (λ y. word_bit (get_or old (crossed s y i) 0) (crossed s i y)) (sym e)
+                  | inr z ↦
+                      let above : s ≤ x = one_at_least s x z in
+                      let e : x ≡ j + s = omega (arith, first_one s x z, here, above) in
+                      ap (λ y. word_bit (get_or (set (set rows j a) (j + s) b) y 0) i) e ∙ ap (λ w. word_bit w i) at_js ∙ lower i hi
+                      ∙ ap (λ w. cond (eqb (digit s i) 0) (word_bit w (i + s)) (word_bit (get_or rows (j + s) 0) i)) old_j
+                      ∙ ap (λ w. cond (eqb (digit s i) 0) (word_bit (get_or old j 0) (i + s)) (word_bit w i)) old_js
+                      ∙ lower_placed old s j i pos zero_j
+                      ∙ ap (λ y. word_bit (get_or old (crossed s y i) 0) (crossed s i y)) (sym e)
+                ]
+          ];
+      left = λ x above.
+          others x (λ e. absurd (omega (arith, above, ap (first s) e, first_j))) (λ e. absurd (omega (arith, above, ap (first s) e, first_js)))
+          ∙ h.left x (omega arith);
+    }

@@ -1,0 +1,135 @@
+//! Numbers in blocks of 64 processors: 64 planes of a block are a square of bits, whose turn has a word of each processor's number.
+
+ghost use Rattle.std.specs.Prelude.{◌≡◌, ◌≢◌, ℕ, ◌+◌, ◌*◌, ◌/◌, ◌%◌, ◌^◌, ◌<◌, ◌≤◌, IfOk, OnOk, false, length, min, slice_index, slice_index_or, take};
+ghost use Rattle.paris_model.specs.Store.{low};
+ghost use Rattle.paris_plane.specs.Bits.{word_bit};
+ghost use Rattle.paris_field.specs.Numbers.{AllOf, number_at, numbers, plane_at};
+
+use crate::transpose::transpose64;
+use paris_plane::Plane;
+use std::alloc::{AllocError, Global};
+
+/// One more than the greatest word.
+const WORD: u128 = 1 << 64;
+
+/// The bits of a plane in the processors of a block, and zeros where there is no such plane.
+fn word_of(planes: &[Plane], k: usize, block: usize, vps: usize) -> u64
+    requires within { 64 * block < vps }
+    requires long { AllOf vps planes.now }
+    ensures { (i : ℕ) → i < 64 → 64 * block + i < vps → word_bit result i ≡ slice_index_or (plane_at planes.now k) (64 * block + i) false }
+{
+    if k < planes.len() {
+        planes[k].word(block)
+    } else {
+        0
+    }
+}
+
+/// A word of the number of each processor of a block, of which the planes hold the bits, up to 64 of them.
+fn low_words(planes: &[Plane], block: usize, vps: usize) -> [u64; 64]
+    requires within { 64 * block < vps }
+    requires long { AllOf vps planes.now }
+    ensures { (i k : ℕ) → i < 64 → k < 64 → 64 * block + i < vps → word_bit (slice_index result i) k ≡ slice_index_or (plane_at planes.now k) (64 * block + i) false }
+{
+    let mut rows = [0u64; 64];
+    if planes.is_empty() {
+        return rows;
+    }
+    for k in 0..64usize {
+        rows[k] = word_of(planes, k, block, vps);
+    }
+    transpose64(&mut rows);
+    rows
+}
+
+/// Adds the numbers of a block to those of the blocks below.
+fn push_block(
+    list: &mut Vec<u128>,
+    planes: &[Plane],
+    block: usize,
+    vps: usize,
+) -> Result<(), AllocError>
+    requires narrow { length planes.now ≤ 128 }
+    requires within { 64 * block < vps }
+    requires long { AllOf vps planes.now }
+    requires below { list.old.items ≡ numbers (64 * block) planes.now }
+    ensures { OnOk result (list.new.items ≡ numbers (min (64 * block + 64) vps) planes.now) }
+{
+    let low = low_words(planes, block, vps);
+    let high = low_words(&planes[planes.len().min(64)..], block, vps);
+    for i in 0..(vps - 64 * block).min(64) {
+        list.push(high[i] as u128 * WORD + low[i] as u128)?;
+    }
+    Ok(())
+}
+
+/// The numbers of `vps` processors, block by block.
+pub fn numbers_in(alloc: Global, planes: &[Plane], vps: usize) -> Result<Vec<u128>, AllocError>
+    requires narrow { length planes.now ≤ 128 }
+    requires long { AllOf vps planes.now }
+    ensures { IfOk result (λ list. list.items ≡ numbers vps planes.now) }
+{
+    let mut list = Vec::with_capacity(alloc, vps)?;
+    for block in 0..vps.div_ceil(64) {
+        push_block(&mut list, planes, block, vps)?;
+    }
+    Ok(list)
+}
+
+/// A word of the number of each processor of a block: the 64 bits from bit `from` on.
+fn words_from(list: &[u128], block: usize, from: u32) -> [u64; 64]
+    requires narrow { from < 128 }
+    ensures { (i : ℕ) → i < 64 → 64 * block + i < length list.now → slice_index result i ≡ slice_index list.now (64 * block + i) / 2 ^ from % 2 ^ 64 }
+{
+    let mut words = [0u64; 64];
+    let first = block.saturating_mul(64).min(list.len());
+    for i in 0..(list.len() - first).min(64) {
+        words[i] = ((list[first + i] >> from) % WORD) as u64;
+    }
+    words
+}
+
+/// Puts the bits from bit `from` on of the numbers of a block into the planes from there on, up to 64 of them.
+fn put_words(planes: &mut [Plane], list: &[u128], block: usize, from: usize)
+    requires narrow { from < 128 }
+    requires within { 64 * block < length list.now }
+    requires long { AllOf (length list.now) planes.old }
+    ensures long { AllOf (length list.now) planes.new }
+    ensures bits { (k : ℕ) → k < 64 → from + k < length planes.old → (i : ℕ) → i < 64 → 64 * block + i < length list.now → slice_index_or (plane_at planes.new (from + k)) (64 * block + i) false ≡ word_bit (slice_index list.now (64 * block + i)) (from + k) }
+    ensures low { (k : ℕ) → k < from → plane_at planes.new k ≡ plane_at planes.old k }
+    ensures others { (k : ℕ) → k < length planes.old → (v : ℕ) → v < length list.now → v / 64 ≢ block → slice_index_or (plane_at planes.new k) v false ≡ slice_index_or (plane_at planes.old k) v false }
+{
+    let mut rows = words_from(list, block, from as u32);
+    transpose64(&mut rows);
+    for k in 0..planes.len().saturating_sub(from).min(64) {
+        planes[from + k].set_word(block, rows[k]);
+    }
+}
+
+/// Puts the numbers of a block, as far as their bits have planes.
+fn put_block(planes: &mut [Plane], list: &[u128], block: usize)
+    requires narrow { length planes.old ≤ 128 }
+    requires within { 64 * block < length list.now }
+    requires long { AllOf (length list.now) planes.old }
+    ensures long { AllOf (length list.now) planes.new }
+    ensures bits { (k : ℕ) → k < length planes.old → (i : ℕ) → i < 64 → 64 * block + i < length list.now → slice_index_or (plane_at planes.new k) (64 * block + i) false ≡ word_bit (slice_index list.now (64 * block + i)) k }
+    ensures others { (k : ℕ) → k < length planes.old → (v : ℕ) → v < length list.now → v / 64 ≢ block → slice_index_or (plane_at planes.new k) v false ≡ slice_index_or (plane_at planes.old k) v false }
+{
+    put_words(planes, list, block, 0);
+    if planes.len() <= 64 {
+        return;
+    }
+    put_words(planes, list, block, 64);
+}
+
+/// Puts a number into each processor, block by block, as far as its bits have planes.
+pub fn put_all(planes: &mut [Plane], list: &[u128])
+    requires narrow { length planes.old ≤ 128 }
+    requires long { AllOf (length list.now) planes.old }
+    ensures long { AllOf (length list.now) planes.new }
+    ensures numbers { (v : ℕ) → v < length list.now → number_at planes.new v ≡ low (length planes.old) (slice_index list.now v) }
+{
+    for block in 0..list.len().div_ceil(64) {
+        put_block(planes, list, block);
+    }
+}

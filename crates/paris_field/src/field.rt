@@ -1,0 +1,204 @@
+//! Values of a key: a number for each processor, whose bits lie in planes.
+
+ghost use Rattle.std.specs.Prelude.{◌≡◌, ◌↔◌, ℕ, ◌<◌, ◌≤◌, ◌+◌, ◌/◌, ◌%◌, ◌^◌, IfOk, IsTrue, false, length, map, replicate, slice_index, slice_index_or};
+ghost use Rattle.paris_model.specs.Store.{bit, low, stored};
+ghost use Rattle.paris_field.specs.Fields.{AllFit, field_eq, overwritten};
+ghost use Rattle.paris_field.specs.Numbers.{AllOf, bit_in, field_of, number_at};
+
+use crate::blocks::{numbers_in, put_all};
+use crate::planes::{copy_planes, merge_planes, number_in, put_numbers, same_planes, zero_planes};
+use paris_plane::Plane;
+use std::alloc::{AllocError, Global};
+use std::marker::Model;
+
+/// A number below `2 ^ width` for each processor of a set, by send address. A clause sees the width and the numbers.
+#[derive(Debug, Drop)]
+pub struct FieldValue {
+    planes: Vec<Plane>,
+    vps: usize,
+}
+
+impl Model for FieldValue {
+    ghost use Rattle.std.specs.Prelude.{◌≤◌, length};
+    ghost use Rattle.paris_field.specs.Fields.{FieldNumbers};
+    ghost use Rattle.paris_field.specs.Numbers.{AllOf, field_of};
+
+    ghost Value = { FieldNumbers };
+
+    ghost view = { λ a. field_of a.vps a.planes.items };
+
+    ghost invariant = { λ a. (length a.planes.items ≤ 128) × AllOf a.vps a.planes.items };
+}
+
+impl FieldValue {
+    /// The value of this width in bits, up to 128, with a zero in each of `vps` processors.
+    pub fn zeros(alloc: Global, width: u64, vps: usize) -> Result<FieldValue, AllocError>
+        requires narrow { width ≤ 128 }
+        ensures { IfOk result (λ value. value ≡ record { width = width; numbers = replicate vps 0 }) }
+    {
+        let planes = zero_planes(alloc, width as usize, vps)?;
+        Ok(FieldValue { planes, vps })
+    }
+
+    /// The value of this width in bits with these numbers.
+    pub fn from_numbers(
+        alloc: Global,
+        width: u64,
+        numbers: &[u128],
+    ) -> Result<FieldValue, AllocError>
+        requires narrow { width ≤ 128 }
+        requires fit { AllFit width numbers.now }
+        ensures { IfOk result (λ value. value ≡ record { width = width; numbers = numbers.now }) }
+    {
+        let vps = numbers.len();
+        let mut planes = zero_planes(alloc, width as usize, vps)?;
+        put_all(&mut planes, numbers);
+        Ok(FieldValue { planes, vps })
+    }
+
+    /// The value whose bits are these planes, the lowest first, each with a bit for each of `vps` processors.
+    pub fn from_planes(planes: Vec<Plane>, vps: usize) -> FieldValue
+        requires narrow { length planes.items ≤ 128 }
+        requires long { AllOf vps planes.items }
+        ensures { result ≡ field_of vps planes.items }
+    {
+        FieldValue { planes, vps }
+    }
+
+    /// The value of width 1 whose numbers are the bits of a plane.
+    pub fn from_plane(alloc: Global, plane: Plane) -> Result<FieldValue, AllocError>
+        ensures { IfOk result (λ value. value ≡ record { width = 1; numbers = map bit plane }) }
+    {
+        let vps = plane.len();
+        let mut planes = Vec::with_capacity(alloc, 1)?;
+        planes.push(plane)?;
+        Ok(FieldValue { planes, vps })
+    }
+
+    /// The width in bits.
+    pub fn width(&self) -> u64
+        ensures value { result ≡ self.now.width }
+        ensures narrow { result ≤ 128 }
+    {
+        self.planes.len() as u64
+    }
+
+    /// How many processors there are.
+    pub fn len(&self) -> usize
+        ensures { result ≡ length self.now.numbers }
+    {
+        self.vps
+    }
+
+    /// The number in a processor.
+    pub fn get(&self, v: usize) -> u128
+        requires { v < length self.now.numbers }
+        ensures value { result ≡ slice_index self.now.numbers v }
+        ensures fits { result < 2 ^ self.now.width }
+    {
+        number_in(&self.planes, v, self.vps)
+    }
+
+    /// All numbers, by processor.
+    pub fn numbers(&self) -> Result<Vec<u128>, AllocError>
+        ensures value { IfOk result (λ numbers. numbers.items ≡ self.now.numbers) }
+        ensures fit { IfOk result (λ _. AllFit self.now.width self.now.numbers) }
+    {
+        numbers_in(*self.planes.allocator(), &self.planes, self.vps)
+    }
+
+    /// A copy with these numbers in place of as many from a processor on.
+    pub fn with_numbers(&self, from: usize, numbers: &[u128]) -> Result<FieldValue, AllocError>
+        requires within { from + length numbers.now ≤ length self.now.numbers }
+        requires fit { AllFit self.now.width numbers.now }
+        ensures { IfOk result (λ value. value ≡ record { width = self.now.width; numbers = overwritten self.now.numbers from numbers.now }) }
+    {
+        let mut planes = copy_planes(*self.planes.allocator(), &self.planes)?;
+        put_numbers(&mut planes, from, numbers, self.vps);
+        Ok(FieldValue {
+            planes,
+            vps: self.vps,
+        })
+    }
+
+    /// Whether both have the same width and the same numbers.
+    pub fn equals(&self, other: &FieldValue) -> bool
+        ensures value { result ≡ field_eq self.now other.now }
+        ensures same { IsTrue result ↔ (self.now ≡ other.now) }
+    {
+        self.agrees(other)
+    }
+
+    fn agrees(&self, other: &FieldValue) -> bool
+        ensures { IsTrue result ↔ (self.now ≡ other.now) }
+    {
+        if self.vps != other.vps {
+            return false;
+        }
+        if self.planes.len() != other.planes.len() {
+            return false;
+        }
+        same_planes(&self.planes, &other.planes)
+    }
+
+    /// A copy that equals the value.
+    pub fn copy(&self) -> Result<FieldValue, AllocError>
+        ensures { IfOk result (λ value. value ≡ self.now) }
+    {
+        let planes = copy_planes(*self.planes.allocator(), &self.planes)?;
+        Ok(FieldValue {
+            planes,
+            vps: self.vps,
+        })
+    }
+
+    /// The planes, the lowest first: a plane for each bit of the width, with a bit for each processor.
+    pub fn planes(&self) -> &[Plane]
+        ensures count { length result.now ≡ self.now.width }
+        ensures long { AllOf (length self.now.numbers) result.now }
+        ensures value { field_of (length self.now.numbers) result.now ≡ self.now }
+        ensures at { (v : ℕ) → v < length self.now.numbers → number_at result.now v ≡ slice_index self.now.numbers v }
+    {
+        self.planes.as_slice()
+    }
+
+    /// The planes of the low `len` bits.
+    pub fn low(&self, len: u64) -> &[Plane]
+        requires { len ≤ self.now.width }
+        ensures count { length result.now ≡ len }
+        ensures long { AllOf (length self.now.numbers) result.now }
+        ensures at { (v : ℕ) → v < length self.now.numbers → number_at result.now v ≡ low len (slice_index self.now.numbers v) }
+    {
+        &self.planes[..len as usize]
+    }
+
+    /// The plane of bit k.
+    pub fn plane(&self, k: u64) -> &Plane
+        requires { k < self.now.width }
+        ensures long { length result.now ≡ length self.now.numbers }
+        ensures at { (v : ℕ) → v < length self.now.numbers → bit_in result.now v ≡ slice_index self.now.numbers v / 2 ^ k % 2 }
+    {
+        &self.planes[k as usize]
+    }
+
+    /// The plane of a value of width 1: its bits are the numbers.
+    pub fn mask(&self) -> &Plane
+        requires { self.now.width ≡ 1 }
+        ensures { map bit result.now ≡ self.now.numbers }
+    {
+        &self.planes[0]
+    }
+
+    /// Puts the low `len` bits of the numbers that `other` holds where the mask is 1. Where it is 0 nothing changes.
+    pub fn merge_in(&mut self, mask: &Plane, other: &[Plane], len: u64)
+        requires room { len ≤ self.old.width }
+        requires there { len ≤ length other.now }
+        requires mask { length mask.now ≡ length self.old.numbers }
+        requires others { AllOf (length self.old.numbers) other.now }
+        ensures width { self.new.width ≡ self.old.width }
+        ensures count { length self.new.numbers ≡ length self.old.numbers }
+        ensures numbers { self.new.numbers ≡ stored (length self.old.numbers) (λ v. slice_index_or mask.now v false) (slice_index self.old.numbers) len (number_at other.now) }
+    {
+        merge_planes(&mut self.planes, mask, other, len as usize);
+    }
+}

@@ -1,0 +1,13 @@
+//! Numbers, one for each processor, whose bits lie in planes.
+#![tactic(auto)]
+
+mod blocks;
+mod field;
+mod planes;
+#[cfg(test)]
+mod tests;
+mod transpose;
+
+pub use field::FieldValue;
+pub use planes::{add_planes, copy_planes, merge_planes, zero_planes};
+pub use transpose::transpose64;

@@ -1,0 +1,117 @@
+//! Work on planes in place, with no memory of its own: plane k holds bit k of each processor's number.
+
+ghost use Rattle.std.specs.Prelude.{◌≡◌, ◌≢◌, ◌↔◌, ℕ, ◌+◌, ◌*◌, ◌^◌, ◌<◌, ◌≤◌, ◌%◌, IfOk, IsTrue, cond, drop, false, length, replicate, slice_index, slice_index_or, take};
+ghost use Rattle.paris_model.specs.Store.{low};
+ghost use Rattle.paris_field.specs.Numbers.{AllOf, bit_in, number_at, numbers};
+
+use paris_plane::{Plane, add_step};
+use std::alloc::{AllocError, Global};
+
+/// `width` planes of zeros, for `vps` processors.
+pub fn zero_planes(alloc: Global, width: usize, vps: usize) -> Result<Vec<Plane>, AllocError>
+    ensures { IfOk result (λ planes. planes.items ≡ replicate width (replicate vps false)) }
+{
+    let mut planes = Vec::with_capacity(alloc, width)?;
+    for _ in 0..width {
+        planes.push(Plane::zeros(alloc, vps)?)?;
+    }
+    Ok(planes)
+}
+
+/// A copy of each plane.
+pub fn copy_planes(alloc: Global, planes: &[Plane]) -> Result<Vec<Plane>, AllocError>
+    ensures { IfOk result (λ copies. copies.items ≡ planes.now) }
+{
+    let mut copies = Vec::with_capacity(alloc, planes.len())?;
+    for plane in planes {
+        copies.push(plane.copy()?)?;
+    }
+    Ok(copies)
+}
+
+/// Takes the low `len` bits of `other` where the mask is 1.
+pub fn merge_planes(planes: &mut [Plane], mask: &Plane, other: &[Plane], len: usize)
+    requires room { len ≤ length planes.old }
+    requires there { len ≤ length other.now }
+    requires planes { AllOf (length mask.now) planes.old }
+    requires others { AllOf (length mask.now) other.now }
+    ensures planes { AllOf (length mask.now) planes.new }
+    ensures low { (v : ℕ) → v < length mask.now → number_at (take len planes.new) v ≡ cond (slice_index_or mask.now v false) (number_at (take len other.now) v) (number_at (take len planes.old) v) }
+    ensures high { drop len planes.new ≡ drop len planes.old }
+{
+    for k in 0..len {
+        planes[k].select_in(mask, &other[k]);
+    }
+}
+
+/// Adds the numbers of `x`, `y` and `carry` into `sum`, and leaves in `carry` what is carried out.
+pub fn add_planes(x: &[Plane], y: &[Plane], carry: &mut Plane, sum: &mut [Plane])
+    requires xy { length x.now ≡ length y.now }
+    requires xs { length x.now ≡ length sum.old }
+    requires x_planes { AllOf (length carry.old) x.now }
+    requires y_planes { AllOf (length carry.old) y.now }
+    requires s_planes { AllOf (length carry.old) sum.old }
+    ensures long { length carry.new ≡ length carry.old }
+    ensures planes { AllOf (length carry.old) sum.new }
+    ensures exact { (v : ℕ) → v < length carry.old → number_at sum.new v + 2 ^ length x.now * bit_in carry.new v ≡ number_at x.now v + number_at y.now v + bit_in carry.old v }
+{
+    for k in 0..x.len() {
+        add_step(&x[k], &y[k], carry, &mut sum[k]);
+    }
+}
+
+/// Whether two lists of as many planes are the same plane by plane.
+pub fn same_planes(x: &[Plane], y: &[Plane]) -> bool
+    requires { length x.now ≡ length y.now }
+    ensures { IsTrue result ↔ x.now ≡ y.now }
+{
+    for k in 0..x.len() {
+        if !x[k].equals(&y[k]) {
+            return false;
+        }
+    }
+    true
+}
+
+/// The number in processor `v` of `vps`.
+pub fn number_in(planes: &[Plane], v: usize, vps: usize) -> u128
+    requires narrow { length planes.now ≤ 128 }
+    requires within { v < vps }
+    requires long { AllOf vps planes.now }
+    ensures { result ≡ number_at planes.now v }
+{
+    let mut number = 0;
+    for k in (0..planes.len()).rev() {
+        number = 2 * number + if planes[k].get(v) { 1 } else { 0 };
+    }
+    number
+}
+
+/// Puts a number into processor `v` of `vps`, as far as its bits have planes.
+fn put_number(planes: &mut [Plane], v: usize, number: u128, vps: usize)
+    requires within { v < vps }
+    requires long { AllOf vps planes.old }
+    ensures long { AllOf vps planes.new }
+    ensures number { number_at planes.new v ≡ low (length planes.old) number }
+    ensures others { (u : ℕ) → u ≢ v → number_at planes.new u ≡ number_at planes.old u }
+{
+    let mut rest = number;
+    for k in 0..planes.len() {
+        planes[k].set(v, rest % 2 == 1);
+        rest /= 2;
+    }
+}
+
+/// Puts numbers into as many of `vps` processors from one on.
+pub fn put_numbers(planes: &mut [Plane], from: usize, list: &[u128], vps: usize)
+    requires within { from + length list.now ≤ vps }
+    requires long { AllOf vps planes.old }
+    ensures long { AllOf vps planes.new }
+    ensures put { (i : ℕ) → i < length list.now → number_at planes.new (from + i) ≡ low (length planes.old) (slice_index list.now i) }
+    ensures before { (u : ℕ) → u < from → number_at planes.new u ≡ number_at planes.old u }
+    ensures after { (u : ℕ) → from + length list.now ≤ u → number_at planes.new u ≡ number_at planes.old u }
+{
+    for i in 0..list.len() {
+        put_number(planes, from + i, list[i], vps);
+    }
+}

@@ -1,0 +1,44 @@
+//! A square of 64 by 64 bits, turned about its diagonal.
+
+ghost use Rattle.std.specs.Prelude.{◌≡◌, ℕ, ◌+◌, ◌-◌, ◌<◌, ◌==◌, cond, slice_index};
+ghost use Rattle.paris_plane.specs.Bits.{word_bit};
+ghost use Rattle.paris_field.specs.Square.{MarksZeros, crossed, digit};
+
+/// Turns a square of bits about its diagonal: bit i of word j becomes bit j of word i.
+pub fn transpose64(rows: &mut [u64; 64])
+    ensures { (j i : ℕ) → j < 64 → i < 64 → word_bit (slice_index rows.new j) i ≡ word_bit (slice_index rows.old i) j }
+{
+    exchange_digits::<32>(rows, 0x0000_0000_FFFF_FFFF);
+    exchange_digits::<16>(rows, 0x0000_FFFF_0000_FFFF);
+    exchange_digits::<8>(rows, 0x00FF_00FF_00FF_00FF);
+    exchange_digits::<4>(rows, 0x0F0F_0F0F_0F0F_0F0F);
+    exchange_digits::<2>(rows, 0x3333_3333_3333_3333);
+    exchange_digits::<1>(rows, 0x5555_5555_5555_5555);
+}
+
+/// Moves each bit to where the binary digits of weight `S` of its row and of its place are exchanged.
+fn exchange_digits<const S: usize>(rows: &mut [u64; 64], mask: u64)
+    requires shift { (0 < S) × (S < 64) }
+    requires pairs { (j : ℕ) → j < 64 → digit S j ≡ 0 → j + S < 64 }
+    requires mask { MarksZeros S mask }
+    ensures { (j i : ℕ) → j < 64 → i < 64 → word_bit (slice_index rows.new j) i ≡ word_bit (slice_index rows.old (crossed S j i)) (crossed S i j) }
+{
+    for j in 0..64usize {
+        if j / S % 2 == 0 {
+            let (upper, lower) = exchange_words::<S>(rows[j], rows[j + S], mask);
+            rows[j] = upper;
+            rows[j + S] = lower;
+        }
+    }
+}
+
+/// Two words, where the bits of the first at places with the digit 1 and those of the second at places with the digit 0 are exchanged.
+fn exchange_words<const S: usize>(upper: u64, lower: u64, mask: u64) -> (u64, u64)
+    requires shift { (0 < S) × (S < 64) }
+    requires mask { MarksZeros S mask }
+    ensures upper { (i : ℕ) → i < 64 → word_bit result.0 i ≡ cond (digit S i == 0) (word_bit upper i) (word_bit lower (i - S)) }
+    ensures lower { (i : ℕ) → i < 64 → word_bit result.1 i ≡ cond (digit S i == 0) (word_bit upper (i + S)) (word_bit lower i) }
+{
+    let moved = ((upper >> S) ^ lower) & mask;
+    (upper ^ (moved << S), lower ^ moved)
+}

@@ -1,0 +1,227 @@
+//! Loops over words: four at a time by lanes, and the words that are left one by one.
+
+ghost use Rattle.std.specs.Prelude.{◌≡◌, ◌↔◌, ◌≤◌, IsTrue, ℕ, ◌<◌, ◌^◌, ◌-◌, Bool, cond, ◌&&◌, ◌||◌, length, slice_index, bit_and};
+ghost use Rattle.std.specs.Int.Bits.{bit_or, bit_xor};
+ghost use Rattle.std.specs.Simd.Lanes.{zip2};
+ghost use Rattle.paris_plane.specs.Bits.{word_bit, ByBit, ByBit3, differ, sum_word, carry_word};
+ghost use Rattle.paris_plane.specs.Laws.{and_by_bit, or_by_bit, xor_by_bit, select_by_bit};
+
+use std::simd::prelude::*;
+
+/// An operation on two words that does the same to each two bits. `Plane::put` runs it over planes.
+///
+/// An implementation gives the operation on words, `op`, the one on bits, `bit`, and the law that ties them, `by_bit`.
+pub trait WordOp {
+    ghost op: { ℕ → ℕ → ℕ };
+
+    ghost bit: { Bool → Bool → Bool };
+
+    /// The operation in each of four lanes.
+    fn lanes(x: u64x4, y: u64x4) -> u64x4
+        ensures { result ≡ zip2 op x y };
+
+    /// The operation on one word of each.
+    fn word(x: u64, y: u64) -> u64
+        ensures { result ≡ op x y };
+
+    ghost by_bit: { ByBit op bit };
+}
+
+/// 1 where both are.
+pub struct And;
+
+impl WordOp for And {
+    ghost op = { bit_and };
+
+    ghost bit = { λ a b. a && b };
+
+    ghost by_bit = { and_by_bit };
+
+    fn lanes(x: u64x4, y: u64x4) -> u64x4 {
+        x & y
+    }
+
+    fn word(x: u64, y: u64) -> u64 {
+        x & y
+    }
+}
+
+/// 1 where one of the two is, or both.
+pub struct Or;
+
+impl WordOp for Or {
+    ghost op = { bit_or };
+
+    ghost bit = { λ a b. a || b };
+
+    ghost by_bit = { or_by_bit };
+
+    fn lanes(x: u64x4, y: u64x4) -> u64x4 {
+        x | y
+    }
+
+    fn word(x: u64, y: u64) -> u64 {
+        x | y
+    }
+}
+
+/// 1 where the two differ.
+pub struct Xor;
+
+impl WordOp for Xor {
+    ghost op = { bit_xor };
+
+    ghost bit = { differ };
+
+    ghost by_bit = { xor_by_bit };
+
+    fn lanes(x: u64x4, y: u64x4) -> u64x4 {
+        x ^ y
+    }
+
+    fn word(x: u64, y: u64) -> u64 {
+        x ^ y
+    }
+}
+
+/// Puts what the operation makes of each two words into `xs`.
+pub fn put_words<O: WordOp>(xs: &mut [u64], ys: &[u64])
+    requires { length xs.old ≡ length ys.now }
+    ensures { (i : ℕ) → i < length xs.old → slice_index xs.new i ≡ O.op (slice_index xs.old i) (slice_index ys.now i) }
+{
+    let whole = xs.len() / 4;
+    for k in 0..whole {
+        let at = 4 * k;
+        let x = u64x4::from_slice(&xs[at..]);
+        let y = u64x4::from_slice(&ys[at..]);
+        O::lanes(x, y).copy_to_slice(&mut xs[at..]);
+    }
+    for i in 4 * whole..xs.len() {
+        xs[i] = O::word(xs[i], ys[i]);
+    }
+}
+
+/// An operation on three words that does the same to each three bits. `Plane::put_triple` runs it over planes.
+///
+/// An implementation gives the operation on words, `op`, the one on bits, `bit`, and the law that ties them, `by_bit`.
+pub trait TripleOp {
+    ghost op: { ℕ → ℕ → ℕ → ℕ };
+
+    ghost bit: { Bool → Bool → Bool → Bool };
+
+    /// The operation in each of four lanes.
+    fn lanes(x: u64x4, y: u64x4, z: u64x4) -> u64x4
+        requires { (length x ≡ 4) × (length y ≡ 4) × (length z ≡ 4) }
+        ensures { (length result ≡ 4) × ((j : ℕ) → j < 4 → slice_index result j ≡ op (slice_index x j) (slice_index y j) (slice_index z j)) };
+
+    /// The operation on one word of each.
+    fn word(x: u64, y: u64, z: u64) -> u64
+        ensures { result ≡ op x y z };
+
+    ghost by_bit: { ByBit3 op bit };
+}
+
+/// The second where the third, the mask, is 1, and else the first.
+pub struct Select;
+
+impl TripleOp for Select {
+    ghost op = { λ x y m. bit_xor x (bit_and (bit_xor x y) m) };
+
+    ghost bit = { λ x y m. cond m y x };
+
+    ghost by_bit = { select_by_bit };
+
+    #[tactic(auto, using(crate::proofs::Rules::lanes))]
+    fn lanes(x: u64x4, y: u64x4, z: u64x4) -> u64x4 {
+        x ^ ((x ^ y) & z)
+    }
+
+    fn word(x: u64, y: u64, z: u64) -> u64 {
+        x ^ ((x ^ y) & z)
+    }
+}
+
+/// Puts what the operation makes of each three words into `xs`.
+pub fn put_triples<O: TripleOp>(xs: &mut [u64], ys: &[u64], zs: &[u64])
+    requires xy { length xs.old ≡ length ys.now }
+    requires xz { length xs.old ≡ length zs.now }
+    ensures { (i : ℕ) → i < length xs.old → slice_index xs.new i ≡ O.op (slice_index xs.old i) (slice_index ys.now i) (slice_index zs.now i) }
+{
+    let whole = xs.len() / 4;
+    for k in 0..whole {
+        let at = 4 * k;
+        let x = u64x4::from_slice(&xs[at..]);
+        let y = u64x4::from_slice(&ys[at..]);
+        let z = u64x4::from_slice(&zs[at..]);
+        O::lanes(x, y, z).copy_to_slice(&mut xs[at..]);
+    }
+    for i in 4 * whole..xs.len() {
+        xs[i] = O::word(xs[i], ys[i], zs[i]);
+    }
+}
+
+/// One step of an addition of numbers whose bits lie in planes: the sums of `xs`, `ys` and `carry` into `sum`, which is
+/// written over, and what they carry into `carry`.
+pub fn add_words(xs: &[u64], ys: &[u64], carry: &mut [u64], sum: &mut [u64])
+    requires xy { length xs.now ≡ length ys.now }
+    requires xc { length xs.now ≡ length carry.old }
+    requires xd { length xs.now ≡ length sum.old }
+    ensures sums { (i : ℕ) → i < length xs.now → slice_index sum.new i ≡ sum_word (slice_index xs.now i) (slice_index ys.now i) (slice_index carry.old i) }
+    ensures carries { (i : ℕ) → i < length xs.now → slice_index carry.new i ≡ carry_word (slice_index xs.now i) (slice_index ys.now i) (slice_index carry.old i) }
+{
+    let whole = xs.len() / 4;
+    for k in 0..whole {
+        let at = 4 * k;
+        let x = u64x4::from_slice(&xs[at..]);
+        let y = u64x4::from_slice(&ys[at..]);
+        let c = u64x4::from_slice(&carry[at..]);
+        let t = x ^ y;
+        (t ^ c).copy_to_slice(&mut sum[at..]);
+        ((x & y) | (t & c)).copy_to_slice(&mut carry[at..]);
+    }
+    for i in 4 * whole..xs.len() {
+        let x = xs[i];
+        let y = ys[i];
+        let c = carry[i];
+        let t = x ^ y;
+        sum[i] = t ^ c;
+        carry[i] = (x & y) | (t & c);
+    }
+}
+
+/// Turns every bit.
+pub(crate) fn invert_words(xs: &mut [u64])
+    ensures { (i : ℕ) → i < length xs.old → slice_index xs.new i ≡ bit_xor (slice_index xs.old i) (2 ^ 64 - 1) }
+{
+    let whole = xs.len() / 4;
+    for k in 0..whole {
+        let at = 4 * k;
+        let x = u64x4::from_slice(&xs[at..]);
+        (x ^ u64x4::splat(u64::MAX)).copy_to_slice(&mut xs[at..]);
+    }
+    for i in 4 * whole..xs.len() {
+        xs[i] ^= u64::MAX;
+    }
+}
+
+/// Whether the first `count` words are the same.
+pub(crate) fn same_words(xs: &[u64], ys: &[u64], count: usize) -> bool
+    requires { (count ≤ length xs.now) × (count ≤ length ys.now) }
+    ensures { IsTrue result ↔ ((i j : ℕ) → i < count → j < 64 → word_bit (slice_index xs.now i) j ≡ word_bit (slice_index ys.now i) j) }
+{
+    let whole = count / 4;
+    for k in 0..whole {
+        let at = 4 * k;
+        let x = u64x4::from_slice(&xs[at..]);
+        let y = u64x4::from_slice(&ys[at..]);
+        if (x ^ y).reduce_or() != 0 {
+            return false;
+        }
+    }
+    for i in 4 * whole..count {
+        if xs[i] != ys[i] {
+            return false;
+        }
+    }
+    true
+}

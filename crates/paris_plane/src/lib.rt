@@ -1,0 +1,10 @@
+//! Planes: one bit for each virtual processor, kept in words of 64 and worked on by lanes of four words.
+#![tactic(auto)]
+
+pub mod kernel;
+mod plane;
+#[cfg(test)]
+mod tests;
+
+pub use kernel::{TripleOp, WordOp};
+pub use plane::{Plane, add_step};

@@ -1,0 +1,223 @@
+//! A plane of bits, one for each virtual processor.
+
+ghost use Rattle.std.specs.Prelude.{◌≡◌, ◌≢◌, ◌↔◌, ℕ, ◌+◌, ◌*◌, ◌/◌, IfOk, IsTrue, cond, length, map, not, ◌<◌, replicate, slice_index, slice_index_or, slice_set, true, false, ◌&&◌, ◌||◌};
+ghost use Rattle.std.specs.Simd.Lanes.{zip2};
+ghost use Rattle.paris_plane.specs.Bits.{carry_bit, differ, sum_bit, word_bit, words_for, zip3};
+
+use crate::kernel::{
+    And, Or, Select, TripleOp, WordOp, Xor, add_words, invert_words, put_triples, put_words,
+    same_words,
+};
+use std::alloc::{AllocError, Global};
+use std::marker::Model;
+
+/// Bits, one for each virtual processor, that of processor 0 first. A clause sees the list of the bits.
+///
+/// Bit `v` is bit `v % 64` of word `v / 64`. The bits of the last word past the end mean nothing: no operation keeps them
+/// at any value, and no contract speaks of them.
+#[derive(Debug, Drop)]
+pub struct Plane {
+    words: Vec<u64>,
+    len: usize,
+}
+
+impl Model for Plane {
+    ghost use Rattle.std.specs.Prelude.{List, Bool, ◌≡◌};
+    ghost use Rattle.std.specs.Vec.{vec_len};
+    ghost use Rattle.paris_plane.specs.Bits.{bits, words_for};
+
+    ghost Value = { List Bool };
+
+    ghost view = { λ p. bits p.len p.words.items };
+
+    ghost invariant = { λ p. vec_len p.words ≡ words_for p.len };
+}
+
+/// The words that hold `len` bits.
+fn words_needed(len: usize) -> usize
+    ensures { result ≡ words_for len }
+{
+    len.div_ceil(64)
+}
+
+impl Plane {
+    /// A plane of `len` zeros. Fails only for want of memory.
+    pub fn zeros(alloc: Global, len: usize) -> Result<Plane, AllocError>
+        ensures { IfOk result (λ p. p ≡ replicate len false) }
+    {
+        let words = Vec::from_elem(alloc, 0u64, words_needed(len))?;
+        Ok(Plane { words, len })
+    }
+
+    /// A plane of `len` ones. Fails only for want of memory.
+    pub fn ones(alloc: Global, len: usize) -> Result<Plane, AllocError>
+        ensures { IfOk result (λ p. p ≡ replicate len true) }
+    {
+        let words = Vec::from_elem(alloc, u64::MAX, words_needed(len))?;
+        Ok(Plane { words, len })
+    }
+
+    /// Another plane with the same bits. Fails only for want of memory.
+    pub fn copy(&self) -> Result<Plane, AllocError>
+        ensures { IfOk result (λ p. p ≡ self.now) }
+    {
+        let words = self.words.clone()?;
+        Ok(Plane {
+            words,
+            len: self.len,
+        })
+    }
+
+    /// The number of bits.
+    #[tactic(auto, using(crate::proofs::Rules::plane))]
+    pub fn len(&self) -> usize
+        ensures { result ≡ length self.now }
+    {
+        self.len
+    }
+
+    /// The bit of processor `v`.
+    pub fn get(&self, v: usize) -> bool
+        requires { v < length self.now }
+        ensures { result ≡ slice_index_or self.now v false }
+    {
+        (self.words[v / 64] >> (v % 64)) & 1 == 1
+    }
+
+    /// Writes the bit of processor `v`.
+    pub fn set(&mut self, v: usize, bit: bool)
+        requires { v < length self.old }
+        ensures { self.new ≡ slice_set self.old v bit }
+    {
+        let word = self.words[v / 64];
+        let one = 1u64 << (v % 64);
+        if bit {
+            self.words[v / 64] = word | one;
+        } else {
+            self.words[v / 64] = word & !one;
+        }
+    }
+
+    /// Writes one bit everywhere.
+    pub fn fill(&mut self, bit: bool)
+        ensures { self.new ≡ replicate (length self.old) bit }
+    {
+        let word = if bit { u64::MAX } else { 0 };
+        self.words.fill(word);
+    }
+
+    /// The 64 bits from `64 * block` on, the first of them lowest. Those past the end mean nothing.
+    pub fn word(&self, block: usize) -> u64
+        requires { 64 * block < length self.now }
+        ensures { (i : ℕ) → i < 64 → 64 * block + i < length self.now → word_bit result i ≡ slice_index_or self.now (64 * block + i) false }
+    {
+        self.words[block]
+    }
+
+    /// Puts 64 bits from `64 * block` on, the lowest of them first. Those past the end are left out.
+    pub fn set_word(&mut self, block: usize, word: u64)
+        requires { 64 * block < length self.old }
+        ensures long { length self.new ≡ length self.old }
+        ensures bits { (i : ℕ) → i < 64 → 64 * block + i < length self.old → slice_index_or self.new (64 * block + i) false ≡ word_bit word i }
+        ensures others { (v : ℕ) → v < length self.old → v / 64 ≢ block → slice_index_or self.new v false ≡ slice_index_or self.old v false }
+    {
+        self.words[block] = word;
+    }
+
+    /// Whether both have the same length and the same bits.
+    pub fn equals(&self, other: &Plane) -> bool
+        ensures { IsTrue result ↔ self.now ≡ other.now }
+    {
+        if self.len != other.len {
+            return false;
+        }
+        self.agrees(other)
+    }
+
+    /// Whether two planes of one length have the same bits. Of the last word it compares those below the end alone.
+    fn agrees(&self, other: &Plane) -> bool
+        requires { length self.now ≡ length other.now }
+        ensures { IsTrue result ↔ self.now ≡ other.now }
+    {
+        let whole = self.len / 64;
+        if !same_words(&self.words, &other.words, whole) {
+            return false;
+        }
+        let rest = self.len % 64;
+        if rest == 0 {
+            return true;
+        }
+        (self.words[whole] ^ other.words[whole]) % (1u64 << rest) == 0
+    }
+
+    /// Puts what the operation makes of each bit and that of `other` in its place.
+    #[tactic(auto, using(crate::proofs::Rules::plane))]
+    pub fn put<O: WordOp>(&mut self, other: &Plane)
+        requires { length self.old ≡ length other.now }
+        ensures { self.new ≡ zip2 O.bit self.old other.now }
+    {
+        put_words::<O>(&mut self.words, &other.words);
+    }
+
+    /// Keeps a 1 where `other` has one too.
+    pub fn and_in(&mut self, other: &Plane)
+        requires { length self.old ≡ length other.now }
+        ensures { self.new ≡ zip2 (λ a b. a && b) self.old other.now }
+    {
+        self.put::<And>(other);
+    }
+
+    /// Puts a 1 also where `other` has one.
+    pub fn or_in(&mut self, other: &Plane)
+        requires { length self.old ≡ length other.now }
+        ensures { self.new ≡ zip2 (λ a b. a || b) self.old other.now }
+    {
+        self.put::<Or>(other);
+    }
+
+    /// Turns the bits where `other` has a 1.
+    pub fn xor_in(&mut self, other: &Plane)
+        requires { length self.old ≡ length other.now }
+        ensures { self.new ≡ zip2 differ self.old other.now }
+    {
+        self.put::<Xor>(other);
+    }
+
+    /// Turns every bit.
+    pub fn not_in(&mut self)
+        ensures { self.new ≡ map not self.old }
+    {
+        invert_words(&mut self.words);
+    }
+
+    /// Puts what the operation makes of each bit, that of `second` and that of `third` in its place.
+    #[tactic(auto, using(crate::proofs::Rules::plane))]
+    pub fn put_triple<O: TripleOp>(&mut self, second: &Plane, third: &Plane)
+        requires second { length self.old ≡ length second.now }
+        requires third { length self.old ≡ length third.now }
+        ensures { self.new ≡ zip3 O.bit self.old second.now third.now }
+    {
+        put_triples::<O>(&mut self.words, &second.words, &third.words);
+    }
+
+    /// Takes the bits of `other` where `mask` is 1, and keeps its own elsewhere.
+    pub fn select_in(&mut self, mask: &Plane, other: &Plane)
+        requires mask { length self.old ≡ length mask.now }
+        requires other { length self.old ≡ length other.now }
+        ensures { self.new ≡ zip3 (λ x y m. cond m y x) self.old other.now mask.now }
+    {
+        self.put_triple::<Select>(other, mask);
+    }
+}
+
+/// Adds three bits in each place, as one step of an addition of numbers whose bits lie in planes: their sum goes into
+/// `sum`, which is written over, and what they carry into `carry`.
+pub fn add_step(x: &Plane, y: &Plane, carry: &mut Plane, sum: &mut Plane)
+    requires second { length x.now ≡ length y.now }
+    requires carries { length x.now ≡ length carry.old }
+    requires sums { length x.now ≡ length sum.old }
+    ensures sums { sum.new ≡ zip3 sum_bit x.now y.now carry.old }
+    ensures carries { carry.new ≡ zip3 carry_bit x.now y.now carry.old }
+{
+    add_words(&x.words, &y.words, &mut carry.words, &mut sum.words);
+}
