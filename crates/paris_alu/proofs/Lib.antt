@@ -1,0 +1,10 @@
+pub mod Places
+pub mod Steps
+pub mod Signs
+pub mod Results
+pub mod Combined
+pub mod Extended
+pub mod Chains
+pub mod Totals
+pub mod Compares
+pub mod Resized

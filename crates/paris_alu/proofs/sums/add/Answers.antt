@@ -1,0 +1,32 @@
+use Rattle.std.proofs.Common.{◌≡◌, ◌-◌, ℕ, ◌∙◌, ap, arith, length, List, Bool, [], false, refl, replicate, sym}
+use Rattle.std.proofs.lemmas.List.{get_or_read, length-replicate}
+use Rattle.paris_field.specs.Numbers.{field_of, plane_at}
+use Rattle.paris_alu.specs.Alu.{operand}
+use Rattle.paris_alu.proofs.Places.{Holds, held}
+use Rattle.paris_alu.proofs.Totals.{Added, added, sum_carry, sum_field, sum_overflow}
+use Rattle.paris_alu.proofs.sums.add.Goals as goal
+
+pub returns : goal.returns
+returns c =
+    let n : ℕ = length c.args.x.now.numbers in
+    let L : ℕ = c.args.len in
+    let f : ℕ → ℕ = operand L c.args.x.now in
+    let g : ℕ → ℕ = operand L c.args.y.now in
+    let xs : List (List Bool) = c.low-xs.result.now in
+    let ys : List (List Bool) = c.low-ys.result.now in
+    let ss : List (List Bool) = c.in_ok-planes.planes.items in
+    let before : List Bool = c.in_ok-carry.carry in
+    let after : List Bool = c.sum_planes.new.carry in
+    let hx : Holds n L f xs = held n n L f xs refl c.low-xs.ensures.count c.low-xs.ensures.long c.low-xs.ensures.at in
+    let hy : Holds n L g ys = held n (length c.args.y.now.numbers) L g ys (sym c.requires.same) c.low-ys.ensures.count c.low-ys.ensures.long c.low-ys.ensures.at in
+    let none : before ≡ replicate n false = c.in_ok-carry.ensures ∙ ap (λ (m : ℕ). replicate m false) c.len-vps.ensures in
+    let a : Added n L f g before after ss =
+    added n L f g before after xs ys ss hx hy (ap length none ∙ length-replicate n false) c.sum_planes.ensures.long c.in_ok-planes.ensures.count c.in_ok-planes.ensures.planes c.in_ok-planes.ensures.exact in
+    let es : c.index.result.now ≡ plane_at ss (L - 1) = get_or_read ss (L - 1) c.index.result.now (omega (arith, a.count, c.requires.some)) c.index.ensures [] in
+    let ex : c.index-xs-top.result ≡ plane_at xs (L - 1) = get_or_read xs (L - 1) c.index-xs-top.result (omega (arith, hx.count, c.requires.some)) c.index-xs-top.is [] in
+    let ey : c.index-ys-top.result ≡ plane_at ys (L - 1) = get_or_read ys (L - 1) c.index-ys-top.result (omega (arith, hy.count, c.requires.some)) c.index-ys-top.is [] in
+    record {
+      value = c.from_planes.ensures ∙ ap (λ (m : ℕ). field_of m ss) c.len-vps.ensures ∙ sum_field c.args.sign n L f g before after ss none a;
+      carry = sum_carry c.args.sign n L f g before after xs ys ss none hx hy a;
+      overflow = sum_overflow c.args.sign n L f g before after xs ys ss c.index.result.now c.index-xs-top.result c.index-ys-top.result c.in_ok-overflow.overflow c.requires.some none hx hy a es ex ey c.in_ok-overflow.ensures;
+    }

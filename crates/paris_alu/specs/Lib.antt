@@ -1,0 +1,3 @@
+pub mod Alu
+pub mod Bits
+pub mod Laws

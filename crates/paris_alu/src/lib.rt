@@ -1,0 +1,17 @@
+//! Arithmetic on fields whose bits lie in planes: what an operator makes of the operands of all processors at once.
+//!
+//! Each function takes the low `len` bits of its operands, works on whole planes by lanes, and makes its results in new
+//! planes. It fails only for want of memory.
+#![tactic(auto)]
+
+mod kernel;
+mod logic;
+mod order;
+mod planes;
+mod sums;
+mod widths;
+
+pub use logic::{BitOperator, bitwise, copy_low, invert};
+pub use order::{compare, maximum, minimum};
+pub use sums::{Overflowing, Sum, add, add_carry, negate, subtract};
+pub use widths::resize;

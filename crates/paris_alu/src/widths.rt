@@ -1,0 +1,49 @@
+//! Numbers of one length as numbers of another.
+
+ghost use Rattle.std.specs.Prelude.{◌≡◌, ◌≤◌, ◌<◌, IfOk, false, length, replicate};
+ghost use Rattle.paris_alu.specs.Alu.{resize_overflow_plane, resized_field};
+ghost use Rattle.paris_alu.specs.Bits.{by_sign};
+
+use crate::planes::{extended_planes, unlike_rest};
+use crate::sums::Overflowing;
+use paris_field::FieldValue;
+use paris_model::Sign;
+use paris_plane::Plane;
+use std::alloc::{AllocError, Global};
+
+/// The bits that stand above the top bit.
+fn rest_above(alloc: Global, sign: Sign, top: &Plane) -> Result<Plane, AllocError>
+    ensures { IfOk result (λ plane. plane ≡ by_sign sign (replicate (length top.now) false) top.now) }
+{
+    match sign {
+        Sign::Unsigned => Plane::zeros(alloc, top.len()),
+        Sign::Signed => top.copy(),
+    }
+}
+
+/// The low `from_len` bits of a field as numbers of `len` bits.
+pub fn resize(
+    alloc: Global,
+    sign: Sign,
+    x: &FieldValue,
+    from_len: u64,
+    len: u64,
+) -> Result<Overflowing, AllocError>
+    requires some { 0 < len }
+    requires narrow { len ≤ 128 }
+    requires from_some { 0 < from_len }
+    requires x_width { from_len ≤ x.now.width }
+    ensures value { IfOk result (λ resized. resized.value ≡ resized_field sign len from_len x.now) }
+    ensures overflow { IfOk result (λ resized. resized.overflow ≡ resize_overflow_plane sign len from_len x.now) }
+{
+    let vps = x.len();
+    let xs = x.low(from_len);
+    let kept = from_len.min(len) as usize;
+    let rest = rest_above(alloc, sign, &xs[kept - 1])?;
+    let overflow = unlike_rest(alloc, &xs[kept..], &rest)?;
+    let planes = extended_planes(alloc, &xs[..kept], &rest, len as usize)?;
+    Ok(Overflowing {
+        value: FieldValue::from_planes(planes, vps),
+        overflow,
+    })
+}
