@@ -9,6 +9,8 @@ mod logic;
 mod order;
 mod planes;
 mod sums;
+#[cfg(test)]
+mod tests;
 mod widths;
 
 pub use logic::{BitOperator, bitwise, copy_low, invert};

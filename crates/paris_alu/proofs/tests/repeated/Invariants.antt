@@ -1,0 +1,9 @@
+use Rattle.std.proofs.Common.{◌≡◌, length}
+use Rattle.paris_field.specs.Fields.{AllFit}
+use Rattle.paris_alu.proofs.tests.repeated.Given as goal
+
+abbrev pub invariant-loop-v : goal.invariant-loop-v
+invariant-loop-v l = record {
+  count : length l.numbers.items ≡ l.v;
+  fit : AllFit 64 l.numbers.items;
+}
