@@ -4,14 +4,16 @@ use Rattle.paris_geometry.specs.Geometry.{numbers_below}
 use Rattle.paris_model.specs.declared.operators.Sign.{Sign}
 use Rattle.paris_model.specs.declared.operators.Sign.TheVariants.{Unsigned, Signed}
 use Rattle.paris_model.specs.declared.operators.BinaryOperator.{BinaryOperator}
-use Rattle.paris_model.specs.declared.operators.BinaryOperator.TheVariants.{UnsignedAdd, UnsignedSubtract, SignedAdd, SignedSubtract, BitAnd, BitOr, BitXor}
+use Rattle.paris_model.specs.declared.operators.BinaryOperator.TheVariants.{UnsignedAdd, UnsignedSubtract, SignedAdd, SignedSubtract, Maximum, Minimum, BitAnd, BitOr, BitXor}
 use Rattle.paris_model.specs.declared.operators.UnaryOperator.{UnaryOperator}
 use Rattle.paris_model.specs.declared.operators.Comparison.{Comparison}
 use Rattle.paris_model.specs.Store.{low, everywhere}
 use Rattle.paris_model.specs.Elementwise.{binary_result, binary_carry, binary_overflow, unary_result, unary_overflow, resize_result, resize_overflow, compares}
 use Rattle.paris_field.specs.Fields.{FieldNumbers}
-use Rattle.paris_alu.specs.declared.logic.BitOperator.{BitOperator}
-use Rattle.paris_alu.specs.declared.logic.BitOperator.TheVariants.{And, Or, Xor}
+use Rattle.paris_alu.specs.declared.bitwise.BitOperator.{BitOperator}
+use Rattle.paris_alu.specs.declared.bitwise.BitOperator.TheVariants.{And, Or, Xor}
+use Rattle.paris_alu.specs.declared.order.Extremum.{Extremum}
+use Rattle.paris_alu.specs.declared.order.Extremum.TheVariants as extremum
 
 -- one bit for each of n processors
 abbrev pub bits_everywhere : ℕ → (ℕ → Bool) → List Bool
@@ -36,6 +38,11 @@ abbrev pub bitwise_operator : BitOperator → BinaryOperator
 bitwise_operator And = BitAnd
 bitwise_operator Or = BitOr
 bitwise_operator Xor = BitXor
+
+-- the operator that takes the greater or the lesser number
+abbrev pub extreme_operator : Extremum → Sign → BinaryOperator
+extreme_operator extremum.Maximum sign = Maximum sign
+extreme_operator extremum.Minimum sign = Minimum sign
 
 -- the low L bits of the result of an operator that doesn't look at its destination, where the carry flags are `carry`
 abbrev pub binary_field : BinaryOperator → ℕ → FieldNumbers → FieldNumbers → (ℕ → ℕ) → FieldNumbers

@@ -4,8 +4,8 @@
 //! planes. It fails only for want of memory.
 #![tactic(auto)]
 
+mod bitwise;
 mod kernel;
-mod logic;
 mod order;
 mod planes;
 mod sums;
@@ -13,7 +13,7 @@ mod sums;
 mod tests;
 mod widths;
 
-pub use logic::{BitOperator, bitwise, copy_low, invert};
-pub use order::{compare, maximum, minimum};
+pub use bitwise::{BitOperator, copy_low, invert, logic};
+pub use order::{Extremum, compare, extreme};
 pub use sums::{Overflowing, Sum, add, add_carry, negate, subtract};
-pub use widths::resize;
+pub use widths::extend;

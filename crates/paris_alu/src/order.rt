@@ -5,7 +5,7 @@ ghost use Rattle.paris_model.specs.declared.operators.BinaryOperator.TheVariants
 ghost use Rattle.paris_model.specs.Elementwise.{is_less};
 ghost use Rattle.paris_model.specs.Store.{everywhere};
 ghost use Rattle.paris_field.specs.Numbers.{AllOf, number_at};
-ghost use Rattle.paris_alu.specs.Alu.{binary_field, bits_everywhere, comparison_plane};
+ghost use Rattle.paris_alu.specs.Alu.{binary_field, bits_everywhere, comparison_plane, extreme_operator};
 
 use crate::kernel::Borrow;
 use crate::planes::{below, unlike};
@@ -13,6 +13,13 @@ use paris_field::{FieldValue, copy_planes, merge_planes};
 use paris_model::{Comparison, Sign};
 use paris_plane::Plane;
 use std::alloc::{AllocError, Global};
+
+/// Which of two numbers is taken.
+#[derive(Clone, Copy, PartialEq, Eq, Debug)]
+pub enum Extremum {
+    Maximum,
+    Minimum,
+}
 
 /// Where the numbers of `x` are less than those of `y`, for `vps` processors.
 ///
@@ -89,7 +96,7 @@ fn selected(alloc: Global, mask: &Plane, x: &[Plane], y: &[Plane]) -> Result<Fie
 }
 
 /// The greater of the low `len` bits of two fields.
-pub fn maximum(
+fn maximum(
     alloc: Global,
     sign: Sign,
     x: &FieldValue,
@@ -110,7 +117,7 @@ pub fn maximum(
 }
 
 /// The lesser of the low `len` bits of two fields.
-pub fn minimum(
+fn minimum(
     alloc: Global,
     sign: Sign,
     x: &FieldValue,
@@ -128,4 +135,26 @@ pub fn minimum(
     let ys = y.low(len);
     let mask = less(alloc, sign, ys, xs, x.len())?;
     selected(alloc, &mask, xs, ys)
+}
+
+/// The greater or the lesser of the low `len` bits of two fields.
+pub fn extreme(
+    alloc: Global,
+    which: Extremum,
+    sign: Sign,
+    x: &FieldValue,
+    y: &FieldValue,
+    len: u64,
+) -> Result<FieldValue, AllocError>
+    requires some { 0 < len }
+    requires narrow { len ≤ 128 }
+    requires x_width { len ≤ x.now.width }
+    requires y_width { len ≤ y.now.width }
+    requires same { length x.now.numbers ≡ length y.now.numbers }
+    ensures { IfOk result (λ value. value ≡ binary_field (extreme_operator which sign) len x.now y.now (λ _. 0)) }
+{
+    match which {
+        Extremum::Maximum => maximum(alloc, sign, x, y, len),
+        Extremum::Minimum => minimum(alloc, sign, x, y, len),
+    }
 }

@@ -3,8 +3,8 @@
 ghost use Rattle.std.specs.Prelude.{◌≡◌, ◌<◌, ◌≤◌, IfOk, length};
 
 use crate::{
-    BitOperator, Overflowing, Sum, add, add_carry, bitwise, compare, copy_low, invert, maximum,
-    minimum, negate, resize, subtract,
+    BitOperator, Extremum, Overflowing, Sum, add, add_carry, compare, copy_low, extend, extreme,
+    invert, logic, negate, subtract,
 };
 use paris_field::FieldValue;
 use paris_model::{Comparison, Sign};
@@ -421,9 +421,9 @@ impl Operation {
                 add_carry(alloc, x, y, &carry, len)?.into()
             }
             Operation::Subtract(sign) => subtract(alloc, sign, x, y, len)?.into(),
-            Operation::Bitwise(operator) => bitwise(alloc, operator, x, y, len)?.into(),
-            Operation::Maximum(sign) => maximum(alloc, sign, x, y, len)?.into(),
-            Operation::Minimum(sign) => minimum(alloc, sign, x, y, len)?.into(),
+            Operation::Bitwise(operator) => logic(alloc, operator, x, y, len)?.into(),
+            Operation::Maximum(sign) => extreme(alloc, Extremum::Maximum, sign, x, y, len)?.into(),
+            Operation::Minimum(sign) => extreme(alloc, Extremum::Minimum, sign, x, y, len)?.into(),
             Operation::Compare(comparison) => {
                 let plane = compare(alloc, comparison, x, y, len)?;
                 FieldValue::from_plane(alloc, plane)?.into()
@@ -431,8 +431,8 @@ impl Operation {
             Operation::Negate => negate(alloc, x, len)?.into(),
             Operation::Invert => invert(alloc, x, len)?.into(),
             Operation::CopyLow => copy_low(alloc, x, len)?.into(),
-            Operation::Narrow(sign) => resize(alloc, sign, x, len, 4)?.into(),
-            Operation::Widen(sign) => resize(alloc, sign, x, len, 8)?.into(),
+            Operation::Narrow(sign) => extend(alloc, sign, x, len, 4)?.into(),
+            Operation::Widen(sign) => extend(alloc, sign, x, len, 8)?.into(),
         })
     }
 }

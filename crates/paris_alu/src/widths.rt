@@ -22,7 +22,7 @@ fn rest_above(alloc: Global, sign: Sign, top: &Plane) -> Result<Plane, AllocErro
 }
 
 /// The low `from_len` bits of a field as numbers of `len` bits.
-pub fn resize(
+pub fn extend(
     alloc: Global,
     sign: Sign,
     x: &FieldValue,

@@ -10,7 +10,7 @@ use Rattle.paris_board.specs.Board.{Board}
 use Rattle.paris_model.specs.Frame.{World}
 use Rattle.paris_model.specs.Instructions.{reads}
 use Rattle.paris_instr.specs.PlanEq.{plan_eq}
-use Rattle.paris_exec.specs.Fields.{field_eq}
+use Rattle.paris_field.specs.Fields.{field_eq}
 use Rattle.paris_exec.specs.Tasks.{Task, field_of}
 use Rattle.paris_book.specs.Machine.{Row, Inputs, State, is_settled, inputs_now, find_id, find_row, is_present, verdict_at, verdict_on, verdict_of, brought_on, after_bring}
 use Rattle.paris_book.specs.Kept.{row_of}

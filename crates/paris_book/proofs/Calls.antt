@@ -28,7 +28,7 @@ use Rattle.paris_names.specs.declared.faults.Fault.{Fault}
 use Rattle.paris_names.specs.declared.faults.Fault.TheVariants.{NoField, WrongCount, TooWide, NoRow}
 use Rattle.paris_board.specs.Board.{key_named}
 use Rattle.paris_instr.specs.Resolve.{IsFittedTo}
-use Rattle.paris_exec.specs.Fields.{overwritten}
+use Rattle.paris_field.specs.Fields.{overwritten}
 use Rattle.paris_book.specs.declared.events.Shown.{Shown as AnyShown}
 use Rattle.paris_book.specs.Machine.{fault_of_values, input_fault, show_reply, show_key, place_of_spot, unsettled_rows}
 use Rattle.paris_book.proofs.Inserts.{state_of}

@@ -14,7 +14,7 @@ use Rattle.paris_names.specs.Keys.{has_key}
 use Rattle.paris_model.specs.Instructions.{reads, writes}
 use Rattle.paris_model.specs.Run.{run}
 use Rattle.paris_model.specs.Recipe.{origin}
-use Rattle.paris_exec.specs.Fields.{FieldNumbers, field_eq}
+use Rattle.paris_field.specs.Fields.{FieldNumbers, field_eq}
 use Rattle.paris_exec.specs.Tasks.{Task, field_of}
 use Rattle.paris_book.specs.Machine.{Row, State, start_world, is_settled, is_waiting, row_plan, is_firm, is_ready, next_ready, inputs_now, order_of, with_status, taken, find_row, verdict_at, verdict_on, verdict_of, brought_on, settled_row, brought_back, after_run}
 use Rattle.paris_book.specs.Whole.{IdsApart}

@@ -9,7 +9,7 @@ use Rattle.paris_board.specs.Board.{Board}
 use Rattle.paris_model.specs.declared.actions.Refusal.{Refusal}
 use Rattle.paris_model.specs.Frame.{World}
 use Rattle.paris_model.specs.Instructions.{Plan, reads, refusal, one, value_at, outcome, outcome_in}
-use Rattle.paris_exec.specs.Fields.{FieldNumbers}
+use Rattle.paris_field.specs.Fields.{FieldNumbers}
 use Rattle.paris_exec.specs.Tasks.{Task, numbers_of, told}
 use Rattle.paris_exec.specs.declared.orders.Outcome.TheVariants.{Values, Refused}
 use Rattle.paris_book.specs.Machine.{Inputs, State, start_world, is_settled, cause_in, fault_by, faults_in, faults_of}

@@ -14,7 +14,7 @@ use Rattle.paris_model.specs.Frame.{World}
 use Rattle.paris_model.specs.Instructions.{Plan, reads, writes, one}
 use Rattle.paris_model.specs.Run.{run}
 use Rattle.paris_instr.specs.PlanEq.{plan_eq}
-use Rattle.paris_exec.specs.Fields.{FieldNumbers, field_eq}
+use Rattle.paris_field.specs.Fields.{FieldNumbers, field_eq}
 use Rattle.paris_exec.specs.Tasks.{Task, numbers_of, field_of}
 use Rattle.paris_book.specs.Machine.{Inputs, start_world, is_settled, is_firm}
 use Rattle.paris_book.specs.Kept.{row_of, plan_of, ripen, Sound, present}

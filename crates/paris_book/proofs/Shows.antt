@@ -15,7 +15,7 @@ use Rattle.paris_board.specs.Board.{Board, is_declared, width_of, count_of}
 use Rattle.paris_model.specs.Instructions.{Plan, reads, writes, given, key_width}
 use Rattle.paris_model.specs.Run.{run}
 use Rattle.paris_model.specs.Recipe.{origin, same}
-use Rattle.paris_exec.specs.Fields.{FieldNumbers}
+use Rattle.paris_field.specs.Fields.{FieldNumbers}
 use Rattle.paris_exec.specs.Tasks.{Task, numbers_of, field_of, fits_key, fits_keys, task_value}
 use Rattle.paris_book.specs.Machine.{Row, Inputs, input_of, numbers_in, start_world, is_settled, row_plan, now, origin_at, shown_of, show_at, is_firm}
 use Rattle.paris_book.specs.Kept.{row_of, plan_of, last_kept, Sound, present}

@@ -6,7 +6,7 @@ use Rattle.paris_names.specs.declared.keys.Key.{Key}
 use Rattle.paris_model.specs.declared.actions.Refusal.{Refusal}
 use Rattle.paris_model.specs.Instructions.{Plan, reads, refusal, value_at}
 use Rattle.paris_model.specs.Recipe.{origin}
-use Rattle.paris_exec.specs.Fields.{FieldNumbers}
+use Rattle.paris_field.specs.Fields.{FieldNumbers}
 use Rattle.paris_exec.specs.Tasks.{Task, field_of, numbers_of}
 use Rattle.paris_book.specs.Kept.{row_of, plan_of, present}
 use Rattle.paris_book.specs.Machine.{Inputs, Row, is_firm, is_waiting, is_settled, shown_of, recalled_status, fault_by}

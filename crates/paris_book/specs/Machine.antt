@@ -24,7 +24,7 @@ use Rattle.paris_model.specs.Recipe.{Recipe, origin, recipe, past, same}
 use Rattle.paris_model.specs.Recipe.Recipe.{Start}
 use Rattle.paris_instr.specs.PlanEq.{plan_eq}
 use Rattle.paris_instr.specs.Resolve.{resolution, fault_in}
-use Rattle.paris_exec.specs.Fields.{FieldNumbers, field_eq, overwritten}
+use Rattle.paris_field.specs.Fields.{FieldNumbers, field_eq, overwritten}
 use Rattle.paris_exec.specs.Tasks.{Task, field_of}
 use Rattle.paris_book.specs.declared.rows.Status.{Status}
 use Rattle.paris_book.specs.declared.rows.Status.TheVariants.{Waiting, Out, Settled}

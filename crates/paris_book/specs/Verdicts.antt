@@ -9,7 +9,7 @@ use Rattle.paris_names.specs.Keys.{has_key}
 use Rattle.paris_geometry.specs.Geometry.{processor_count}
 use Rattle.paris_model.specs.Instructions.{reads, writes}
 use Rattle.paris_instr.specs.PlanEq.{plan_eq}
-use Rattle.paris_exec.specs.Fields.{field_eq}
+use Rattle.paris_field.specs.Fields.{field_eq}
 use Rattle.paris_exec.specs.Tasks.{Task, task_value}
 use Rattle.paris_book.specs.Machine.{Inputs, is_settled}
 use Rattle.paris_book.specs.Among.{firm_among, inputs_among}

@@ -1,7 +1,8 @@
 //! What is asked of a book, and what it answers.
 
 use crate::rows::Status;
-use paris_exec::{Done, FieldValue, Order};
+use paris_exec::{Done, Order};
+use paris_field::FieldValue;
 use paris_instr::Instr;
 use paris_model::Refusal;
 use paris_names::{Edition, Fault, Items, KeyName, Name, RowId, Spot};

@@ -2,12 +2,12 @@
 
 ghost use Rattle.std.specs.Prelude.{◌≡◌, ◌<◌, ◌≤◌, ◌+◌, ◌^◌, ◌++◌, ◌∷◌, [], ℕ, nat_le, length, replicate, position, None, IfOk, IfErr, IsSome, vec_len, vec_capacity};
 ghost use Rattle.paris_names.specs.Faults.{IsFaultOf};
-ghost use Rattle.paris_exec.specs.Fields.{AllFit, overwritten};
+ghost use Rattle.paris_field.specs.Fields.{AllFit, overwritten};
 ghost use Rattle.std.specs.Option.{option_copied};
 ghost use Rattle.paris_book.specs.Machine.{fault_of_values, flag_input, with_flag_input, input_of, with_input, declared_input, declared_flags};
 ghost use Rattle.paris_book.specs.Among.{inputs_of};
 
-use paris_exec::FieldValue;
+use paris_field::FieldValue;
 use paris_names::{Fault, FlagName, Key};
 use std::alloc::{AllocError, Global};
 
@@ -90,14 +90,21 @@ pub(crate) fn set_input(inputs: &mut InputData, key: &Key, input: Input)
     }
 }
 
+/// Whether a number needs more bits than a width has.
+fn is_too_wide(width: u64, number: u128) -> bool
+    requires { width ≤ 128 }
+    ensures { result ≡ nat_le (2 ^ width) number }
+{
+    width < 128 && number >= 1u128 << width
+}
+
 /// The place of the first number that doesn't fit a width.
 fn first_too_wide(width: u64, numbers: &[u128]) -> Option<usize>
-    requires { width ≤ 64 }
+    requires { width ≤ 128 }
     ensures place { result ≡ position (λ x. nat_le (2 ^ width) x) numbers.now }
     ensures fit { result ≡ None → AllFit width numbers.now }
 {
-    let bound = 1u128 << width;
-    numbers.iter().position(|x| *x >= bound)
+    numbers.iter().position(|x| is_too_wide(width, *x))
 }
 
 /// Why values can't be given from a processor on in place of numbers of a key, if they can't.
@@ -154,10 +161,8 @@ pub(crate) fn declare_input(
     ensures { IfOk result (λ input. input ≡ declared_input number width count start) }
 {
     let numbers = repeated(alloc, start, count)?;
-    Ok(Input {
-        value: FieldValue::from_vec(width, numbers),
-        number,
-    })
+    let value = FieldValue::from_numbers(alloc, width, numbers.as_slice())?;
+    Ok(Input { value, number })
 }
 
 /// The input data of a set's flags as they are declared.

@@ -1,6 +1,7 @@
 use crate::spellings::*;
 use paris_book::{Book, Edit, EditReply, Event, Look, Reply, Shown, Verdict};
-use paris_exec::{Done, FieldValue, Order, execute};
+use paris_exec::{Done, Order, execute};
+use paris_field::FieldValue;
 use paris_instr::Instr;
 use paris_model::{Action, Conditional, Mail, UnaryOperator};
 use paris_names::{Edition, Fault, FlagName, Items, KeyName, Name, RowId, Spot};

@@ -10,7 +10,8 @@ use crate::operations::{
     throw, twin_operation, twin_values,
 };
 use paris_book::{Book, Edit, Look, RowLook, Status, Verdict};
-use paris_exec::{Done, FieldValue, Order};
+use paris_exec::{Done, Order};
+use paris_field::FieldValue;
 use paris_names::{Edition, Fault, Items, RowId, Spot};
 use std::alloc::{AllocError, Global};
 use std::process::Abort;

@@ -13,7 +13,7 @@ use Rattle.paris_model.specs.Frame.{World}
 use Rattle.paris_model.proofs.Counts.{after_count}
 use Rattle.paris_model.specs.Instructions.{Plan, reads, writes, key_width, value_at, after, outcome, outcome_in, refusal, given, held}
 use Rattle.paris_model.proofs.Worlds.{refused_reads, value_at-map}
-use Rattle.paris_exec.specs.Fields.{FieldNumbers}
+use Rattle.paris_field.specs.Fields.{FieldNumbers}
 use Rattle.paris_exec.specs.Tasks.{Task, numbers_of, field_of, fits_key, fits_keys, fits, fields_of, told, task_outcome, task_value, beside}
 use Rattle.paris_exec.specs.declared.orders.Outcome.{Outcome}
 use Rattle.paris_exec.specs.declared.orders.Outcome.TheVariants.{Values, Refused}

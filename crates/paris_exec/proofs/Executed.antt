@@ -20,9 +20,10 @@ use Rattle.paris_model.specs.Frame.{World}
 use Rattle.paris_model.specs.Instructions.{Plan, reads, writes, key_width, width_among, operands, value_at, after, refusal, outcome, outcome_in}
 use Rattle.paris_model.proofs.Direct.{after_inputs_fit}
 use Rattle.paris_plain.specs.Plain.{Seen, frame_of_seen, is_flag, are_bits, flags_are_bits, unless_refused, plain_outcome}
-use Rattle.paris_exec.specs.Fields.{FieldNumbers, AllFit}
+use Rattle.paris_field.specs.Fields.{FieldNumbers, AllFit}
 use Rattle.paris_exec.specs.Seen.{FitKeys, seen_by}
-use Rattle.paris_exec.specs.Tasks.{Task, field_of, fields_of, fits, fits_key, fits_keys, numbers_of, told, task_outcome}
+use Rattle.paris_exec.specs.declared.orders.Outcome.TheVariants.{Values}
+use Rattle.paris_exec.specs.Tasks.{Task, field_of, fields_of, fits, fits_key, fits_keys, left_values, numbers_of, seen_at, told, task_outcome}
 
 -- each number of a value fits its width
 abbrev pub Fits : FieldNumbers → Type 0
@@ -57,7 +58,7 @@ bits_of : (xs : List ℕ) → AllFit 1 xs → are_bits xs ≡ true
 bits_of [] h = refl
 bits_of (x ∷ xs) h = (let small : nat_lt x 2 ≡ true = (let y : x < 2 ^ 1 = first_all (λ n. n < 2 ^ 1) x xs h in grind (arith, nat_tests)) in rw small (bits_of xs (rest_all (λ n. n < 2 ^ 1) x xs h)))
 
-flag_width : (p : Plan) (s : ℕ) (flag : FlagName) → key_width p (Flag s flag) ≡ 1
+pub flag_width : (p : Plan) (s : ℕ) (flag : FlagName) → key_width p (Flag s flag) ≡ 1
 unfolding key_width
 flag_width p s flag = refl
 
@@ -173,3 +174,9 @@ lists_more xs i x within at = ap numbers_of (take_more xs i x within) ∙ map-ap
 
 pub fit_more : (xs : List FieldNumbers) (i : ℕ) (x : FieldNumbers) → i < length xs → x ≡ get_or xs i x → Fits x → AllNumbersFit (take i xs) → AllNumbersFit (take (i + 1) xs)
 fit_more xs i x within at here before = rw (take_more xs i x within) (All-push Fits (take i xs) (get_or xs i x) before (subst Fits at here))
+
+-- the values that an instruction leaves are the task's outcome, where it isn't refused
+pub direct_outcome : (t : Task) (xs : List FieldNumbers) → refusal t.plan (seen_at t) ≡ None → xs ≡ left_values t → Values xs ≡ task_outcome t
+direct_outcome t xs direct is =
+    ap Values is
+    ∙ sym (outcome_given t (Ok (map (after t.plan (seen_at t)) (writes t.plan))) (ap (λ o. unless_refused o (map (after t.plan (seen_at t)) (writes t.plan))) (sym direct)))

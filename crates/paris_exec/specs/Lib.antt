@@ -1,4 +1,4 @@
-pub mod Fields
 pub mod Frames
+pub mod Planes
 pub mod Seen
 pub mod Tasks

@@ -3,7 +3,7 @@ use Rattle.std.specs.Prelude.{ℕ, ◌≤◌, List, [], ◌∷◌}
 use Rattle.paris_names.specs.declared.keys.Key.{Key}
 use Rattle.paris_model.specs.Instructions.{Plan, reads, key_width}
 use Rattle.paris_plain.specs.Plain.{Seen}
-use Rattle.paris_exec.specs.Fields.{FieldNumbers, AllFit}
+use Rattle.paris_field.specs.Fields.{FieldNumbers, AllFit}
 use Rattle.paris_exec.specs.Tasks.{numbers_of}
 
 -- the numbers of these values at the keys that the plan reads

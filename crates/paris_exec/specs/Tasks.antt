@@ -1,13 +1,14 @@
 -- Field values, orders, and what an executed order holds.
-use Rattle.std.specs.Prelude.{ℕ, ◌==◌, Bool, true, false, ◌&&◌, List, [], ◌∷◌, map, length, Option, Some, None, Result, Ok, Err, if◌then◌else◌}
+use Rattle.std.specs.Prelude.{ℕ, ◌==◌, Bool, true, false, ◌&&◌, List, [], ◌∷◌, map, length, slice_index, Option, Some, None, Result, Ok, Err, if◌then◌else◌}
 use Rattle.paris_names.specs.declared.keys.RowId.{RowId}
 use Rattle.paris_names.specs.declared.keys.Edition.{Edition}
 use Rattle.paris_names.specs.declared.keys.Key.{Key}
 use Rattle.paris_names.specs.Keys.{key_eq}
 use Rattle.paris_geometry.specs.Geometry.{processor_count}
 use Rattle.paris_model.specs.declared.actions.Refusal.{Refusal}
-use Rattle.paris_model.specs.Instructions.{Plan, reads, writes, key_width, outcome, given}
-use Rattle.paris_exec.specs.Fields.{FieldNumbers}
+use Rattle.paris_model.specs.Frame.{Frame, World, put_selected}
+use Rattle.paris_model.specs.Instructions.{Plan, reads, writes, key_width, value_at, frame_of, after, outcome, given}
+use Rattle.paris_field.specs.Fields.{FieldNumbers}
 use Rattle.paris_exec.specs.declared.orders.Outcome.{Outcome}
 use Rattle.paris_exec.specs.declared.orders.Outcome.TheVariants.{Values, Refused}
 
@@ -63,3 +64,19 @@ abbrev pub beside : List Key → List FieldNumbers → Key → Option FieldNumbe
 beside [] xs k = None
 beside (j ∷ js) [] k = None
 beside (j ∷ js) (x ∷ xs) k = if key_eq k j then Some x else beside js xs k
+
+-- the numbers at each key that an order's plan reads
+abbrev pub seen_at : Task → World
+seen_at t = value_at (reads t.plan) (numbers_of t.inputs)
+
+-- what its instruction sees
+abbrev pub frame_at : Task → Frame
+frame_at t = frame_of t.plan (seen_at t)
+
+-- the values at the keys that it writes, where the instruction isn't refused
+abbrev pub left_values : Task → List FieldNumbers
+left_values t = fields_of t.plan (writes t.plan) (map (after t.plan (seen_at t)) (writes t.plan))
+
+-- the value at a key after the selected processors have put new numbers into its low bits
+abbrev pub put_value : Task → Key → FieldNumbers → FieldNumbers
+put_value t k new = field_of t.plan k (put_selected (frame_at t) k new.width (slice_index new.numbers))

@@ -1,15 +1,18 @@
 //! Executing orders: it needs no book and no lock.
 
-ghost use Rattle.std.specs.Prelude.{◌≡◌, All, length, slice_index, IfOk, IfErr, true};
-ghost use Rattle.paris_model.specs.Instructions.{reads};
-ghost use Rattle.paris_exec.specs.Fields.{FieldNumbers, AllFit};
-ghost use Rattle.paris_exec.specs.Tasks.{fields_of, fits, numbers_of, task_outcome};
+ghost use Rattle.std.specs.Prelude.{◌≡◌, All, length, slice_index, IfOk, IfErr, IfSome, None, true};
+ghost use Rattle.paris_model.specs.Instructions.{reads, refusal};
+ghost use Rattle.paris_field.specs.Fields.{FieldNumbers, AllFit};
+ghost use Rattle.paris_exec.specs.Tasks.{fields_of, fits, left_values, numbers_of, seen_at, task_outcome};
 ghost use Rattle.paris_exec.specs.Frames.{GivesInAnyWorld};
 ghost use Rattle.paris_exec.specs.Seen.{FitKeys, seen_by};
 
-use crate::fields::FieldValue;
+use crate::contexts::unconditional_values;
+use crate::elementwise::conditional_values;
 use crate::orders::{Done, Order, Outcome};
+use paris_field::FieldValue;
 use paris_instr::Plan;
+use paris_model::Action;
 use paris_names::{Items, Key};
 use paris_plain::{Inputs, outcome};
 use std::alloc::{AllocError, Global};
@@ -56,7 +59,7 @@ fn fields_at(
     Ok(values)
 }
 
-/// What the plan of an order gives on its inputs.
+/// What the plan of an order gives on its inputs, by the plain program.
 fn outcome_of(alloc: Global, order: &Order) -> Result<Outcome, AllocError>
     ensures { IfOk result (λ outcome. outcome ≡ task_outcome order.now) }
 {
@@ -72,13 +75,36 @@ fn outcome_of(alloc: Global, order: &Order) -> Result<Outcome, AllocError>
     }
 }
 
+/// The values that an elementwise instruction leaves at the keys that its plan writes, in their order, by kernels on planes. None for the
+/// other instructions.
+fn values_on_planes(alloc: Global, order: &Order) -> Result<Option<Vec<FieldValue>>, AllocError>
+    ensures values { IfOk result (λ values. IfSome values (λ values. values.items ≡ left_values order.now)) }
+    ensures direct { IfOk result (λ values. IfSome values (λ _. refusal order.now.plan (seen_at order.now) ≡ None)) }
+{
+    match &order.plan().action() {
+        Action::OnSelected(i) => conditional_values(alloc, order, i),
+        Action::OnAll(i) => Ok(Some(unconditional_values(alloc, order, i)?)),
+        Action::ByNews(_) | Action::AlongLine(_) | Action::ByMail(_) => Ok(None),
+    }
+}
+
+/// What the plan of an order gives on its inputs, on planes where it can.
+fn outcome_by_kernels(alloc: Global, order: &Order) -> Result<Outcome, AllocError>
+    ensures { IfOk result (λ outcome. outcome ≡ task_outcome order.now) }
+{
+    match values_on_planes(alloc, order)? {
+        Some(values) => Ok(Outcome::Values(Items::new(values))),
+        None => outcome_of(alloc, order),
+    }
+}
+
 /// Executes an order. At want of memory the order comes back.
 pub fn execute(alloc: Global, order: Order) -> Result<Done, (Order, AllocError)>
     ensures ok { IfOk result (λ done. done ≡ order) }
     ensures err { IfErr result (λ e. e.0 ≡ order) }
     ensures frame { GivesInAnyWorld order }
 {
-    match outcome_of(alloc, &order) {
+    match outcome_by_kernels(alloc, &order) {
         Ok(outcome) => Ok(Done::new(order, outcome)),
         Err(error) => Err((order, error)),
     }

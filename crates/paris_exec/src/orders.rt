@@ -7,7 +7,7 @@ ghost use Rattle.paris_geometry.specs.Geometry.{processor_count};
 ghost use Rattle.paris_model.specs.Instructions.{reads, writes, value_at};
 ghost use Rattle.paris_exec.specs.Tasks.{fits, fits_key, fits_keys, beside, field_of, numbers_of, task_outcome, task_value};
 
-use crate::fields::FieldValue;
+use paris_field::FieldValue;
 use paris_instr::Plan;
 use paris_model::Refusal;
 use paris_names::{Edition, Items, Key, RowId};

@@ -168,6 +168,7 @@ impl FieldValue {
         ensures count { length result.now ≡ len }
         ensures long { AllOf (length self.now.numbers) result.now }
         ensures at { (v : ℕ) → v < length self.now.numbers → number_at result.now v ≡ low len (slice_index self.now.numbers v) }
+        ensures fit { AllFit self.now.width self.now.numbers }
     {
         &self.planes[..len as usize]
     }

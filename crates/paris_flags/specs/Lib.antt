@@ -1,1 +1,2 @@
 pub mod FlagSets
+pub mod Steps

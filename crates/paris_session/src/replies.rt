@@ -7,7 +7,8 @@ ghost use Rattle.paris_session.specs.Replies.{ok_text, edit_text, order_text, no
 ghost use Rattle.paris_book.specs.Among.{look_shown};
 
 use paris_book::{EditReply, Look, RowFault, RowLook, Status, Verdict};
-use paris_exec::{FieldValue, Order};
+use paris_exec::Order;
+use paris_field::FieldValue;
 use paris_model::Refusal;
 use paris_names::Fault;
 use paris_text::write_instr;

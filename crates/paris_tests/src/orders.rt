@@ -1,5 +1,6 @@
 use crate::common::*;
-use paris_exec::{Done, FieldValue, Order, Outcome, execute};
+use paris_exec::{Done, Order, Outcome, execute};
+use paris_field::FieldValue;
 use paris_instr::{Instr, Plan, resolve};
 use paris_names::keys::has_key;
 use paris_names::{Edition, Fault, FieldNo, FlagName, Key, RowId, SetNo};

@@ -1,7 +1,7 @@
 -- What is left to compare has the same answer.
 use Rattle.std.proofs.Common.{◌≡◌, drop, map}
 use Rattle.std.specs.Cmp.Lexicographic.{pointwise}
-use Rattle.paris_exec.specs.Fields.{field_eq}
+use Rattle.paris_field.specs.Fields.{field_eq}
 use Rattle.paris_exec.specs.Tasks.{field_of}
 use Rattle.paris_book.specs.Entries.{entries}
 use Rattle.paris_book.specs.Kept.{present}

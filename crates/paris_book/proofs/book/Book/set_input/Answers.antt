@@ -1,7 +1,7 @@
 use Rattle.std.proofs.Common.{◌≡◌, ◌+◌, [], ◌∷◌, Some, refl, sym, ap, ◌∙◌, length}
 use Rattle.std.proofs.Math.Path.{ap₂}
 use Rattle.paris_names.specs.Keys.{has_key}
-use Rattle.paris_exec.specs.Fields.{overwritten}
+use Rattle.paris_field.specs.Fields.{overwritten}
 use Rattle.paris_book.specs.Machine.{Inputs, input_of, with_input}
 use Rattle.paris_book.specs.Among.{inputs_of}
 use Rattle.paris_book.specs.Entries.{entries}

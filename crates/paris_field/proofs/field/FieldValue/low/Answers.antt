@@ -2,7 +2,7 @@ use Rattle.std.proofs.Common.{◌≤◌, ◌∙◌, sym, ap, arith, length, take
 use Rattle.paris_model.specs.Store.{low}
 use Rattle.paris_field.specs.Numbers.{number_at}
 use Rattle.paris_field.proofs.Numbers.{number_at_low}
-use Rattle.paris_field.proofs.Values.{width_is, vps_is, at_is, all_of, all_taken}
+use Rattle.paris_field.proofs.Values.{all_fit, width_is, vps_is, at_is, all_of, all_taken}
 use Rattle.paris_field.proofs.field.FieldValue.low.Goals as goal
 
 pub returns-clause-long : goal.returns-clause-long
@@ -17,3 +17,6 @@ returns-clause-at c =
     λ v h.
     ap (λ ps. number_at (take c.args.len ps) v) c.deref.ensures.value ∙ number_at_low c.self.inside.planes.items c.args.len v room
     ∙ ap (low c.args.len) (at_is c.self.inside.vps c.self.inside.planes.items c.self.view_is v (omega (arith, h, vps_is c.self.inside.vps c.self.inside.planes.items c.self.view_is)))
+
+pub returns-clause-fit : goal.returns-clause-fit
+returns-clause-fit c = all_fit c.self.inside.vps c.self.inside.planes.items c.self.view_is

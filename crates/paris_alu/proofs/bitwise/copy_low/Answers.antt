@@ -1,0 +1,13 @@
+use Rattle.std.proofs.Common.{◌∙◌, ℕ, List, Bool, ap, length, refl}
+use Rattle.paris_field.specs.Numbers.{field_of}
+use Rattle.paris_alu.specs.Alu.{operand}
+use Rattle.paris_alu.proofs.Places.{held}
+use Rattle.paris_alu.proofs.Combined.{copied_field}
+use Rattle.paris_alu.proofs.bitwise.copy_low.Goals as goal
+
+pub returns : goal.returns
+returns c =
+    let n : ℕ = length c.args.x.now.numbers in
+    let xs : List (List Bool) = c.low.result.now in
+    c.from_planes.ensures ∙ ap (λ (m : ℕ). field_of m c.in_ok-planes.planes.items) c.len.ensures ∙ ap (field_of n) c.in_ok-planes.ensures
+    ∙ copied_field n c.args.len (operand c.args.len c.args.x.now) xs (held n n c.args.len (operand c.args.len c.args.x.now) xs refl c.low.ensures.count c.low.ensures.long c.low.ensures.at)

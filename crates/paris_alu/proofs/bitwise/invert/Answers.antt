@@ -1,0 +1,18 @@
+use Rattle.std.proofs.Common.{◌∙◌, ℕ, List, Bool, ap, length, refl, subst, sym}
+use Rattle.paris_field.specs.Numbers.{AllOf, field_of}
+use Rattle.paris_alu.specs.Alu.{operand}
+use Rattle.paris_alu.proofs.Places.{held}
+use Rattle.paris_alu.proofs.Combined.{all_inverted, inverted_field}
+use Rattle.paris_alu.proofs.bitwise.invert.Goals as goal
+
+pub from_planes-requires-clause-long : goal.from_planes-requires-clause-long
+from_planes-requires-clause-long c =
+    subst (λ (m : ℕ). AllOf m c.in_ok-planes.planes.items) (sym c.len.ensures)
+    (subst (λ (ps : List (List Bool)). AllOf (length c.args.x.now.numbers) ps) (sym c.in_ok-planes.ensures) (all_inverted (length c.args.x.now.numbers) c.low.result.now c.low.ensures.long))
+
+pub returns : goal.returns
+returns c =
+    let n : ℕ = length c.args.x.now.numbers in
+    let xs : List (List Bool) = c.low.result.now in
+    c.from_planes.ensures ∙ ap (λ (m : ℕ). field_of m c.in_ok-planes.planes.items) c.len.ensures ∙ ap (field_of n) c.in_ok-planes.ensures
+    ∙ inverted_field n c.args.len (operand c.args.len c.args.x.now) xs (held n n c.args.len (operand c.args.len c.args.x.now) xs refl c.low.ensures.count c.low.ensures.long c.low.ensures.at)

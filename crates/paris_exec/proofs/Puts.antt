@@ -1,0 +1,123 @@
+-- What is put into a key by planes is what the definitions put there.
+use Rattle.std.proofs.Common.{◌≡◌, ℕ, zero, suc, ◌<◌, ◌==◌, Bool, true, false, cond, List, [], ◌∷◌, length, map, slice_index, slice_index_or, refl, sym, ap, ◌∙◌, subst, if◌then◌else◌, arith, ◌^◌, ◌%◌, ◌-◌, ◌+◌}
+use Rattle.std.specs.Prelude.{not}
+use Rattle.std.proofs.Math.Nat.{mod-eq_of_lt}
+use Rattle.std.proofs.lemmas.List.Elements.{All-get_or}
+use Rattle.std.proofs.lemmas.List.{length-map}
+use Rattle.std.proofs.lemmas.List.FromFn.{fill_by_all}
+use Rattle.paris_names.specs.declared.keys.FlagName.TheVariants.{Context}
+use Rattle.paris_names.specs.declared.keys.Key.{Key}
+use Rattle.paris_names.specs.declared.keys.Key.TheVariants.{Field, Flag}
+use Rattle.paris_geometry.specs.Geometry.{processor_count}
+use Rattle.paris_model.specs.Store.{put, low, bit, everywhere, stored}
+use Rattle.paris_model.specs.Frame.{at, is_selected}
+use Rattle.paris_model.proofs.Stores.{everywhere-same}
+use Rattle.paris_model.specs.Instructions.{key_width}
+use Rattle.paris_plane.specs.Bits.{zip3}
+use Rattle.paris_plane.proofs.Bits.{length-zip3, get_or-zip3}
+use Rattle.paris_field.specs.Fields.{FieldNumbers, AllFit}
+use Rattle.paris_field.specs.Numbers.{bit_in, number_at}
+use Rattle.paris_flags.specs.declared.steps.TestStep.TheVariants.{Load}
+use Rattle.paris_flags.specs.Steps.{test_bit}
+use Rattle.paris_exec.specs.Planes.{flag_value}
+use Rattle.paris_exec.specs.Tasks.{Task, field_of, frame_at, seen_at, put_value}
+
+-- a flag's number is 1 where its bit is
+pub selected_bit : (mask : List Bool) (v : ℕ) → (slice_index (map bit mask) v == 1) ≡ slice_index_or mask v false
+selected_bit [] v = refl
+selected_bit (true ∷ bs) zero = refl
+selected_bit (false ∷ bs) zero = refl
+selected_bit (b ∷ bs) (suc v) = selected_bit bs v
+
+pub flag_bit : (mask : List Bool) (v : ℕ) → bit (slice_index_or mask v false) ≡ slice_index (map bit mask) v
+flag_bit [] v = refl
+flag_bit (b ∷ bs) zero = refl
+flag_bit (b ∷ bs) (suc v) = flag_bit bs v
+
+-- a store under the context's plane is a store by the selected processors
+pub put_is : (t : Task) (k : Key) (x new value : FieldNumbers) (mask : List Bool) (f : ℕ → ℕ) → x ≡ field_of t.plan k (seen_at t k) → length x.numbers ≡ processor_count t.plan.axes
+    → map bit mask ≡ seen_at t (Flag t.plan.set_no Context) → ((v : ℕ) → v < processor_count t.plan.axes → f v ≡ slice_index new.numbers v) → value.width ≡ x.width
+    → value.numbers ≡ stored (length x.numbers) (λ v. slice_index_or mask v false) (slice_index x.numbers) new.width f → value ≡ put_value t k new
+put_is t k x new value mask f x_is count mask_is f_is width_is numbers_are =
+    let wide : value.width ≡ (put_value t k new).width = width_is ∙ ap (λ (y : FieldNumbers). y.width) x_is in
+    let same : value.numbers ≡ (put_value t k new).numbers =
+    numbers_are
+    ∙ ap (λ n. stored n (λ v. slice_index_or mask v false) (slice_index x.numbers) new.width f) count
+    ∙ everywhere-same (processor_count t.plan.axes) _ _ (λ v below. rw (← selected_bit mask v, mask_is, f_is v below, x_is) refl) in
+    (λ i. record { width = wide i; numbers = same i })
+
+-- the carry flags that a plane holds are those that the definitions see
+pub carry_seen : (mask : List Bool) (seen : List ℕ) → map bit mask ≡ seen → bit_in mask ≡ slice_index seen
+carry_seen mask seen e = (λ i v. flag_bit mask v i) ∙ ap {B = ℕ → ℕ} (λ xs v. slice_index xs v) e
+
+-- a bit that is put where the mask is 1
+put_flag_bit : (old new selected : Bool) → bit (cond selected new old) ≡ (if selected then put (bit old) (bit new) 1 else bit old)
+put_flag_bit true true true = refl
+put_flag_bit true true false = refl
+put_flag_bit true false true = refl
+put_flag_bit true false false = refl
+put_flag_bit false true true = refl
+put_flag_bit false true false = refl
+put_flag_bit false false true = refl
+put_flag_bit false false false = refl
+
+put_flag_at : (old new mask : List Bool) (v : ℕ) → length old ≡ length new → length old ≡ length mask → v < length old
+    → slice_index (map bit (zip3 (test_bit Load) old new mask)) v ≡ (if slice_index (map bit mask) v == 1 then put (slice_index (map bit old) v) (slice_index (map bit new) v) 1 else slice_index (map bit old) v)
+put_flag_at old new mask v on om below =
+    let o : Bool = slice_index_or old v false in
+    let n : Bool = slice_index_or new v false in
+    sym (flag_bit (zip3 (test_bit Load) old new mask) v)
+    ∙ ap bit (get_or-zip3 (test_bit Load) old new mask v false false false false on om below)
+    ∙ put_flag_bit o n (slice_index_or mask v false)
+    ∙ ap (λ s. if s then put (bit o) (bit n) 1 else bit o) (sym (selected_bit mask v))
+    ∙ ap (λ x. if slice_index (map bit mask) v == 1 then put x (bit n) 1 else x) (flag_bit old v)
+    ∙ ap (λ y. if slice_index (map bit mask) v == 1 then put (slice_index (map bit old) v) y 1 else slice_index (map bit old) v) (flag_bit new v)
+
+-- a step of flags under the context's plane is a store by the selected processors
+pub put_flag_is : (t : Task) (k : Key) (old new mask : List Bool) → key_width t.plan k ≡ 1 → map bit old ≡ seen_at t k → map bit mask ≡ seen_at t (Flag t.plan.set_no Context)
+    → length old ≡ processor_count t.plan.axes → length new ≡ processor_count t.plan.axes → length mask ≡ processor_count t.plan.axes → flag_value (zip3 (test_bit Load) old new mask) ≡ put_value t k (flag_value new)
+put_flag_is t k old new mask wide old_is mask_is long_old long_new long_mask =
+    let on : length old ≡ length new = long_old ∙ sym long_new in
+    let om : length old ≡ length mask = long_old ∙ sym long_mask in
+    let after : List Bool = zip3 (test_bit Load) old new mask in
+    let same : map bit after ≡ (put_value t k (flag_value new)).numbers =
+        fill_by_all _ (map bit after) (processor_count t.plan.axes) 0 (length-map after bit ∙ length-zip3 (test_bit Load) old new mask on om ∙ long_old) (λ v below.
+        put_flag_at old new mask v on om (subst (λ n. v < n) (sym long_old) below)
+        ∙ ap (λ ms. if slice_index ms v == 1 then put (slice_index (map bit old) v) (slice_index (map bit new) v) 1 else slice_index (map bit old) v) mask_is
+        ∙ ap (λ os. if slice_index (seen_at t (Flag t.plan.set_no Context)) v == 1 then put (slice_index os v) (slice_index (map bit new) v) 1 else slice_index os v) old_is) in
+    (λ i. record { width = sym wide i; numbers = same i })
+
+-- a store of all bits leaves nothing of what stood there
+pub put_whole : (old x L : ℕ) → old < 2 ^ L → put old x L ≡ low L x
+put_whole old x L small = let all : old % 2 ^ L ≡ old = mod-eq_of_lt small in omega (arith, all)
+
+-- a number of a list that fits
+fit_at : (w : ℕ) (numbers : List ℕ) → AllFit w numbers → (v : ℕ) → v < length numbers → slice_index numbers v < 2 ^ w
+fit_at w numbers fit v below = All-get_or (λ x. x < 2 ^ w) numbers v 0 below fit
+
+not_at : (mask : List Bool) (v : ℕ) → v < length mask → slice_index_or (map not mask) v false ≡ not (slice_index_or mask v false)
+not_at [] v h = absurd (omega (arith, h))
+not_at (b ∷ bs) zero h = refl
+not_at (b ∷ bs) (suc v) h = not_at bs v (omega (arith, h))
+
+-- the old number put into the others is the new one put into the selected
+kept_at : (selected : Bool) (old new L : ℕ) → old < 2 ^ L → new < 2 ^ L → (if not selected then put new old L else new) ≡ (if selected then put old new L else old)
+kept_at true old new L fo fn = sym (put_whole old new L fo ∙ mod-eq_of_lt fn)
+kept_at false old new L fo fn = put_whole new old L fn ∙ mod-eq_of_lt fo
+
+-- as a whole value
+pub kept_is : (mask others : List Bool) (x new value : FieldNumbers) (planes : List (List Bool)) → length mask ≡ length x.numbers → new.width ≡ x.width → length new.numbers ≡ length x.numbers
+    → AllFit x.width x.numbers → AllFit new.width new.numbers → others ≡ map not mask → ((v : ℕ) → v < length x.numbers → number_at planes v ≡ low x.width (slice_index x.numbers v)) → value.width ≡ new.width
+    → value.numbers ≡ stored (length new.numbers) (λ v. slice_index_or others v false) (slice_index new.numbers) x.width (number_at planes)
+    → value ≡ record { width = x.width; numbers = stored (length x.numbers) (λ v. slice_index_or mask v false) (slice_index x.numbers) x.width (slice_index new.numbers) }
+kept_is mask others x new value planes mask_count wide count fit_x fit_new others_is planes_are width_is numbers_are =
+    let same : value.numbers ≡ stored (length x.numbers) (λ v. slice_index_or mask v false) (slice_index x.numbers) x.width (slice_index new.numbers) =
+        numbers_are
+        ∙ ap (λ n. stored n (λ v. slice_index_or others v false) (slice_index new.numbers) x.width (number_at planes)) count
+        ∙ everywhere-same (length x.numbers) _ _ (λ v below.
+        ap (λ ms. if slice_index_or ms v false then put (slice_index new.numbers v) (number_at planes v) x.width else slice_index new.numbers v) others_is
+        ∙ ap (λ b. if b then put (slice_index new.numbers v) (number_at planes v) x.width else slice_index new.numbers v) (not_at mask v (subst (λ n. v < n) (sym mask_count) below))
+        ∙ ap (λ y. if not (slice_index_or mask v false) then put (slice_index new.numbers v) y x.width else slice_index new.numbers v) (planes_are v below ∙ mod-eq_of_lt (fit_at x.width x.numbers fit_x v below))
+        ∙ kept_at (slice_index_or mask v false) (slice_index x.numbers v) (slice_index new.numbers v) x.width (fit_at x.width x.numbers fit_x v below)
+        (subst (λ w. slice_index new.numbers v < 2 ^ w) wide (fit_at new.width new.numbers fit_new v (subst (λ n. v < n) (sym count) below)))) in
+    (λ i. record { width = (width_is ∙ wide) i; numbers = same i })

@@ -1,0 +1,31 @@
+use Rattle.std.proofs.Common.{◌≤◌, ◌∙◌, sym, subst, length}
+use Rattle.paris_names.specs.declared.keys.Key.TheVariants.{Field}
+use Rattle.paris_model.specs.Instructions.{key_width}
+use Rattle.paris_field.specs.Fields.{FieldNumbers}
+use Rattle.paris_exec.proofs.Left.{resize_left}
+use Rattle.paris_exec.proofs.Operands.{numbers_count, bits_count, resize_source, resize_read, resize_to}
+use Rattle.paris_exec.proofs.elementwise.resized_values.Goals as goal
+
+pub input-x-requires : goal.input-x-requires
+input-x-requires c =
+    resize_source c.args.order.now c.args.sign c.args.to.now c.args.from.now c.args.len c.args.from_len c.requires.acts
+
+pub put_overflowing-requires-clause-read : goal.put_overflowing-requires-clause-read
+put_overflowing-requires-clause-read c =
+    resize_read c.args.order.now c.args.sign c.args.to.now c.args.from.now c.args.len c.args.from_len c.requires.acts
+
+pub put_overflowing-requires-clause-short : goal.put_overflowing-requires-clause-short
+put_overflowing-requires-clause-short c =
+    subst (λ (y : FieldNumbers). y.width ≤ key_width c.args.order.now.plan (Field c.args.to.now.field)) (sym c.in_ok-resized.ensures.value) (resize_to c.args.order.now c.args.sign c.args.to.now c.args.from.now c.args.len c.args.from_len c.requires.acts c.requires.fit)
+
+pub put_overflowing-requires-clause-count : goal.put_overflowing-requires-clause-count
+put_overflowing-requires-clause-count c =
+    numbers_count c.in_ok-resized.resized.value c.args.len (length c.input-x.result.now.numbers) _ _ c.in_ok-resized.ensures.value c.input-x.ensures.count
+
+pub put_overflowing-requires-clause-flags : goal.put_overflowing-requires-clause-flags
+put_overflowing-requires-clause-flags c =
+    bits_count c.in_ok-resized.resized.overflow (length c.input-x.result.now.numbers) _ _ c.in_ok-resized.ensures.overflow c.input-x.ensures.count
+
+pub returns : goal.returns
+returns c =
+    c.in_ok-put_overflowing.ensures ∙ resize_left c.args.order.now c.args.sign c.args.to.now c.args.from.now c.args.len c.args.from_len c.requires.acts c.input-x.result.now c.input-x.ensures.value c.input-x.ensures.count c.in_ok-resized.resized.value c.in_ok-resized.resized.overflow c.in_ok-resized.ensures.value c.in_ok-resized.ensures.overflow

@@ -1,0 +1,372 @@
+//! Instructions that store in selected processors, each by itself, on planes.
+
+ghost use Rattle.std.specs.Prelude.{◌≡◌, ◌≤◌, ◌<◌, ℕ, true, false, length, replicate, slice_index, List, [], ◌∷◌, IfOk, IfSome};
+ghost use Rattle.paris_names.specs.Keys.{has_key};
+ghost use Rattle.paris_names.specs.declared.keys.FlagName.TheVariants.{Context, Carry, Overflow};
+ghost use Rattle.paris_names.specs.declared.keys.Key.TheVariants.{Field, Flag};
+ghost use Rattle.paris_geometry.specs.Geometry.{coordinate, processor_count};
+ghost use Rattle.paris_model.specs.Store.{low, everywhere};
+ghost use Rattle.paris_model.specs.Elementwise.{binary_flags};
+ghost use Rattle.paris_model.specs.Fits.{IsFit};
+ghost use Rattle.paris_model.specs.Instructions.{reads, key_width};
+ghost use Rattle.paris_alu.specs.Alu.{binary_field, carry_plane, overflow_plane};
+ghost use Rattle.paris_field.specs.Fields.{AllFit};
+ghost use Rattle.paris_exec.specs.Planes.{AreRead};
+ghost use Rattle.paris_exec.specs.Tasks.{left_values, put_value, seen_at};
+
+use crate::orders::Order;
+use crate::planes::{flag_plane, put_field, put_flag_alone, put_overflowing, put_sum};
+use paris_alu::{
+    BitOperator, Extremum, Sum, add, add_carry, compare, copy_low, extend, extreme, invert, logic,
+    negate, subtract,
+};
+use paris_field::FieldValue;
+use paris_geometry::Geometry;
+use paris_model::{Action, BinaryOperator, Comparison, Conditional, Operand, Sign, UnaryOperator};
+use paris_names::{FlagName, Key, SetNo};
+use paris_plane::Plane;
+use std::alloc::{AllocError, Global};
+
+/// The sum or the difference of two sources with its flags, where the operator is one.
+fn sum_of(
+    alloc: Global,
+    order: &Order,
+    operator: BinaryOperator,
+    x: &FieldValue,
+    y: &FieldValue,
+    len: u64,
+) -> Result<Option<Sum>, AllocError>
+    requires some { 0 < len }
+    requires narrow { len ≤ 128 }
+    requires x_width { len ≤ x.now.width }
+    requires y_width { len ≤ y.now.width }
+    requires same { length x.now.numbers ≡ length y.now.numbers }
+    requires count { length x.now.numbers ≡ processor_count order.now.plan.axes }
+    requires carry { binary_flags operator ≡ Carry ∷ Overflow ∷ [] → has_key (reads order.now.plan) (Flag order.now.plan.set_no Carry) ≡ true }
+    ensures value { IfOk result (λ sum. IfSome sum (λ sum. sum.value ≡ binary_field operator len x.now y.now (slice_index (seen_at order.now (Flag order.now.plan.set_no Carry))))) }
+    ensures carry { IfOk result (λ sum. IfSome sum (λ sum. sum.carry ≡ carry_plane operator len x.now y.now (slice_index (seen_at order.now (Flag order.now.plan.set_no Carry))))) }
+    ensures overflow { IfOk result (λ sum. IfSome sum (λ sum. sum.overflow ≡ overflow_plane operator len x.now y.now (slice_index (seen_at order.now (Flag order.now.plan.set_no Carry))))) }
+    ensures flags { IfOk result (λ sum. IfSome sum (λ _. binary_flags operator ≡ Carry ∷ Overflow ∷ [])) }
+{
+    match operator {
+        BinaryOperator::UnsignedAdd => Ok(Some(add(alloc, Sign::Unsigned, x, y, len)?)),
+        BinaryOperator::SignedAdd => Ok(Some(add(alloc, Sign::Signed, x, y, len)?)),
+        BinaryOperator::UnsignedSubtract => Ok(Some(subtract(alloc, Sign::Unsigned, x, y, len)?)),
+        BinaryOperator::SignedSubtract => Ok(Some(subtract(alloc, Sign::Signed, x, y, len)?)),
+        BinaryOperator::UnsignedAddCarry => {
+            let carry = flag_plane(order, &FlagName::Carry);
+            Ok(Some(add_carry(alloc, x, y, carry, len)?))
+        }
+        BinaryOperator::UnsignedMultiply
+        | BinaryOperator::SignedMultiply
+        | BinaryOperator::Truncate
+        | BinaryOperator::Remainder
+        | BinaryOperator::Maximum(_)
+        | BinaryOperator::Minimum(_)
+        | BinaryOperator::BitAnd
+        | BinaryOperator::BitOr
+        | BinaryOperator::BitXor => Ok(None),
+    }
+}
+
+/// What an operator that sets no flags makes of two sources.
+fn flagless(
+    alloc: Global,
+    operator: BinaryOperator,
+    x: &FieldValue,
+    y: &FieldValue,
+    len: u64,
+) -> Result<Option<FieldValue>, AllocError>
+    requires some { 0 < len }
+    requires narrow { len ≤ 128 }
+    requires x_width { len ≤ x.now.width }
+    requires y_width { len ≤ y.now.width }
+    requires same { length x.now.numbers ≡ length y.now.numbers }
+    ensures value { IfOk result (λ value. IfSome value (λ value. value ≡ binary_field operator len x.now y.now (λ _. 0))) }
+    ensures flags { IfOk result (λ value. IfSome value (λ _. binary_flags operator ≡ [])) }
+{
+    let value = match operator {
+        BinaryOperator::BitAnd => logic(alloc, BitOperator::And, x, y, len)?,
+        BinaryOperator::BitOr => logic(alloc, BitOperator::Or, x, y, len)?,
+        BinaryOperator::BitXor => logic(alloc, BitOperator::Xor, x, y, len)?,
+        BinaryOperator::Maximum(sign) => extreme(alloc, Extremum::Maximum, sign, x, y, len)?,
+        BinaryOperator::Minimum(sign) => extreme(alloc, Extremum::Minimum, sign, x, y, len)?,
+        BinaryOperator::UnsignedAdd
+        | BinaryOperator::UnsignedAddCarry
+        | BinaryOperator::UnsignedSubtract
+        | BinaryOperator::SignedAdd
+        | BinaryOperator::SignedSubtract
+        | BinaryOperator::UnsignedMultiply
+        | BinaryOperator::SignedMultiply
+        | BinaryOperator::Truncate
+        | BinaryOperator::Remainder => return Ok(None),
+    };
+    Ok(Some(value))
+}
+
+/// The values that an operator of two sources leaves; none for products, quotients and remainders.
+fn binary_values(
+    alloc: Global,
+    order: &Order,
+    operator: BinaryOperator,
+    to: &Operand,
+    left: &Operand,
+    right: &Operand,
+    len: u64,
+) -> Result<Option<Vec<FieldValue>>, AllocError>
+    requires acts { order.now.plan.action ≡ Action.OnSelected (Conditional.Binary operator to.now left.now right.now len) }
+    requires fit { IsFit order.now.plan.axes order.now.plan.action }
+    ensures { IfOk result (λ values. IfSome values (λ values. values.items ≡ left_values order.now)) }
+{
+    let x = order.input(&Key::Field(left.field));
+    let y = order.input(&Key::Field(right.field));
+    if let Some(sum) = sum_of(alloc, order, operator, x, y, len)? {
+        return Ok(Some(put_sum(alloc, order, to, sum)?));
+    }
+    match flagless(alloc, operator, x, y, len)? {
+        Some(new) => Ok(Some(put_field(alloc, order, to, new)?)),
+        None => Ok(None),
+    }
+}
+
+/// The values that an operator of one source leaves.
+fn unary_values(
+    alloc: Global,
+    order: &Order,
+    operator: UnaryOperator,
+    to: &Operand,
+    from: &Operand,
+    len: u64,
+) -> Result<Vec<FieldValue>, AllocError>
+    requires acts { order.now.plan.action ≡ Action.OnSelected (Conditional.Unary operator to.now from.now len) }
+    requires fit { IsFit order.now.plan.axes order.now.plan.action }
+    ensures { IfOk result (λ values. values.items ≡ left_values order.now) }
+{
+    let x = order.input(&Key::Field(from.field));
+    match operator {
+        UnaryOperator::Negate => put_overflowing(alloc, order, to, negate(alloc, x, len)?),
+        UnaryOperator::BitNot => put_field(alloc, order, to, invert(alloc, x, len)?),
+        UnaryOperator::Move => put_field(alloc, order, to, copy_low(alloc, x, len)?),
+    }
+}
+
+/// The values that a move to another length leaves. None where the source is narrower than its length, which no plan of a board is.
+fn resized_values(
+    alloc: Global,
+    order: &Order,
+    sign: Sign,
+    to: &Operand,
+    from: &Operand,
+    len: u64,
+    from_len: u64,
+) -> Result<Option<Vec<FieldValue>>, AllocError>
+    requires acts { order.now.plan.action ≡ Action.OnSelected (Conditional.Resize sign to.now from.now len from_len) }
+    requires fit { IsFit order.now.plan.axes order.now.plan.action }
+    ensures { IfOk result (λ values. IfSome values (λ values. values.items ≡ left_values order.now)) }
+{
+    let x = order.input(&Key::Field(from.field));
+    if from_len > x.width() {
+        return Ok(None);
+    }
+    let resized = extend(alloc, sign, x, from_len, len)?;
+    Ok(Some(put_overflowing(alloc, order, to, resized)?))
+}
+
+/// The values of an instruction that stores numbers of its own to a field.
+fn number_values(
+    alloc: Global,
+    order: &Order,
+    to: &Operand,
+    numbers: &[u128],
+    len: u64,
+) -> Result<Vec<FieldValue>, AllocError>
+    requires read { AreRead order.now (Field to.now.field ∷ Flag order.now.plan.set_no Context ∷ []) }
+    requires short { len ≤ key_width order.now.plan (Field to.now.field) }
+    requires narrow { len ≤ 128 }
+    requires count { length numbers.now ≡ processor_count order.now.plan.axes }
+    requires fit { AllFit len numbers.now }
+    ensures { IfOk result (λ values. values.items ≡ put_value order.now (Field to.now.field) (record { width = len; numbers = numbers.now }) ∷ []) }
+{
+    let new = FieldValue::from_numbers(alloc, len, numbers)?;
+    put_field(alloc, order, to, new)
+}
+
+/// The same number for each processor.
+fn repeated(alloc: Global, number: u128, count: usize) -> Result<Vec<u128>, AllocError>
+    ensures { IfOk result (λ numbers. numbers.items ≡ replicate count number) }
+{
+    vec![in alloc; number; count]
+}
+
+/// The low bits of the coordinates of all processors on an axis.
+fn coordinates(
+    alloc: Global,
+    geometry: Geometry,
+    axis: u64,
+    len: u64,
+) -> Result<Vec<u128>, AllocError>
+    requires axis { axis < length geometry }
+    requires narrow { len ≤ 64 }
+    ensures { IfOk result (λ numbers. numbers.items ≡ everywhere (processor_count geometry) (λ v. low len (coordinate geometry axis v))) }
+{
+    let bound = 1u128 << len;
+    (0..geometry.vps())
+        .map(|v| geometry.coordinate(v as u32, axis as usize) as u128 % bound)
+        .collect(alloc)
+}
+
+/// The low bits of the send addresses of all processors.
+fn addresses(alloc: Global, geometry: Geometry, len: u64) -> Result<Vec<u128>, AllocError>
+    requires { len ≤ 64 }
+    ensures { IfOk result (λ numbers. numbers.items ≡ everywhere (processor_count geometry) (low len)) }
+{
+    let bound = 1u128 << len;
+    (0..geometry.vps())
+        .map(|v| v as u128 % bound)
+        .collect(alloc)
+}
+
+/// The values that a comparison leaves.
+fn compare_values(
+    alloc: Global,
+    order: &Order,
+    comparison: Comparison,
+    left: &Operand,
+    right: &Operand,
+    len: u64,
+) -> Result<Vec<FieldValue>, AllocError>
+    requires acts { order.now.plan.action ≡ Action.OnSelected (Conditional.Compare comparison left.now right.now len) }
+    requires fit { IsFit order.now.plan.axes order.now.plan.action }
+    ensures { IfOk result (λ values. values.items ≡ left_values order.now) }
+{
+    let x = order.input(&Key::Field(left.field));
+    let y = order.input(&Key::Field(right.field));
+    put_flag_alone(
+        alloc,
+        order,
+        &FlagName::Test,
+        compare(alloc, comparison, x, y, len)?,
+    )
+}
+
+/// The values that an instruction with source fields leaves. None for the others, and for products, quotients and remainders.
+fn source_values(
+    alloc: Global,
+    order: &Order,
+    i: &Conditional<Operand, SetNo>,
+) -> Result<Option<Vec<FieldValue>>, AllocError>
+    requires acts { order.now.plan.action ≡ Action.OnSelected i.now }
+    requires fit { IsFit order.now.plan.axes order.now.plan.action }
+    ensures { IfOk result (λ values. IfSome values (λ values. values.items ≡ left_values order.now)) }
+{
+    match i {
+        Conditional::Binary {
+            operator,
+            to,
+            left,
+            right,
+            length,
+        } => binary_values(alloc, order, *operator, to, left, right, *length),
+        Conditional::Unary {
+            operator,
+            to,
+            from,
+            length,
+        } => Ok(Some(unary_values(alloc, order, *operator, to, from, *length)?)),
+        Conditional::Resize {
+            sign,
+            to,
+            from,
+            length,
+            from_length,
+        } => resized_values(alloc, order, *sign, to, from, *length, *from_length),
+        Conditional::Compare {
+            comparison,
+            left,
+            right,
+            length,
+        } => Ok(Some(compare_values(alloc, order, *comparison, left, right, *length)?)),
+        _ => Ok(None),
+    }
+}
+
+/// The values that an instruction which stores numbers of its own leaves. None for the others.
+fn own_values(
+    alloc: Global,
+    order: &Order,
+    i: &Conditional<Operand, SetNo>,
+) -> Result<Option<Vec<FieldValue>>, AllocError>
+    requires acts { order.now.plan.action ≡ Action.OnSelected i.now }
+    requires fit { IsFit order.now.plan.axes order.now.plan.action }
+    ensures { IfOk result (λ values. IfSome values (λ values. values.items ≡ left_values order.now)) }
+{
+    let geometry = order.plan().geometry();
+    match i {
+        Conditional::MoveConstant { to, value, length } => {
+            let numbers = repeated(alloc, *value, geometry.vps())?;
+            Ok(Some(number_values(alloc, order, to, numbers.as_slice(), *length)?))
+        }
+        Conditional::MyCoordinate { to, axis, length } => {
+            let numbers = coordinates(alloc, geometry, *axis, *length)?;
+            Ok(Some(number_values(alloc, order, to, numbers.as_slice(), *length)?))
+        }
+        Conditional::MyAddress { to, length } => {
+            let numbers = addresses(alloc, geometry, *length)?;
+            Ok(Some(number_values(alloc, order, to, numbers.as_slice(), *length)?))
+        }
+        _ => Ok(None),
+    }
+}
+
+/// The values that an instruction which moves to or from the test flag leaves. None for the others.
+fn test_values(
+    alloc: Global,
+    order: &Order,
+    i: &Conditional<Operand, SetNo>,
+) -> Result<Option<Vec<FieldValue>>, AllocError>
+    requires acts { order.now.plan.action ≡ Action.OnSelected i.now }
+    requires fit { IsFit order.now.plan.axes order.now.plan.action }
+    ensures { IfOk result (λ values. IfSome values (λ values. values.items ≡ left_values order.now)) }
+{
+    let vps = order.plan().geometry().vps();
+    let test = FlagName::Test;
+    match i {
+        Conditional::SetTest(_) => {
+            let new = Plane::ones(alloc, vps)?;
+            Ok(Some(put_flag_alone(alloc, order, &test, new)?))
+        }
+        Conditional::ClearTest(_) => {
+            let new = Plane::zeros(alloc, vps)?;
+            Ok(Some(put_flag_alone(alloc, order, &test, new)?))
+        }
+        Conditional::LoadTest(from) => {
+            let new = order.input(&Key::Field(from.field)).mask().copy()?;
+            Ok(Some(put_flag_alone(alloc, order, &test, new)?))
+        }
+        Conditional::StoreTest(to) => {
+            let new = order.input(&Key::Flag(order.plan().set(), test)).copy()?;
+            Ok(Some(put_field(alloc, order, to, new)?))
+        }
+        _ => Ok(None),
+    }
+}
+
+/// The values that an instruction of this family leaves at the keys that its plan writes, in their order. None for products, quotients
+/// and remainders.
+pub(crate) fn conditional_values(
+    alloc: Global,
+    order: &Order,
+    i: &Conditional<Operand, SetNo>,
+) -> Result<Option<Vec<FieldValue>>, AllocError>
+    requires acts { order.now.plan.action ≡ Action.OnSelected i.now }
+    requires fit { IsFit order.now.plan.axes order.now.plan.action }
+    ensures { IfOk result (λ values. IfSome values (λ values. values.items ≡ left_values order.now)) }
+{
+    if let Some(values) = source_values(alloc, order, i)? {
+        return Ok(Some(values));
+    }
+    if let Some(values) = own_values(alloc, order, i)? {
+        return Ok(Some(values));
+    }
+    test_values(alloc, order, i)
+}

@@ -1,0 +1,162 @@
+//! Values on planes: the selected processors put new numbers into the low bits of a key that the plan reads.
+
+ghost use Rattle.std.specs.Prelude.{◌≡◌, ◌≤◌, ◌<◌, ◌==◌, ℕ, true, false, length, map, slice_index, slice_index_or, List, [], ◌∷◌, IfOk};
+ghost use Rattle.paris_names.specs.Keys.{has_key};
+ghost use Rattle.paris_names.specs.declared.keys.FlagName.TheVariants.{Context, Carry, Overflow};
+ghost use Rattle.paris_names.specs.declared.keys.Key.TheVariants.{Field, Flag};
+ghost use Rattle.paris_geometry.specs.Geometry.{processor_count};
+ghost use Rattle.paris_model.specs.Store.{bit, stored};
+ghost use Rattle.paris_model.specs.Instructions.{reads, key_width};
+ghost use Rattle.paris_exec.specs.Tasks.{put_value, seen_at};
+ghost use Rattle.paris_exec.specs.Planes.{flag_value, AreRead};
+
+use crate::orders::Order;
+use paris_alu::{Overflowing, Sum};
+use paris_field::FieldValue;
+use paris_flags::{TestStep, test_step};
+use paris_model::Operand;
+use paris_names::{FlagName, Key};
+use paris_plane::Plane;
+use std::alloc::{AllocError, Global};
+
+/// The bits of a flag that the plan reads.
+pub(crate) fn flag_plane<'a>(order: &'a Order, flag: &FlagName) -> &'a Plane
+    requires { has_key (reads order.now.plan) (Flag order.now.plan.set_no flag.now) ≡ true }
+    ensures bits { map bit result.now ≡ seen_at order.now (Flag order.now.plan.set_no flag.now) }
+    ensures count { length result.now ≡ processor_count order.now.plan.axes }
+{
+    order.input(&Key::Flag(order.plan().set(), *flag)).mask()
+}
+
+/// New numbers in the selected processors, and the old ones in the others.
+fn keep_others(
+    selected: &Plane,
+    old: &FieldValue,
+    new: FieldValue,
+) -> Result<FieldValue, AllocError>
+    requires mask { length selected.now ≡ length old.now.numbers }
+    requires width { new.width ≡ old.now.width }
+    requires count { length new.numbers ≡ length old.now.numbers }
+    ensures { IfOk result (λ value. value ≡ record { width = old.now.width; numbers = stored (length old.now.numbers) (λ v. slice_index_or selected.now v false) (slice_index old.now.numbers) old.now.width (slice_index new.numbers) }) }
+{
+    let mut others = selected.copy()?;
+    others.not_in();
+    let mut value = new;
+    let width = value.planes().len() as u64;
+    value.merge_in(&others, old.low(width), width);
+    Ok(value)
+}
+
+/// The value at a key after the selected processors have put new numbers into its low bits, as many as the new value is wide. Where that
+/// is all of them, no copy is made: the new value takes the others' old numbers.
+fn put(order: &Order, key: &Key, new: FieldValue) -> Result<FieldValue, AllocError>
+    requires context { has_key (reads order.now.plan) (Flag order.now.plan.set_no Context) ≡ true }
+    requires read { has_key (reads order.now.plan) key.now ≡ true }
+    requires short { new.width ≤ key_width order.now.plan key.now }
+    requires count { length new.numbers ≡ processor_count order.now.plan.axes }
+    ensures { IfOk result (λ value. value ≡ put_value order.now key.now new) }
+{
+    let selected = flag_plane(order, &FlagName::Context);
+    let old = order.input(key);
+    if new.width() == old.width() {
+        return keep_others(selected, old, new);
+    }
+    let mut value = old.copy()?;
+    value.merge_in(selected, new.planes(), new.width());
+    Ok(value)
+}
+
+/// The same for a flag of the set.
+fn put_flag(
+    alloc: Global,
+    order: &Order,
+    flag: &FlagName,
+    new: &Plane,
+) -> Result<FieldValue, AllocError>
+    requires context { has_key (reads order.now.plan) (Flag order.now.plan.set_no Context) ≡ true }
+    requires read { has_key (reads order.now.plan) (Flag order.now.plan.set_no flag.now) ≡ true }
+    requires count { length new.now ≡ processor_count order.now.plan.axes }
+    ensures { IfOk result (λ value. value ≡ put_value order.now (Flag order.now.plan.set_no flag.now) (flag_value new.now)) }
+{
+    let selected = flag_plane(order, &FlagName::Context);
+    let mut bits = flag_plane(order, flag).copy()?;
+    test_step(TestStep::Load, &mut bits, selected, new);
+    FieldValue::from_plane(alloc, bits)
+}
+
+/// The values of an instruction that stores to a field alone.
+pub(crate) fn put_field(
+    alloc: Global,
+    order: &Order,
+    to: &Operand,
+    new: FieldValue,
+) -> Result<Vec<FieldValue>, AllocError>
+    requires read { AreRead order.now (Field to.now.field ∷ Flag order.now.plan.set_no Context ∷ []) }
+    requires short { new.width ≤ key_width order.now.plan (Field to.now.field) }
+    requires count { length new.numbers ≡ processor_count order.now.plan.axes }
+    ensures { IfOk result (λ values. values.items ≡ put_value order.now (Field to.now.field) new ∷ []) }
+{
+    let mut values = Vec::with_capacity(alloc, 1)?;
+    values.push(put(order, &Key::Field(to.field), new)?)?;
+    Ok(values)
+}
+
+/// The values of an instruction that stores to a flag alone.
+pub(crate) fn put_flag_alone(
+    alloc: Global,
+    order: &Order,
+    flag: &FlagName,
+    new: Plane,
+) -> Result<Vec<FieldValue>, AllocError>
+    requires read { AreRead order.now (Flag order.now.plan.set_no flag.now ∷ Flag order.now.plan.set_no Context ∷ []) }
+    requires count { length new ≡ processor_count order.now.plan.axes }
+    ensures { IfOk result (λ values. values.items ≡ put_value order.now (Flag order.now.plan.set_no flag.now) (flag_value new) ∷ []) }
+{
+    let mut values = Vec::with_capacity(alloc, 1)?;
+    values.push(put_flag(alloc, order, flag, &new)?)?;
+    Ok(values)
+}
+
+/// The values of an instruction that stores to a field and to the overflow flag.
+pub(crate) fn put_overflowing(
+    alloc: Global,
+    order: &Order,
+    to: &Operand,
+    new: Overflowing,
+) -> Result<Vec<FieldValue>, AllocError>
+    requires read { AreRead order.now (Field to.now.field ∷ Flag order.now.plan.set_no Overflow ∷ Flag order.now.plan.set_no Context ∷ []) }
+    requires short { new.value.width ≤ key_width order.now.plan (Field to.now.field) }
+    requires count { length new.value.numbers ≡ processor_count order.now.plan.axes }
+    requires flags { length new.overflow ≡ processor_count order.now.plan.axes }
+    ensures { IfOk result (λ values. values.items ≡ put_value order.now (Field to.now.field) new.value ∷ put_value order.now (Flag order.now.plan.set_no Overflow) (flag_value new.overflow) ∷ []) }
+{
+    let Overflowing { value, overflow } = new;
+    let mut values = put_field(alloc, order, to, value)?;
+    values.push(put_flag(alloc, order, &FlagName::Overflow, &overflow)?)?;
+    Ok(values)
+}
+
+/// The values of an instruction that stores to a field and to the flags carry and overflow.
+pub(crate) fn put_sum(
+    alloc: Global,
+    order: &Order,
+    to: &Operand,
+    new: Sum,
+) -> Result<Vec<FieldValue>, AllocError>
+    requires read { AreRead order.now (Field to.now.field ∷ Flag order.now.plan.set_no Carry ∷ Flag order.now.plan.set_no Overflow ∷ Flag order.now.plan.set_no Context ∷ []) }
+    requires short { new.value.width ≤ key_width order.now.plan (Field to.now.field) }
+    requires count { length new.value.numbers ≡ processor_count order.now.plan.axes }
+    requires carries { length new.carry ≡ processor_count order.now.plan.axes }
+    requires overflows { length new.overflow ≡ processor_count order.now.plan.axes }
+    ensures { IfOk result (λ values. values.items ≡ put_value order.now (Field to.now.field) new.value ∷ put_value order.now (Flag order.now.plan.set_no Carry) (flag_value new.carry) ∷ put_value order.now (Flag order.now.plan.set_no Overflow) (flag_value new.overflow) ∷ []) }
+{
+    let Sum {
+        value,
+        carry,
+        overflow,
+    } = new;
+    let mut values = put_field(alloc, order, to, value)?;
+    values.push(put_flag(alloc, order, &FlagName::Carry, &carry)?)?;
+    values.push(put_flag(alloc, order, &FlagName::Overflow, &overflow)?)?;
+    Ok(values)
+}
