@@ -49,7 +49,8 @@ pub fn context_step(step: ContextStep, context: &mut Plane, operand: &Plane)
     }
 }
 
-/// Does a step to the test flags of the processors whose context flags are 1. `Set` and `Clear` don't look at the operand.
+/// Does a step to the test flags, or to other flags, of the processors whose context flags are 1. `Set` and `Clear` don't look at the
+/// operand.
 pub fn test_step(step: TestStep, test: &mut Plane, context: &Plane, operand: &Plane)
     requires context { length test.old ≡ length context.now }
     requires operand { length test.old ≡ length operand.now }

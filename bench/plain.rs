@@ -1,0 +1,381 @@
+//! The kernels of `crates/paris_plane`, `crates/paris_field` and `crates/paris_alu` in plain Rust, measured: the same
+//! algorithms on the same planes, as loops over words, which the compiler vectorizes.
+//!
+//! Compiled by `rustc -O`. It prints a line for each thing that is measured: its name, the width in bits, the count of
+//! processors, picoseconds a call (the least of several rounds), and a checksum of what the last call left.
+
+use std::hint::black_box;
+use std::time::Instant;
+
+/// A bit for each processor, 64 in a word.
+type Plane = Vec<u64>;
+
+const WIDTHS: [usize; 3] = [8, 32, 64];
+const COUNTS: [usize; 2] = [1024, 65536];
+const ROUNDS: usize = 5;
+
+/// How many words of planes a round works on, about.
+const KERNEL_WORDS: usize = 16_000_000;
+const NEW_WORDS: usize = 4_000_000;
+const NUMBERS_WORDS: usize = 1_000_000;
+
+const FACTOR: u64 = 6_364_136_223_846_793_005;
+const STEP: u64 = 1_442_695_040_888_963_407;
+
+struct Generator {
+    state: u64,
+}
+
+impl Generator {
+    fn next(&mut self) -> u64 {
+        self.state = self.state.wrapping_mul(FACTOR).wrapping_add(STEP);
+        self.state ^ (self.state >> 29)
+    }
+}
+
+fn random_planes(seed: u64, width: usize, vps: usize) -> Vec<Plane> {
+    let mut generator = Generator { state: seed };
+    (0..width).map(|_| (0..vps / 64).map(|_| generator.next()).collect()).collect()
+}
+
+fn checksum_of(before: u64, words: &[u64]) -> u64 {
+    words.iter().fold(before, |sum, word| sum.wrapping_mul(FACTOR).wrapping_add(*word))
+}
+
+fn checksum(planes: &[Plane]) -> u64 {
+    planes.iter().fold(0, |sum, plane| checksum_of(sum, plane))
+}
+
+// ---- kernels, in place ----
+
+fn add_step(x: &[u64], y: &[u64], carry: &mut [u64], sum: &mut [u64]) {
+    let len = x.len();
+    let (y, carry, sum) = (&y[..len], &mut carry[..len], &mut sum[..len]);
+    for i in 0..len {
+        let unlike = x[i] ^ y[i];
+        let carried = carry[i];
+        sum[i] = unlike ^ carried;
+        carry[i] = (x[i] & y[i]) | (unlike & carried);
+    }
+}
+
+fn subtract_step(x: &[u64], y: &[u64], borrow: &mut [u64], difference: &mut [u64]) {
+    let len = x.len();
+    let (y, borrow, difference) = (&y[..len], &mut borrow[..len], &mut difference[..len]);
+    for i in 0..len {
+        let borrowed = borrow[i];
+        difference[i] ^= y[i] ^ borrowed;
+        borrow[i] = borrowed ^ ((borrowed ^ y[i]) & (x[i] ^ y[i]));
+    }
+}
+
+fn less_step(x: &[u64], y: &[u64], less: &mut [u64]) {
+    let len = x.len();
+    let (y, less) = (&y[..len], &mut less[..len]);
+    for i in 0..len {
+        less[i] ^= (less[i] ^ y[i]) & (x[i] ^ y[i]);
+    }
+}
+
+fn xor_step(x: &mut [u64], y: &[u64]) {
+    for (x, y) in x.iter_mut().zip(y) {
+        *x ^= y;
+    }
+}
+
+fn select_step(x: &mut [u64], y: &[u64], mask: &[u64]) {
+    let len = x.len();
+    let (y, mask) = (&y[..len], &mask[..len]);
+    for i in 0..len {
+        x[i] ^= (x[i] ^ y[i]) & mask[i];
+    }
+}
+
+fn add_planes(x: &[Plane], y: &[Plane], carry: &mut Plane, sum: &mut [Plane]) {
+    for k in 0..x.len() {
+        add_step(&x[k], &y[k], carry, &mut sum[k]);
+    }
+}
+
+/// The difference that is written over starts as `x`, or as what an earlier call left.
+fn subtract_planes(x: &[Plane], y: &[Plane], borrow: &mut Plane, difference: &mut [Plane]) {
+    for k in 0..x.len() {
+        subtract_step(&x[k], &y[k], borrow, &mut difference[k]);
+    }
+}
+
+/// Of unsigned numbers.
+fn below_planes(x: &[Plane], y: &[Plane], less: &mut Plane) {
+    less.fill(0);
+    for k in 0..x.len() {
+        less_step(&x[k], &y[k], less);
+    }
+}
+
+/// Of signed numbers: the one that has the top bit is the lesser.
+fn less_planes(x: &[Plane], y: &[Plane], less: &mut Plane) {
+    let top = x.len() - 1;
+    below_planes(&x[..top], &y[..top], less);
+    less_step(&y[top], &x[top], less);
+}
+
+fn xor_planes(x: &mut [Plane], y: &[Plane]) {
+    for k in 0..x.len() {
+        xor_step(&mut x[k], &y[k]);
+    }
+}
+
+fn merge_planes(x: &mut [Plane], mask: &Plane, y: &[Plane]) {
+    for k in 0..x.len() {
+        select_step(&mut x[k], &y[k], mask);
+    }
+}
+
+fn maximum_planes(x: &[Plane], y: &[Plane], less: &mut Plane, greatest: &mut [Plane]) {
+    below_planes(x, y, less);
+    merge_planes(greatest, less, y);
+}
+
+#[derive(Clone, Copy)]
+enum Operator {
+    Add,
+    Subtract,
+    Less,
+    Xor,
+    Maximum,
+}
+
+const OPERATORS: [(Operator, &str); 5] = [
+    (Operator::Add, "add"),
+    (Operator::Subtract, "subtract"),
+    (Operator::Less, "less"),
+    (Operator::Xor, "xor"),
+    (Operator::Maximum, "maximum"),
+];
+
+#[inline(never)]
+fn work(operator: Operator, x: &[Plane], y: &[Plane], bits: &mut Plane, out: &mut [Plane]) {
+    match operator {
+        Operator::Add => add_planes(x, y, bits, out),
+        Operator::Subtract => subtract_planes(x, y, bits, out),
+        Operator::Less => less_planes(x, y, bits),
+        Operator::Xor => xor_planes(out, y),
+        Operator::Maximum => maximum_planes(x, y, bits, out),
+    }
+}
+
+// ---- results in new planes ----
+
+fn zero_planes(width: usize, words: usize) -> Vec<Plane> {
+    (0..width).map(|_| vec![0; words]).collect()
+}
+
+/// The sums, with where they carry and where they overflow.
+fn add(x: &[Plane], y: &[Plane]) -> Vec<Plane> {
+    let words = x[0].len();
+    let mut sum = zero_planes(x.len(), words);
+    let mut carry = vec![0; words];
+    add_planes(x, y, &mut carry, &mut sum);
+    sum.push(carry.clone());
+    sum.push(carry);
+    sum
+}
+
+/// The differences, with where they borrow and where they overflow.
+fn subtract(x: &[Plane], y: &[Plane]) -> Vec<Plane> {
+    let mut difference = x.to_vec();
+    let mut borrow = vec![0; x[0].len()];
+    subtract_planes(x, y, &mut borrow, &mut difference);
+    difference.push(borrow.clone());
+    difference.push(borrow);
+    difference
+}
+
+fn less(x: &[Plane], y: &[Plane]) -> Vec<Plane> {
+    let mut less = vec![0; x[0].len()];
+    less_planes(x, y, &mut less);
+    vec![less]
+}
+
+fn xor(x: &[Plane], y: &[Plane]) -> Vec<Plane> {
+    let mut out = x.to_vec();
+    xor_planes(&mut out, y);
+    out
+}
+
+fn maximum(x: &[Plane], y: &[Plane]) -> Vec<Plane> {
+    let mut less = vec![0; x[0].len()];
+    let mut greatest = x.to_vec();
+    maximum_planes(x, y, &mut less, &mut greatest);
+    greatest
+}
+
+#[inline(never)]
+fn made(operator: Operator, x: &[Plane], y: &[Plane]) -> Vec<Plane> {
+    match operator {
+        Operator::Add => add(x, y),
+        Operator::Subtract => subtract(x, y),
+        Operator::Less => less(x, y),
+        Operator::Xor => xor(x, y),
+        Operator::Maximum => maximum(x, y),
+    }
+}
+
+// ---- numbers ----
+
+fn exchange_digits(rows: &mut [u64; 64], shift: usize, mask: u64) {
+    for j in (0..64).filter(|j| j / shift % 2 == 0) {
+        let moved = ((rows[j] >> shift) ^ rows[j + shift]) & mask;
+        rows[j] ^= moved << shift;
+        rows[j + shift] ^= moved;
+    }
+}
+
+fn transpose64(rows: &mut [u64; 64]) {
+    exchange_digits(rows, 32, 0x0000_0000_FFFF_FFFF);
+    exchange_digits(rows, 16, 0x0000_FFFF_0000_FFFF);
+    exchange_digits(rows, 8, 0x00FF_00FF_00FF_00FF);
+    exchange_digits(rows, 4, 0x0F0F_0F0F_0F0F_0F0F);
+    exchange_digits(rows, 2, 0x3333_3333_3333_3333);
+    exchange_digits(rows, 1, 0x5555_5555_5555_5555);
+}
+
+/// The numbers of a block of 64 processors, up to 64 bits of each.
+fn words_of(planes: &[Plane], block: usize) -> [u64; 64] {
+    let mut rows = [0; 64];
+    if planes.is_empty() {
+        return rows;
+    }
+    for (row, plane) in rows.iter_mut().zip(planes) {
+        *row = plane[block];
+    }
+    transpose64(&mut rows);
+    rows
+}
+
+fn push_block(list: &mut Vec<u128>, planes: &[Plane], block: usize) {
+    let low = words_of(planes, block);
+    let high = words_of(&planes[planes.len().min(64)..], block);
+    list.extend(low.iter().zip(&high).map(|(low, high)| u128::from(*high) << 64 | u128::from(*low)));
+}
+
+#[inline(never)]
+fn numbers(planes: &[Plane], vps: usize) -> Vec<u128> {
+    let mut list = Vec::with_capacity(vps);
+    for block in 0..vps / 64 {
+        push_block(&mut list, planes, block);
+    }
+    list
+}
+
+fn put_words(planes: &mut [Plane], numbers: &[u128], block: usize, from: usize) {
+    let mut rows = [0; 64];
+    for (row, number) in rows.iter_mut().zip(numbers) {
+        *row = (number >> from) as u64;
+    }
+    transpose64(&mut rows);
+    for (plane, row) in planes.iter_mut().skip(from).zip(rows) {
+        plane[block] = row;
+    }
+}
+
+fn put_block(planes: &mut [Plane], numbers: &[u128], block: usize) {
+    put_words(planes, numbers, block, 0);
+    if planes.len() > 64 {
+        put_words(planes, numbers, block, 64);
+    }
+}
+
+#[inline(never)]
+fn from_numbers(width: usize, numbers: &[u128]) -> Vec<Plane> {
+    let mut planes = zero_planes(width, numbers.len() / 64);
+    for (block, numbers) in numbers.chunks_exact(64).enumerate() {
+        put_block(&mut planes, numbers, block);
+    }
+    planes
+}
+
+// ---- measuring ----
+
+struct Size {
+    width: usize,
+    vps: usize,
+}
+
+impl Size {
+    fn calls(&self, words: usize) -> usize {
+        words / (self.width * (self.vps / 64))
+    }
+}
+
+/// Nanoseconds that so many calls take.
+fn round(calls: usize, work: &mut impl FnMut()) -> u128 {
+    let start = Instant::now();
+    for _ in 0..calls {
+        work();
+    }
+    start.elapsed().as_nanos()
+}
+
+/// Picoseconds a call, the least of several rounds.
+fn least(calls: usize, mut work: impl FnMut()) -> u128 {
+    let nanoseconds = (0..ROUNDS).map(|_| round(calls, &mut work)).min().unwrap_or(0);
+    nanoseconds * 1000 / calls as u128
+}
+
+fn print(name: &str, size: &Size, picoseconds: u128, checksum: u64) {
+    println!("{name} {} {} {picoseconds} {checksum}", size.width, size.vps);
+}
+
+fn measure_kernel(operator: Operator, name: &str, size: &Size) {
+    let x = random_planes(1, size.width, size.vps);
+    let y = random_planes(2, size.width, size.vps);
+    let mut out = x.clone();
+    let mut bits = vec![0; size.vps / 64];
+    let time = least(size.calls(KERNEL_WORDS), || {
+        work(operator, black_box(&x), black_box(&y), &mut bits, &mut out);
+    });
+    out.push(bits);
+    print(&format!("kernel-{name}"), size, time, checksum(&out));
+}
+
+fn measure_new(operator: Operator, name: &str, size: &Size) {
+    let x = random_planes(1, size.width, size.vps);
+    let y = random_planes(2, size.width, size.vps);
+    let mut last = Vec::new();
+    let time = least(size.calls(NEW_WORDS), || {
+        last = made(operator, black_box(&x), black_box(&y));
+    });
+    print(&format!("new-{name}"), size, time, checksum(&last));
+}
+
+fn checksum_of_numbers(list: &[u128]) -> u64 {
+    list.iter().fold(0, |sum, number| checksum_of(sum, &[*number as u64, (*number >> 64) as u64]))
+}
+
+fn measure_numbers(size: &Size) {
+    let planes = random_planes(1, size.width, size.vps);
+    let calls = size.calls(NUMBERS_WORDS);
+    let mut list = Vec::new();
+    let time = least(calls, || list = numbers(black_box(&planes), size.vps));
+    print("numbers", size, time, checksum_of_numbers(&list));
+    let mut last = Vec::new();
+    let time = least(calls, || last = from_numbers(size.width, black_box(&list)));
+    print("from-numbers", size, time, checksum(&last));
+}
+
+fn measure_all(size: &Size) {
+    for (operator, name) in OPERATORS {
+        measure_kernel(operator, name, size);
+        measure_new(operator, name, size);
+    }
+    measure_numbers(size);
+}
+
+fn main() {
+    for vps in COUNTS {
+        for width in WIDTHS {
+            measure_all(&Size { width, vps });
+        }
+    }
+}

@@ -1,0 +1,70 @@
+//! Measures what the kernels, the values and the execution of orders take. Without words it says only what it measures.
+#![tactic(auto)]
+
+mod kernels;
+mod numbers;
+mod orders;
+mod random;
+mod results;
+mod timing;
+
+use std::{env, io};
+use timing::Size;
+
+/// What is said where no words are given.
+const HELP: &str =
+    "paris_bench WORD ..: picoseconds a call, the least of several rounds, of what the words name.
+  kernels  add, subtract, compare, exclusive or and maximum of planes, in place
+  results  the same with their results in new planes
+  numbers  numbers out of planes and into planes
+  orders   the execution of u-add, and the parts of it
+Each line has a name, a width in bits, a count of processors, picoseconds and a checksum of the result.
+";
+
+/// The counts of processors that are measured.
+const COUNTS: [usize; 2] = [1024, 65536];
+
+/// The widths that are measured.
+const WIDTHS: [usize; 3] = [8, 32, 64];
+
+/// The width at which orders are measured.
+const ORDER_WIDTH: usize = 32;
+
+/// Measures what a word names, at one size.
+fn measure(rt: &HostRuntime, word: &str, size: Size) -> io::Result<()> {
+    match word {
+        "kernels" => kernels::measure(rt, size),
+        "results" => results::measure(rt, size),
+        "numbers" => numbers::measure(rt, size),
+        "orders" if size.width == ORDER_WIDTH => orders::measure(rt, size),
+        _ => Ok(()),
+    }
+}
+
+/// Measures what a word names for a count of processors, at each width.
+fn measure_widths(rt: &HostRuntime, word: &str, vps: usize) -> io::Result<()> {
+    for width in WIDTHS {
+        measure(rt, word, Size { width, vps })?;
+    }
+    Ok(())
+}
+
+/// Measures what a word names, at each size.
+fn measure_sizes(rt: &HostRuntime, word: &str) -> io::Result<()> {
+    for vps in COUNTS {
+        measure_widths(rt, word, vps)?;
+    }
+    Ok(())
+}
+
+fn main(rt: HostRuntime) -> io::Result<()> {
+    let mut count = 0;
+    for word in env::args(&rt)?.skip(1) {
+        measure_sizes(&rt, word.as_str())?;
+        count = 1;
+    }
+    if count == 0 {
+        print!(rt; "{HELP}")?;
+    }
+    Ok(())
+}
