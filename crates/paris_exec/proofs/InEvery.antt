@@ -1,8 +1,8 @@
 -- What an instruction that stores in every processor leaves.
-use Rattle.std.proofs.Common.{◌≡◌, ℕ, zero, suc, ◌+◌, ◌-◌, ◌%◌, ◌^◌, ◌<◌, ◌≤◌, ◌==◌, Bool, true, false, cond, List, [], ◌∷◌, ◌++◌, length, map, replicate, slice_index, slice_index_or, refl, sym, ap, ◌∙◌, subst, arith}
-use Rattle.std.specs.Prelude.{All, not, ◌&&◌, ◌||◌, bit_and, bit_or}
+use Rattle.std.proofs.Common.{◌≡◌, ℕ, zero, suc, ◌-◌, ◌%◌, ◌^◌, ◌<◌, ◌≤◌, ◌==◌, Bool, true, false, cond, List, [], ◌∷◌, length, map, replicate, slice_index, slice_index_or, refl, sym, ap, ◌∙◌, subst, arith}
+use Rattle.std.specs.Prelude.{not, ◌&&◌, ◌||◌, bit_and, bit_or}
 use Rattle.std.specs.Simd.Lanes.{zip2}
-use Rattle.std.proofs.Math.Nat.{mod-mod, mod-eq_of_lt}
+use Rattle.std.proofs.Math.Nat.{mod-eq_of_lt}
 use Rattle.std.proofs.lemmas.List.{length-map}
 use Rattle.std.proofs.lemmas.List.FromFn.{fill_by_all}
 use Rattle.paris_names.specs.declared.keys.FlagName.TheVariants.{Context, Test}
@@ -24,7 +24,7 @@ use Rattle.std.proofs.lemmas.List.{get_or-replicate, length-replicate}
 use lib.Pow.{pow_pos}
 use Rattle.paris_model.specs.declared.operators.UnaryOperator.TheVariants.{Move}
 use Rattle.paris_model.specs.Fits.{IsFit, is_wide, is_bad_length, has_bad_length, has_bad_operand, unconditional_bad_operand, have_field_widths}
-use Rattle.paris_model.specs.Instructions.{reads, writes, key_width, value_at, after, after_in, target_keys, source_keys, read_keys, stores_all_bits, operands, width_among}
+use Rattle.paris_model.specs.Instructions.{reads, writes, key_width, after, after_in, target_keys, source_keys, read_keys, stores_all_bits, operands, width_among}
 use Rattle.paris_model.proofs.Direct.{value_at-unread}
 use Rattle.paris_model.proofs.Widths.{key_width-is, width_first, some_width, index_below}
 use Rattle.paris_model.proofs.Worlds.{or_false_first, or_false_second, or_true_second, reads_sources, reads_targets, reads_keys}

@@ -1,11 +1,9 @@
 -- What an elementwise instruction leaves at the keys that it writes is what is put there.
-use Rattle.std.proofs.Common.{◌≡◌, ℕ, ◌+◌, ◌-◌, ◌%◌, ◌^◌, ◌<◌, ◌≤◌, ◌==◌, Bool, true, false, cond, List, [], ◌∷◌, ◌++◌, length, map, replicate, slice_index, refl, sym, ap, ◌∙◌, subst}
-use Rattle.std.specs.Prelude.{All, ◌||◌, ◌&&◌, nat_lt, nat_le}
-use Rattle.std.specs.List.{list_any}
+use Rattle.std.proofs.Common.{◌≡◌, ℕ, ◌+◌, ◌-◌, ◌^◌, ◌<◌, Bool, true, false, cond, List, [], ◌∷◌, length, map, replicate, slice_index, refl, sym, ap, ◌∙◌, subst}
+use Rattle.std.specs.Prelude.{◌||◌}
 use Rattle.std.proofs.Math.Nat.{mod-mod}
 use Rattle.std.proofs.lemmas.List.{get_or-replicate}
 use Rattle.std.proofs.lemmas.Bool.{eq-eqb}
-use Rattle.std.proofs.lemmas.List.Elements.{All-nil}
 use Rattle.paris_names.specs.declared.keys.FlagName.{FlagName}
 use Rattle.paris_names.specs.declared.keys.FlagName.TheVariants.{Context, Test, Carry, Overflow}
 use Rattle.paris_names.specs.declared.keys.Key.{Key}
@@ -21,21 +19,19 @@ use Rattle.paris_model.specs.declared.operators.Sign.{Sign}
 use Rattle.paris_model.specs.declared.actions.Operand.{Operand}
 use Rattle.paris_model.specs.declared.actions.Conditional.{Conditional}
 use Rattle.paris_model.specs.declared.actions.Conditional.TheVariants.{Binary, Unary, MoveConstant, Resize, Compare, MyCoordinate, MyAddress, SetTest, ClearTest, LoadTest, StoreTest}
-use Rattle.paris_model.specs.declared.actions.Action.{Action}
-use Rattle.paris_model.specs.declared.actions.Action.TheVariants.{OnSelected, OnAll}
-use Rattle.paris_model.specs.Store.{low, put, bit, everywhere, stored}
+use Rattle.paris_model.specs.declared.actions.Action.TheVariants.{OnSelected}
+use Rattle.paris_model.specs.Store.{low, bit, everywhere, stored}
 use Rattle.paris_model.specs.Elementwise.{binary_result, binary_flags, binary_carry, binary_overflow, unary_result, unary_flags, unary_overflow, resize_result, resize_overflow, compares}
-use Rattle.paris_model.specs.Frame.{Frame, at, low_at, field_at, flag_at, is_selected, put_selected}
-use Rattle.paris_model.specs.Conditional.{conditional_after, conditional_flags, conditional_source_flags}
-use Rattle.paris_model.specs.Instructions.{Plan, reads, writes, key_width, after, after_in, operands, target_keys, source_keys, source_fields, source_flags, field_keys, flag_keys, width_among, stores_all_bits}
-use Rattle.paris_model.proofs.Stores.{everywhere-same, everywhere-at, length-everywhere}
-use Rattle.paris_model.proofs.Widths.{key_width-is}
+use Rattle.paris_model.specs.Frame.{at, low_at, field_at, flag_at, is_selected, put_selected}
+use Rattle.paris_model.specs.Conditional.{conditional_after, conditional_source_flags}
+use Rattle.paris_model.specs.Instructions.{reads, writes, after, after_in, target_keys, source_keys, source_fields, source_flags, field_keys, flag_keys, stores_all_bits}
+use Rattle.paris_model.proofs.Stores.{everywhere-same, everywhere-at}
 use Rattle.paris_model.proofs.Worlds.{has_key-append, or_true_second, reads_sources, reads_targets}
 use Rattle.paris_field.specs.Fields.{FieldNumbers}
 use Rattle.paris_alu.specs.Alu.{bits_everywhere, operand, binary_field, carry_plane, overflow_plane, unary_field, unary_overflow_plane, resized_field, resize_overflow_plane, comparison_plane}
 use Rattle.paris_exec.proofs.Executed.{flag_width}
 use Rattle.paris_exec.proofs.Puts.{flag_bit}
-use Rattle.paris_exec.specs.Planes.{flag_value, AreRead}
+use Rattle.paris_exec.specs.Planes.{flag_value}
 use Rattle.paris_exec.specs.Tasks.{Task, field_of, fields_of, frame_at, seen_at, left_values, put_value}
 
 pub or_true_first : (a b : Bool) → a ≡ true → (a || b) ≡ true

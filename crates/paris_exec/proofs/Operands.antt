@@ -1,8 +1,8 @@
 -- The operands of an elementwise instruction are read, and are as wide as its lengths say.
-use Rattle.std.proofs.Common.{◌≡◌, ℕ, suc, ◌+◌, ◌-◌, ◌<◌, ◌≤◌, ◌^◌, ◌==◌, Bool, true, false, cond, List, [], ◌∷◌, ◌++◌, length, map, refl, sym, ap, ◌∙◌, subst, arith, Option, Some, Result, Ok, Err}
-use Rattle.std.specs.Prelude.{IfSome, IfOk, All, ◌||◌, ◌&&◌, nat_lt, nat_le}
+use Rattle.std.proofs.Common.{◌≡◌, ℕ, ◌<◌, ◌≤◌, ◌^◌, ◌==◌, Bool, true, false, cond, List, [], ◌∷◌, length, refl, sym, ap, ◌∙◌, subst, arith, Option, Some, Result, Ok, Err}
+use Rattle.std.specs.Prelude.{IfSome, IfOk, ◌||◌, ◌&&◌, nat_lt, nat_le}
 use Rattle.std.specs.List.{list_all}
-use Rattle.std.proofs.lemmas.Bool.{eq-eqb, and_parts, ltb-true, ltb-false}
+use Rattle.std.proofs.lemmas.Bool.{eq-eqb, ltb-false}
 use Rattle.std.proofs.lemmas.Bool.Decides.{nat_tests}
 use Rattle.std.proofs.lemmas.List.FromFn.{length-map-range_with_len}
 use Rattle.std.proofs.lemmas.Nat.{mod_below}
@@ -12,21 +12,19 @@ use Rattle.paris_names.specs.declared.keys.FlagName.TheVariants.{Context, Test, 
 use Rattle.paris_names.specs.declared.keys.Key.{Key}
 use Rattle.paris_names.specs.declared.keys.Key.TheVariants.{Field, Flag}
 use Rattle.paris_names.specs.Keys.{has_key, key_eq}
-use Rattle.paris_geometry.specs.Geometry.{processor_count}
 use Rattle.paris_model.specs.declared.operators.BinaryOperator.{BinaryOperator}
 use Rattle.paris_model.specs.declared.operators.UnaryOperator.{UnaryOperator}
 use Rattle.paris_model.specs.declared.operators.Comparison.{Comparison}
 use Rattle.paris_model.specs.declared.operators.Sign.{Sign}
 use Rattle.paris_model.specs.declared.actions.Operand.{Operand}
 use Rattle.paris_model.specs.declared.actions.Conditional.{Conditional}
-use Rattle.paris_model.specs.declared.actions.Conditional.TheVariants.{Binary, Unary, Resize, Compare, MoveConstant, MyCoordinate, MyAddress, LoadTest, StoreTest}
-use Rattle.paris_model.specs.declared.actions.Action.{Action}
+use Rattle.paris_model.specs.declared.actions.Conditional.TheVariants.{Binary, Unary, Resize, Compare, LoadTest, StoreTest}
 use Rattle.paris_model.specs.declared.actions.Action.TheVariants.{OnSelected}
 use Rattle.paris_model.specs.Store.{low, everywhere}
 use Rattle.paris_model.specs.Elementwise.{binary_flags, unary_flags}
 use Rattle.paris_model.specs.Conditional.{conditional_source_flags}
 use Rattle.paris_model.specs.Fits.{IsFit, is_wide, is_bad_length, has_bad_length, has_bad_axis, has_bad_operand, conditional_bad_length, conditional_bad_axis, conditional_bad_operand, have_field_widths}
-use Rattle.paris_model.specs.Instructions.{Plan, reads, key_width, operands, width_among, target_keys, source_keys, flag_keys}
+use Rattle.paris_model.specs.Instructions.{reads, key_width, operands, width_among, target_keys, flag_keys}
 use Rattle.paris_model.proofs.Stores.{length-everywhere}
 use Rattle.paris_model.proofs.Widths.{key_width-is, width_first, some_width, everywhere_below}
 use Rattle.paris_model.proofs.Worlds.{or_false_first, or_false_second, or_true_second}

@@ -1,5 +1,5 @@
 -- What is put into a key by planes is what the definitions put there.
-use Rattle.std.proofs.Common.{◌≡◌, ℕ, zero, suc, ◌<◌, ◌==◌, Bool, true, false, cond, List, [], ◌∷◌, length, map, slice_index, slice_index_or, refl, sym, ap, ◌∙◌, subst, if◌then◌else◌, arith, ◌^◌, ◌%◌, ◌-◌, ◌+◌}
+use Rattle.std.proofs.Common.{◌≡◌, ℕ, zero, suc, ◌<◌, ◌==◌, Bool, true, false, cond, List, [], ◌∷◌, length, map, slice_index, slice_index_or, refl, sym, ap, ◌∙◌, subst, if◌then◌else◌, arith, ◌^◌, ◌%◌}
 use Rattle.std.specs.Prelude.{not}
 use Rattle.std.proofs.Math.Nat.{mod-eq_of_lt}
 use Rattle.std.proofs.lemmas.List.Elements.{All-get_or}
@@ -7,10 +7,9 @@ use Rattle.std.proofs.lemmas.List.{length-map}
 use Rattle.std.proofs.lemmas.List.FromFn.{fill_by_all}
 use Rattle.paris_names.specs.declared.keys.FlagName.TheVariants.{Context}
 use Rattle.paris_names.specs.declared.keys.Key.{Key}
-use Rattle.paris_names.specs.declared.keys.Key.TheVariants.{Field, Flag}
+use Rattle.paris_names.specs.declared.keys.Key.TheVariants.{Flag}
 use Rattle.paris_geometry.specs.Geometry.{processor_count}
-use Rattle.paris_model.specs.Store.{put, low, bit, everywhere, stored}
-use Rattle.paris_model.specs.Frame.{at, is_selected}
+use Rattle.paris_model.specs.Store.{put, low, bit, stored}
 use Rattle.paris_model.proofs.Stores.{everywhere-same}
 use Rattle.paris_model.specs.Instructions.{key_width}
 use Rattle.paris_plane.specs.Bits.{zip3}
@@ -20,7 +19,7 @@ use Rattle.paris_field.specs.Numbers.{bit_in, number_at}
 use Rattle.paris_flags.specs.declared.steps.TestStep.TheVariants.{Load}
 use Rattle.paris_flags.specs.Steps.{test_bit}
 use Rattle.paris_exec.specs.Planes.{flag_value}
-use Rattle.paris_exec.specs.Tasks.{Task, field_of, frame_at, seen_at, put_value}
+use Rattle.paris_exec.specs.Tasks.{Task, field_of, seen_at, put_value}
 
 -- a flag's number is 1 where its bit is
 pub selected_bit : (mask : List Bool) (v : ℕ) → (slice_index (map bit mask) v == 1) ≡ slice_index_or mask v false
@@ -81,10 +80,10 @@ put_flag_is t k old new mask wide old_is mask_is long_old long_new long_mask =
     let om : length old ≡ length mask = long_old ∙ sym long_mask in
     let after : List Bool = zip3 (test_bit Load) old new mask in
     let same : map bit after ≡ (put_value t k (flag_value new)).numbers =
-        fill_by_all _ (map bit after) (processor_count t.plan.axes) 0 (length-map after bit ∙ length-zip3 (test_bit Load) old new mask on om ∙ long_old) (λ v below.
-        put_flag_at old new mask v on om (subst (λ n. v < n) (sym long_old) below)
-        ∙ ap (λ ms. if slice_index ms v == 1 then put (slice_index (map bit old) v) (slice_index (map bit new) v) 1 else slice_index (map bit old) v) mask_is
-        ∙ ap (λ os. if slice_index (seen_at t (Flag t.plan.set_no Context)) v == 1 then put (slice_index os v) (slice_index (map bit new) v) 1 else slice_index os v) old_is) in
+    fill_by_all _ (map bit after) (processor_count t.plan.axes) 0 (length-map after bit ∙ length-zip3 (test_bit Load) old new mask on om ∙ long_old) (λ v below.
+    put_flag_at old new mask v on om (subst (λ n. v < n) (sym long_old) below)
+    ∙ ap (λ ms. if slice_index ms v == 1 then put (slice_index (map bit old) v) (slice_index (map bit new) v) 1 else slice_index (map bit old) v) mask_is
+    ∙ ap (λ os. if slice_index (seen_at t (Flag t.plan.set_no Context)) v == 1 then put (slice_index os v) (slice_index (map bit new) v) 1 else slice_index os v) old_is) in
     (λ i. record { width = sym wide i; numbers = same i })
 
 -- a store of all bits leaves nothing of what stood there
@@ -112,12 +111,12 @@ pub kept_is : (mask others : List Bool) (x new value : FieldNumbers) (planes : L
     → value ≡ record { width = x.width; numbers = stored (length x.numbers) (λ v. slice_index_or mask v false) (slice_index x.numbers) x.width (slice_index new.numbers) }
 kept_is mask others x new value planes mask_count wide count fit_x fit_new others_is planes_are width_is numbers_are =
     let same : value.numbers ≡ stored (length x.numbers) (λ v. slice_index_or mask v false) (slice_index x.numbers) x.width (slice_index new.numbers) =
-        numbers_are
-        ∙ ap (λ n. stored n (λ v. slice_index_or others v false) (slice_index new.numbers) x.width (number_at planes)) count
-        ∙ everywhere-same (length x.numbers) _ _ (λ v below.
-        ap (λ ms. if slice_index_or ms v false then put (slice_index new.numbers v) (number_at planes v) x.width else slice_index new.numbers v) others_is
-        ∙ ap (λ b. if b then put (slice_index new.numbers v) (number_at planes v) x.width else slice_index new.numbers v) (not_at mask v (subst (λ n. v < n) (sym mask_count) below))
-        ∙ ap (λ y. if not (slice_index_or mask v false) then put (slice_index new.numbers v) y x.width else slice_index new.numbers v) (planes_are v below ∙ mod-eq_of_lt (fit_at x.width x.numbers fit_x v below))
-        ∙ kept_at (slice_index_or mask v false) (slice_index x.numbers v) (slice_index new.numbers v) x.width (fit_at x.width x.numbers fit_x v below)
-        (subst (λ w. slice_index new.numbers v < 2 ^ w) wide (fit_at new.width new.numbers fit_new v (subst (λ n. v < n) (sym count) below)))) in
+    numbers_are
+    ∙ ap (λ n. stored n (λ v. slice_index_or others v false) (slice_index new.numbers) x.width (number_at planes)) count
+    ∙ everywhere-same (length x.numbers) _ _ (λ v below.
+    ap (λ ms. if slice_index_or ms v false then put (slice_index new.numbers v) (number_at planes v) x.width else slice_index new.numbers v) others_is
+    ∙ ap (λ b. if b then put (slice_index new.numbers v) (number_at planes v) x.width else slice_index new.numbers v) (not_at mask v (subst (λ n. v < n) (sym mask_count) below))
+    ∙ ap (λ y. if not (slice_index_or mask v false) then put (slice_index new.numbers v) y x.width else slice_index new.numbers v) (planes_are v below ∙ mod-eq_of_lt (fit_at x.width x.numbers fit_x v below))
+    ∙ kept_at (slice_index_or mask v false) (slice_index x.numbers v) (slice_index new.numbers v) x.width (fit_at x.width x.numbers fit_x v below)
+    (subst (λ w. slice_index new.numbers v < 2 ^ w) wide (fit_at new.width new.numbers fit_new v (subst (λ n. v < n) (sym count) below)))) in
     (λ i. record { width = (width_is ∙ wide) i; numbers = same i })

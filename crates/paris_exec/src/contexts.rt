@@ -96,7 +96,12 @@ pub(crate) fn unconditional_values(
         }
         Unconditional::AndContext(from) => {
             let operand = order.input(&Key::Field(from.field)).mask();
-            stepped(alloc, ContextStep::And, flag_plane(order, &context), operand)
+            stepped(
+                alloc,
+                ContextStep::And,
+                flag_plane(order, &context),
+                operand,
+            )
         }
         Unconditional::OrContext(from) => {
             let operand = order.input(&Key::Field(from.field)).mask();
@@ -104,7 +109,12 @@ pub(crate) fn unconditional_values(
         }
         Unconditional::AndContextWithTest(_) => {
             let operand = flag_plane(order, &FlagName::Test);
-            stepped(alloc, ContextStep::And, flag_plane(order, &context), operand)
+            stepped(
+                alloc,
+                ContextStep::And,
+                flag_plane(order, &context),
+                operand,
+            )
         }
     }
 }

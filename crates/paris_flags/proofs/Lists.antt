@@ -1,5 +1,5 @@
 -- Lists made of the items of one list or of two, as made of those of two or of three.
-use Rattle.std.proofs.Common.{◌≡◌, ◌∙◌, List, [], ◌∷◌, Bool, true, false, length, map, replicate, refl, ap, sym, arith}
+use Rattle.std.proofs.Common.{◌≡◌, ◌∙◌, List, [], ◌∷◌, Bool, true, false, length, map, replicate, refl, ap, arith}
 use Rattle.std.specs.Prelude.{not, cond, ◌||◌}
 use Rattle.std.specs.Simd.Lanes.{zip2}
 use Rattle.std.proofs.Math.Nat.{suc_inj}

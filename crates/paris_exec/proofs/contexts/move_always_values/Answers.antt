@@ -1,7 +1,6 @@
-use Rattle.std.proofs.Common.{◌∙◌, ◌≤◌, ◌==◌, ◌++◌, ◌∷◌, [], Bool, true, false, sym, ap, subst, replicate, length, ◌<◌, List}
+use Rattle.std.proofs.Common.{◌∙◌, ◌≤◌, ◌++◌, ◌∷◌, [], true, sym, ap, subst, replicate, length, ◌<◌, List}
 use Rattle.std.proofs.lemmas.Bool.{eq-eqb}
 use Rattle.paris_names.specs.declared.keys.Key.TheVariants.{Field}
-use Rattle.paris_model.specs.Instructions.{key_width}
 use Rattle.paris_field.specs.Fields.{FieldNumbers}
 use Rattle.paris_exec.proofs.Operands.{value_wide}
 use Rattle.paris_exec.proofs.InEvery.{apart, move_source, move_target, move_to, move_from, move_whole_left, move_part_left}

@@ -1,13 +1,11 @@
-use Rattle.std.proofs.Common.{◌∙◌, ◌≡◌, refl, sym, ap, replicate, true, false, length, map, List, Bool, ◌∷◌, []}
-use Rattle.std.specs.Prelude.{not, ◌&&◌, ◌||◌}
-use Rattle.std.specs.Simd.Lanes.{zip2}
+use Rattle.std.proofs.Common.{◌∙◌, refl, sym, ap, replicate, true, false, length, ◌∷◌, []}
 use Rattle.std.proofs.lemmas.List.{length-map}
 use Rattle.paris_names.specs.declared.keys.FlagName.TheVariants.{Context, Test}
 use Rattle.paris_names.specs.declared.keys.Key.TheVariants.{Field, Flag}
 use Rattle.paris_names.specs.Keys.{has_key, key_eq}
 use Rattle.paris_geometry.specs.Geometry.{processor_count}
 use Rattle.paris_model.specs.declared.actions.Action.TheVariants.{OnAll}
-use Rattle.paris_model.specs.declared.actions.Unconditional.TheVariants.{SetContext, ClearContext, InvertContext, LoadContext, AndContext, OrContext, AndContextWithTest, StoreContext}
+use Rattle.paris_model.specs.declared.actions.Unconditional.TheVariants.{InvertContext, LoadContext, AndContext, OrContext, AndContextWithTest, StoreContext}
 use Rattle.paris_model.specs.Store.{bit}
 use Rattle.paris_model.specs.Instructions.{Plan}
 use Rattle.paris_model.proofs.Worlds.{or_true_second}

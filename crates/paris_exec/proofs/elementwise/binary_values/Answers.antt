@@ -3,7 +3,7 @@ use Rattle.paris_names.specs.declared.keys.Key.TheVariants.{Field}
 use Rattle.paris_model.specs.Instructions.{key_width}
 use Rattle.paris_field.specs.Fields.{FieldNumbers}
 use Rattle.paris_exec.proofs.Left.{sum_left, flagless_left}
-use Rattle.paris_exec.proofs.Operands.{if_some, value_wide, numbers_count, bits_count, left_read, right_read, carry_read, sum_read, field_read, flagless_read, binary_some, binary_narrow, binary_to, binary_left, binary_right}
+use Rattle.paris_exec.proofs.Operands.{if_some, value_wide, numbers_count, bits_count, left_read, right_read, carry_read, sum_read, flagless_read, binary_to, binary_left, binary_right}
 use Rattle.paris_exec.proofs.elementwise.binary_values.Goals as goal
 
 pub input-x-requires : goal.input-x-requires

@@ -1,4 +1,4 @@
-use Rattle.std.proofs.Common.{◌∙◌, ◌≡◌, refl, ap, length, replicate, []}
+use Rattle.std.proofs.Common.{◌∙◌, refl, ap, length, replicate, []}
 use Rattle.paris_geometry.specs.Geometry.{coordinate, processor_count}
 use Rattle.paris_model.specs.declared.actions.Action.TheVariants.{OnSelected}
 use Rattle.paris_model.specs.declared.actions.Conditional.TheVariants.{MoveConstant, MyCoordinate, MyAddress}

@@ -1,7 +1,6 @@
 use Rattle.std.proofs.Common.{◌∙◌, ap, refl, ℕ}
 use Rattle.paris_names.specs.declared.keys.FlagName.TheVariants.{Carry}
 use Rattle.paris_names.specs.declared.keys.Key.TheVariants.{Flag}
-use Rattle.paris_model.specs.declared.operators.BinaryOperator.{BinaryOperator}
 use Rattle.paris_model.specs.declared.operators.BinaryOperator.TheVariants.{UnsignedAddCarry}
 use Rattle.paris_alu.specs.Alu.{binary_field, carry_plane, overflow_plane}
 use Rattle.paris_exec.specs.Tasks.{seen_at}

@@ -1,4 +1,4 @@
-use Rattle.std.proofs.Common.{◌∙◌, ◌≡◌, ◌≤◌, refl, sym, ap, subst, replicate, true, false, arith, []}
+use Rattle.std.proofs.Common.{◌∙◌, ◌≡◌, ◌≤◌, refl, sym, ap, subst, replicate, true, false, []}
 use Rattle.paris_names.specs.declared.keys.FlagName.TheVariants.{Test}
 use Rattle.paris_names.specs.declared.keys.Key.TheVariants.{Field, Flag}
 use Rattle.paris_names.specs.Keys.{has_key}

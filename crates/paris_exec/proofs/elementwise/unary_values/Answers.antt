@@ -1,4 +1,4 @@
-use Rattle.std.proofs.Common.{◌≤◌, ◌∙◌, sym, subst, ap, length, []}
+use Rattle.std.proofs.Common.{◌≤◌, ◌∙◌, sym, subst, ap, length}
 use Rattle.paris_names.specs.declared.keys.Key.TheVariants.{Field}
 use Rattle.paris_model.specs.declared.operators.UnaryOperator.{UnaryOperator}
 use Rattle.paris_model.specs.Elementwise.{unary_flags}

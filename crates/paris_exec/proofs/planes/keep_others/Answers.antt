@@ -1,7 +1,6 @@
-use Rattle.std.proofs.Common.{◌≡◌, ◌∙◌, ◌<◌, ℕ, ap, subst, length, map, slice_index, slice_index_or, false}
+use Rattle.std.proofs.Common.{◌≡◌, ◌∙◌, ap, length, map, slice_index, slice_index_or, false}
 use Rattle.std.specs.Prelude.{not}
 use Rattle.paris_model.specs.Store.{low, stored}
-use Rattle.paris_field.specs.Fields.{FieldNumbers}
 use Rattle.paris_field.specs.Numbers.{number_at}
 use Rattle.paris_field.proofs.Values.{all_fit}
 use Rattle.paris_exec.proofs.Puts.{kept_is}

@@ -1,4 +1,4 @@
-use Rattle.std.proofs.Common.{◌≡◌, ◌∙◌, ◌<◌, ℕ, ap, sym, subst, refl, length, slice_index, slice_index_or, false}
+use Rattle.std.proofs.Common.{◌≡◌, ◌∙◌, ◌<◌, ap, sym, subst, refl, length, slice_index, slice_index_or, false}
 use Rattle.paris_model.specs.Store.{stored}
 use Rattle.paris_field.specs.Fields.{FieldNumbers}
 use Rattle.paris_field.specs.Numbers.{number_at}

@@ -1,10 +1,8 @@
-use Rattle.std.proofs.Common.{◌≡◌, ◌∙◌, ap, sym, length, List, Bool}
-use Rattle.std.specs.Prelude.{IfOk}
+use Rattle.std.proofs.Common.{◌∙◌, ap, List, Bool}
 use Rattle.paris_names.specs.declared.keys.Key.TheVariants.{Flag}
 use Rattle.paris_plane.specs.Bits.{zip3}
 use Rattle.paris_flags.specs.declared.steps.TestStep.TheVariants.{Load}
 use Rattle.paris_flags.specs.Steps.{test_bit}
-use Rattle.paris_field.specs.Fields.{FieldNumbers}
 use Rattle.paris_exec.specs.Planes.{flag_value}
 use Rattle.paris_exec.proofs.Executed.{flag_width}
 use Rattle.paris_exec.proofs.Operands.{ok_then}

@@ -1,4 +1,4 @@
-use Rattle.std.proofs.Common.{◌≡◌, ◌∙◌, ap, replicate, length, false, true, sym, subst, Bool, List, ◌||◌}
+use Rattle.std.proofs.Common.{◌≡◌, ◌∙◌, ap, false, true, sym, subst, Bool, List, ◌||◌}
 use Rattle.std.specs.Simd.Lanes.{zip2}
 use Rattle.paris_flags.specs.Steps.{context_bit}
 use Rattle.paris_flags.proofs.Lists.{replicate_beside, not_beside, second_of}
