@@ -63,9 +63,10 @@ fn subtract_step(x: &[u64], y: &[u64], borrow: &mut [u64], difference: &mut [u64
     let len = x.len();
     let (y, borrow, difference) = (&y[..len], &mut borrow[..len], &mut difference[..len]);
     for i in 0..len {
+        let unlike = x[i] ^ y[i];
         let borrowed = borrow[i];
-        difference[i] ^= y[i] ^ borrowed;
-        borrow[i] = borrowed ^ ((borrowed ^ y[i]) & (x[i] ^ y[i]));
+        difference[i] = unlike ^ borrowed;
+        borrow[i] = borrowed ^ ((borrowed ^ y[i]) & unlike);
     }
 }
 
@@ -97,7 +98,6 @@ fn add_planes(x: &[Plane], y: &[Plane], carry: &mut Plane, sum: &mut [Plane]) {
     }
 }
 
-/// The difference that is written over starts as `x`, or as what an earlier call left.
 fn subtract_planes(x: &[Plane], y: &[Plane], borrow: &mut Plane, difference: &mut [Plane]) {
     for k in 0..x.len() {
         subtract_step(&x[k], &y[k], borrow, &mut difference[k]);
@@ -183,8 +183,9 @@ fn add(x: &[Plane], y: &[Plane]) -> Vec<Plane> {
 
 /// The differences, with where they borrow and where they overflow.
 fn subtract(x: &[Plane], y: &[Plane]) -> Vec<Plane> {
-    let mut difference = x.to_vec();
-    let mut borrow = vec![0; x[0].len()];
+    let words = x[0].len();
+    let mut difference = zero_planes(x.len(), words);
+    let mut borrow = vec![0; words];
     subtract_planes(x, y, &mut borrow, &mut difference);
     difference.push(borrow.clone());
     difference.push(borrow);

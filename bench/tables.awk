@@ -59,7 +59,7 @@ function operations() {
     print "| Rattle / rustc | processors | 8 bits | 32 bits | 64 bits |"
     print "|---|---|---|---|---|"
     compared_rows("`u-add` in place (`add_planes`)", "kernel-add")
-    compared_rows("`u-subtract` in place (two `put_triple` a plane; one loop in rustc)", "kernel-subtract")
+    compared_rows("`u-subtract` in place (`subtract_step`)", "kernel-subtract")
     compared_rows("`s-lt` in place (`put_triple`)", "kernel-less")
     compared_rows("`logxor` in place (`xor_in`)", "kernel-xor")
     compared_rows("`u-max` in place (`put_triple`, then `merge_planes`)", "kernel-maximum")

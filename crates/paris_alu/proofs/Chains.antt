@@ -3,11 +3,10 @@ use Rattle.std.proofs.Common.{◌≡◌, ℕ, ◌+◌, ◌*◌, ◌^◌, ◌<◌
 use Rattle.std.specs.Simd.Lanes.{zip2}
 use Rattle.std.proofs.lemmas.Simd.{get_or-zip2}
 use Rattle.paris_model.specs.Store.{bit}
-use Rattle.paris_plane.specs.Bits.{differ, zip3}
+use Rattle.paris_plane.specs.Bits.{differ, zip3, borrow_bit, sum_bit}
 use Rattle.paris_field.specs.Numbers.{bit_in, number_at, plane_at}
 use Rattle.paris_field.proofs.Numbers.{one_more, double, step_of_numbers}
 use Rattle.paris_alu.specs.Alu.{bits_everywhere}
-use Rattle.paris_alu.specs.Bits.{borrow_bit, odd_bit}
 use Rattle.paris_alu.proofs.Places.{plane_is, get_or-bits_everywhere, get_triple, number_pushed}
 use Rattle.paris_alu.proofs.Steps.{borrow_of_bits, opposite_of_bits}
 use Rattle.paris_alu.proofs.Results.{low_lt}
@@ -29,11 +28,11 @@ chain_more g f f' n k xs ys x y b b' step hx hy ex ey before long at =
 -- one more bit of a difference
 pub difference_more : (n k v : ℕ) (xs ys ps ps' : List (List Bool)) (x y s b b' c : List Bool)
     → k < length xs → k < length ys → x ≡ plane_at xs k → y ≡ plane_at ys k → length x ≡ n → length y ≡ n → length b ≡ n → length ps ≡ k
-    → s ≡ zip3 odd_bit x y b → b' ≡ zip3 borrow_bit b x y → ps' ≡ ps ++ s ∷ [] → v < n
+    → s ≡ zip3 sum_bit x y b → b' ≡ zip3 borrow_bit b x y → ps' ≡ ps ++ s ∷ [] → v < n
     → number_at (take k xs) v + 2 ^ k * bit_in b v ≡ number_at ps v + number_at (take k ys) v + bit_in c v
     → number_at (take (k + 1) xs) v + 2 ^ (k + 1) * bit_in b' v ≡ number_at ps' v + number_at (take (k + 1) ys) v + bit_in c v
 difference_more n k v xs ys ps ps' x y s b b' c hx hy ex ey nx ny nb count es eb ep h before =
-    let fs : bit_in s v ≡ bit (odd_bit (get_or x v false) (get_or y v false) (get_or b v false)) = ap (λ l. bit_in l v) es ∙ ap bit (get_triple {n = n} odd_bit x y b v nx ny nb h) in
+    let fs : bit_in s v ≡ bit (sum_bit (get_or x v false) (get_or y v false) (get_or b v false)) = ap (λ l. bit_in l v) es ∙ ap bit (get_triple {n = n} sum_bit x y b v nx ny nb h) in
     let fb : bit_in b' v ≡ bit (borrow_bit (get_or b v false) (get_or x v false) (get_or y v false)) = ap (λ l. bit_in l v) eb ∙ ap bit (get_triple {n = n} borrow_bit b x y v nb nx ny h) in
     let bits : bit_in x v + 2 * bit_in b' v ≡ bit_in s v + bit_in y v + bit_in b v =
     ap (λ z. bit_in x v + 2 * z) fb ∙ borrow_of_bits (get_or x v false) (get_or y v false) (get_or b v false) ∙ ap (λ z. z + bit_in y v + bit_in b v) (sym fs) in

@@ -6,7 +6,8 @@ use Rattle.std.proofs.lemmas.Bool.Decides.{nat_tests}
 use Rattle.paris_model.specs.declared.operators.Sign.TheVariants.{Signed}
 use Rattle.paris_model.specs.Store.{bit, signed, is_outside_signed}
 use Rattle.paris_model.specs.Elementwise.{is_less}
-use Rattle.paris_alu.specs.Bits.{borrow_bit, sum_overflow_bit, difference_overflow_bit}
+use Rattle.paris_plane.specs.Bits.{borrow_bit}
+use Rattle.paris_alu.specs.Bits.{sum_overflow_bit, difference_overflow_bit}
 
 pub pow_half : (L : ℕ) → 0 < L → 2 ^ L ≡ 2 * 2 ^ (L - 1)
 pow_half L h = ap (λ k. 2 ^ k) (omega arith) ∙ pow-succ' 2 (L - 1)

@@ -2,12 +2,12 @@
 use Rattle.std.proofs.Common.{◌≡◌, ℕ, ◌+◌, ◌*◌, ◌<◌, Bool, true, false, not, ◌||◌, refl, arith, ltb, eqb, mul-one}
 use Rattle.std.proofs.lemmas.Bool.Decides.{nat_tests}
 use Rattle.paris_model.specs.Store.{bit}
-use Rattle.paris_plane.specs.Bits.{differ}
-use Rattle.paris_alu.specs.Bits.{borrow_bit, odd_bit, unlike_bit}
+use Rattle.paris_plane.specs.Bits.{differ, borrow_bit, sum_bit}
+use Rattle.paris_alu.specs.Bits.{unlike_bit}
 
 -- a difference: x with what it borrows is the difference, y and what was borrowed
-pub borrow_of_bits : (x y b : Bool) → bit x + 2 * bit (borrow_bit b x y) ≡ bit (odd_bit x y b) + bit y + bit b
-unfolding borrow_bit odd_bit
+pub borrow_of_bits : (x y b : Bool) → bit x + 2 * bit (borrow_bit b x y) ≡ bit (sum_bit x y b) + bit y + bit b
+unfolding borrow_bit sum_bit
 borrow_of_bits true true true = refl
 borrow_of_bits true true false = refl
 borrow_of_bits true false true = refl

@@ -5,20 +5,6 @@ use Rattle.paris_model.specs.declared.operators.Sign.TheVariants.{Unsigned, Sign
 use Rattle.std.specs.Int.Bits.{bit_or, bit_xor}
 use Rattle.paris_plane.specs.Bits.{differ}
 
--- whether one more bit borrows, where y is taken from x: the higher bits decide, and where they are the same, those below
-unfoldable pub borrow_bit : Bool → Bool → Bool → Bool
-borrow_bit borrow x y = cond (differ x y) y borrow
-
-abbrev pub borrow_word : ℕ → ℕ → ℕ → ℕ
-borrow_word borrow x y = bit_xor borrow (bit_and (bit_xor borrow y) (bit_xor x y))
-
--- whether an odd count of them is 1
-unfoldable pub odd_bit : Bool → Bool → Bool → Bool
-odd_bit x y z = differ (differ x y) z
-
-abbrev pub odd_word : ℕ → ℕ → ℕ → ℕ
-odd_word x y z = bit_xor (bit_xor x y) z
-
 -- whether two bits differ, or two bits before them did
 unfoldable pub unlike_bit : Bool → Bool → Bool → Bool
 unlike_bit unlike x y = unlike || differ x y

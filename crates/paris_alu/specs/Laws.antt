@@ -3,15 +3,7 @@ use Rattle.std.proofs.Common.{arith, bit_and}
 use Rattle.std.specs.Int.Bits.{bit_xor}
 use Rattle.paris_plane.specs.Bits.{ByBit3}
 use Rattle.paris_plane.specs.Laws.{and_by_bit, or_by_bit, xor_by_bit}
-use Rattle.paris_alu.specs.Bits.{borrow_bit, borrow_word, odd_bit, odd_word, unlike_bit, unlike_word, sum_overflow_bit, sum_overflow_word, difference_overflow_bit, difference_overflow_word}
-
-pub borrow_by_bit : ByBit3 borrow_word borrow_bit
-unfolding borrow_bit
-borrow_by_bit b x y i = grind (arith, xor_by_bit b (bit_and (bit_xor b y) (bit_xor x y)) i, and_by_bit (bit_xor b y) (bit_xor x y) i, xor_by_bit b y i, xor_by_bit x y i)
-
-pub odd_by_bit : ByBit3 odd_word odd_bit
-unfolding odd_bit
-odd_by_bit x y z i = grind (arith, xor_by_bit (bit_xor x y) z i, xor_by_bit x y i)
+use Rattle.paris_alu.specs.Bits.{unlike_bit, unlike_word, sum_overflow_bit, sum_overflow_word, difference_overflow_bit, difference_overflow_word}
 
 pub unlike_by_bit : ByBit3 unlike_word unlike_bit
 unfolding unlike_bit

@@ -2,49 +2,11 @@
 
 ghost use Rattle.std.specs.Prelude.{◌≡◌, ℕ, ◌<◌, length, slice_index, bit_and};
 ghost use Rattle.std.specs.Int.Bits.{bit_or, bit_xor};
-ghost use Rattle.paris_alu.specs.Bits.{borrow_bit, borrow_word, difference_overflow_bit, difference_overflow_word, odd_bit, odd_word, sum_overflow_bit, sum_overflow_word, unlike_bit, unlike_word};
-ghost use Rattle.paris_alu.specs.Laws.{borrow_by_bit, difference_overflow_by_bit, odd_by_bit, sum_overflow_by_bit, unlike_by_bit};
+ghost use Rattle.paris_alu.specs.Bits.{difference_overflow_bit, difference_overflow_word, sum_overflow_bit, sum_overflow_word, unlike_bit, unlike_word};
+ghost use Rattle.paris_alu.specs.Laws.{difference_overflow_by_bit, sum_overflow_by_bit, unlike_by_bit};
 
 use paris_plane::TripleOp;
 use std::simd::prelude::*;
-
-/// Whether x is below y, from the bits of both and whether the bits below them were so.
-pub(crate) struct Borrow;
-
-impl TripleOp for Borrow {
-    ghost op = { borrow_word };
-
-    ghost bit = { borrow_bit };
-
-    ghost by_bit = { borrow_by_bit };
-
-    fn lanes(x: u64x4, y: u64x4, z: u64x4) -> u64x4 {
-        x ^ ((x ^ z) & (y ^ z))
-    }
-
-    fn word(x: u64, y: u64, z: u64) -> u64 {
-        x ^ ((x ^ z) & (y ^ z))
-    }
-}
-
-/// 1 where an odd count of the three is.
-pub(crate) struct Odd;
-
-impl TripleOp for Odd {
-    ghost op = { odd_word };
-
-    ghost bit = { odd_bit };
-
-    ghost by_bit = { odd_by_bit };
-
-    fn lanes(x: u64x4, y: u64x4, z: u64x4) -> u64x4 {
-        x ^ y ^ z
-    }
-
-    fn word(x: u64, y: u64, z: u64) -> u64 {
-        x ^ y ^ z
-    }
-}
 
 /// 1 where the first is, and also where the others differ.
 pub(crate) struct Unlike;

@@ -7,11 +7,11 @@ ghost use Rattle.paris_model.specs.Store.{everywhere};
 ghost use Rattle.paris_field.specs.Numbers.{AllOf, number_at};
 ghost use Rattle.paris_alu.specs.Alu.{binary_field, bits_everywhere, comparison_plane, extreme_operator};
 
-use crate::kernel::Borrow;
 use crate::planes::{below, unlike};
 use paris_field::{FieldValue, copy_planes, merge_planes};
 use paris_model::{Comparison, Sign};
 use paris_plane::Plane;
+use paris_plane::kernel::Borrow;
 use std::alloc::{AllocError, Global};
 
 /// Which of two numbers is taken.

@@ -5,9 +5,10 @@ ghost use Rattle.std.specs.Simd.Lanes.{zip2};
 ghost use Rattle.paris_field.specs.Numbers.{AllOf, bit_in, number_at, plane_at};
 ghost use Rattle.paris_alu.specs.Alu.{bits_everywhere};
 
-use crate::kernel::{Borrow, Odd, Unlike};
+use crate::kernel::Unlike;
 use paris_field::{add_planes, copy_planes, zero_planes};
-use paris_plane::{Plane, WordOp};
+use paris_plane::kernel::Borrow;
+use paris_plane::{Plane, WordOp, subtract_step};
 use std::alloc::{AllocError, Global};
 
 /// The sums of the numbers of `x`, those of `y` and the carried bits. Leaves in `carry` what they carry.
@@ -47,9 +48,8 @@ pub(crate) fn difference_planes(
 {
     let mut planes = Vec::with_capacity(alloc, x.len())?;
     for k in 0..x.len() {
-        let mut plane = x[k].copy()?;
-        plane.put_triple::<Odd>(&y[k], borrow);
-        borrow.put_triple::<Borrow>(&x[k], &y[k]);
+        let mut plane = Plane::zeros(alloc, borrow.len())?;
+        subtract_step(&x[k], &y[k], borrow, &mut plane);
         planes.push(plane)?;
     }
     Ok(planes)

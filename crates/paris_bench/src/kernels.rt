@@ -2,17 +2,15 @@
 
 ghost use Rattle.std.specs.Prelude.{◌≡◌, ◌<◌, ◌≤◌, length};
 ghost use Rattle.paris_field.specs.Numbers.{AllOf};
-ghost use Rattle.paris_alu.specs.Bits.{borrow_bit, borrow_word, odd_bit, odd_word};
-ghost use Rattle.paris_alu.specs.Laws.{borrow_by_bit, odd_by_bit};
 
 use crate::random::{checksum_of, checksum_with_plane, random_value};
 use crate::timing::{self, Size, Work};
 use paris_field::{FieldValue, add_planes, copy_planes, merge_planes};
-use paris_plane::{Plane, TripleOp};
+use paris_plane::kernel::Borrow;
+use paris_plane::{Plane, subtract_step};
 use std::alloc::{AllocError, Global};
 use std::io;
 use std::marker::Model;
-use std::simd::prelude::*;
 
 /// About how many words of planes a round works on.
 const WORDS: usize = 16_000_000;
@@ -32,46 +30,7 @@ pub enum Operator {
     Maximum,
 }
 
-/// Whether x is below y, from the bits of both and whether the bits below them were so: the operation of `paris_alu`, which
-/// keeps its own to itself.
-struct Borrow;
-
-impl TripleOp for Borrow {
-    ghost op = { borrow_word };
-
-    ghost bit = { borrow_bit };
-
-    ghost by_bit = { borrow_by_bit };
-
-    fn lanes(x: u64x4, y: u64x4, z: u64x4) -> u64x4 {
-        x ^ ((x ^ z) & (y ^ z))
-    }
-
-    fn word(x: u64, y: u64, z: u64) -> u64 {
-        x ^ ((x ^ z) & (y ^ z))
-    }
-}
-
-/// 1 where an odd count of the three is: the operation of `paris_alu`, too.
-struct Odd;
-
-impl TripleOp for Odd {
-    ghost op = { odd_word };
-
-    ghost bit = { odd_bit };
-
-    ghost by_bit = { odd_by_bit };
-
-    fn lanes(x: u64x4, y: u64x4, z: u64x4) -> u64x4 {
-        x ^ y ^ z
-    }
-
-    fn word(x: u64, y: u64, z: u64) -> u64 {
-        x ^ y ^ z
-    }
-}
-
-/// Puts the differences of `x`, `y` and the borrowed bits into `difference`, which starts as `x`.
+/// Puts the differences of `x`, `y` and the borrowed bits into `difference`.
 fn subtract_planes(x: &[Plane], y: &[Plane], borrow: &mut Plane, difference: &mut [Plane])
     requires xy { length x.now ≡ length y.now }
     requires xd { length x.now ≡ length difference.old }
@@ -82,8 +41,7 @@ fn subtract_planes(x: &[Plane], y: &[Plane], borrow: &mut Plane, difference: &mu
     ensures planes { AllOf (length borrow.old) difference.new }
 {
     for k in 0..x.len() {
-        difference[k].put_triple::<Odd>(&y[k], borrow);
-        borrow.put_triple::<Borrow>(&x[k], &y[k]);
+        subtract_step(&x[k], &y[k], borrow, &mut difference[k]);
     }
 }
 

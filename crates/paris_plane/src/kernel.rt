@@ -3,8 +3,8 @@
 ghost use Rattle.std.specs.Prelude.{◌≡◌, ◌↔◌, ◌≤◌, IsTrue, ℕ, ◌<◌, ◌^◌, ◌-◌, Bool, cond, ◌&&◌, ◌||◌, length, slice_index, bit_and};
 ghost use Rattle.std.specs.Int.Bits.{bit_or, bit_xor};
 ghost use Rattle.std.specs.Simd.Lanes.{zip2};
-ghost use Rattle.paris_plane.specs.Bits.{word_bit, ByBit, ByBit3, differ, sum_word, carry_word};
-ghost use Rattle.paris_plane.specs.Laws.{and_by_bit, or_by_bit, xor_by_bit, select_by_bit};
+ghost use Rattle.paris_plane.specs.Bits.{word_bit, ByBit, ByBit3, borrow_bit, borrow_word, carry_word, differ, sum_word};
+ghost use Rattle.paris_plane.specs.Laws.{and_by_bit, borrow_by_bit, or_by_bit, xor_by_bit, select_by_bit};
 
 use std::simd::prelude::*;
 
@@ -141,6 +141,25 @@ impl TripleOp for Select {
     }
 }
 
+/// Whether x is below y, from the bits of both and whether the bits below them were so, which comes first.
+pub struct Borrow;
+
+impl TripleOp for Borrow {
+    ghost op = { borrow_word };
+
+    ghost bit = { borrow_bit };
+
+    ghost by_bit = { borrow_by_bit };
+
+    fn lanes(x: u64x4, y: u64x4, z: u64x4) -> u64x4 {
+        x ^ ((x ^ z) & (y ^ z))
+    }
+
+    fn word(x: u64, y: u64, z: u64) -> u64 {
+        x ^ ((x ^ z) & (y ^ z))
+    }
+}
+
 /// Puts what the operation makes of each three words into `xs`.
 pub fn put_triples<O: TripleOp>(xs: &mut [u64], ys: &[u64], zs: &[u64])
     requires xy { length xs.old ≡ length ys.now }
@@ -186,6 +205,35 @@ pub fn add_words(xs: &[u64], ys: &[u64], carry: &mut [u64], sum: &mut [u64])
         let t = x ^ y;
         sum[i] = t ^ c;
         carry[i] = (x & y) | (t & c);
+    }
+}
+
+/// One step of a subtraction of numbers whose bits lie in planes: what is left of `xs` without `ys` and `borrow` into
+/// `difference`, which is written over, and what they borrow into `borrow`.
+pub fn subtract_words(xs: &[u64], ys: &[u64], borrow: &mut [u64], difference: &mut [u64])
+    requires xy { length xs.now ≡ length ys.now }
+    requires xc { length xs.now ≡ length borrow.old }
+    requires xd { length xs.now ≡ length difference.old }
+    ensures differences { (i : ℕ) → i < length xs.now → slice_index difference.new i ≡ sum_word (slice_index xs.now i) (slice_index ys.now i) (slice_index borrow.old i) }
+    ensures borrows { (i : ℕ) → i < length xs.now → slice_index borrow.new i ≡ borrow_word (slice_index borrow.old i) (slice_index xs.now i) (slice_index ys.now i) }
+{
+    let whole = xs.len() / 4;
+    for k in 0..whole {
+        let at = 4 * k;
+        let x = u64x4::from_slice(&xs[at..]);
+        let y = u64x4::from_slice(&ys[at..]);
+        let b = u64x4::from_slice(&borrow[at..]);
+        let t = x ^ y;
+        (t ^ b).copy_to_slice(&mut difference[at..]);
+        (b ^ ((b ^ y) & t)).copy_to_slice(&mut borrow[at..]);
+    }
+    for i in 4 * whole..xs.len() {
+        let x = xs[i];
+        let y = ys[i];
+        let b = borrow[i];
+        let t = x ^ y;
+        difference[i] = t ^ b;
+        borrow[i] = b ^ ((b ^ y) & t);
     }
 }
 

@@ -7,4 +7,4 @@ mod plane;
 mod tests;
 
 pub use kernel::{TripleOp, WordOp};
-pub use plane::{Plane, add_step};
+pub use plane::{Plane, add_step, subtract_step};

@@ -2,11 +2,11 @@
 
 ghost use Rattle.std.specs.Prelude.{◌≡◌, ◌≢◌, ◌↔◌, ℕ, ◌+◌, ◌*◌, ◌/◌, IfOk, IsTrue, cond, length, map, not, ◌<◌, replicate, slice_index, slice_index_or, slice_set, true, false, ◌&&◌, ◌||◌};
 ghost use Rattle.std.specs.Simd.Lanes.{zip2};
-ghost use Rattle.paris_plane.specs.Bits.{carry_bit, differ, sum_bit, word_bit, words_for, zip3};
+ghost use Rattle.paris_plane.specs.Bits.{borrow_bit, carry_bit, differ, sum_bit, word_bit, words_for, zip3};
 
 use crate::kernel::{
     And, Or, Select, TripleOp, WordOp, Xor, add_words, invert_words, put_triples, put_words,
-    same_words,
+    same_words, subtract_words,
 };
 use std::alloc::{AllocError, Global};
 use std::marker::Model;
@@ -220,4 +220,16 @@ pub fn add_step(x: &Plane, y: &Plane, carry: &mut Plane, sum: &mut Plane)
     ensures carries { carry.new ≡ zip3 carry_bit x.now y.now carry.old }
 {
     add_words(&x.words, &y.words, &mut carry.words, &mut sum.words);
+}
+
+/// Takes two bits from a third in each place, as one step of a subtraction of numbers whose bits lie in planes: what is
+/// left of `x` without `y` and `borrow` goes into `difference`, which is written over, and what they borrow into `borrow`.
+pub fn subtract_step(x: &Plane, y: &Plane, borrow: &mut Plane, difference: &mut Plane)
+    requires second { length x.now ≡ length y.now }
+    requires borrows { length x.now ≡ length borrow.old }
+    requires differences { length x.now ≡ length difference.old }
+    ensures differences { difference.new ≡ zip3 sum_bit x.now y.now borrow.old }
+    ensures borrows { borrow.new ≡ zip3 borrow_bit borrow.old x.now y.now }
+{
+    subtract_words(&x.words, &y.words, &mut borrow.words, &mut difference.words);
 }

@@ -9,7 +9,7 @@ use paris_field::FieldValue;
 use paris_model::{Action, BinaryOperator, Operand, UnaryOperator};
 use paris_names::{FlagName, SetNo};
 use paris_plane::kernel::{And, Or, Select, Xor};
-use paris_plane::{Plane, add_step};
+use paris_plane::{Plane, add_step, subtract_step};
 use std::alloc::{AllocError, Global};
 use std::process::Abort;
 use std::test::Fail;
@@ -70,6 +70,7 @@ enum Call {
     SelectIn,
     PutSelect,
     AddStep,
+    SubtractStep,
     Zeros,
     Ones,
     Clear,
@@ -157,6 +158,35 @@ fn adds(rt: &impl Abort, alloc: Global, sample: &Sample) -> Result<(), Fail> {
         rt,
         alloc,
         &(Call::AddStep, sample.count),
+        &seen,
+        &action,
+        made.as_slice(),
+    )
+}
+
+/// A step of a subtraction from which nothing was borrowed is a difference of one bit.
+fn subtracts(rt: &impl Abort, alloc: Global, sample: &Sample) -> Result<(), Fail> {
+    let seen = seen_by_all(rt, alloc, sample)?;
+    let action = beside::binary(BinaryOperator::UnsignedSubtract, 1);
+    let x = plane(alloc, sample.left.as_slice())?;
+    let y = plane(alloc, sample.right.as_slice())?;
+    let mut borrow = Plane::zeros(alloc, x.len())?;
+    let mut difference = plane(alloc, sample.old.as_slice())?;
+    subtract_step(&x, &y, &mut borrow, &mut difference);
+    let made = alone(
+        alloc,
+        destination(),
+        FieldValue::from_plane(alloc, difference)?,
+    )?;
+    let made = with(
+        made,
+        flag(FlagName::Carry),
+        FieldValue::from_plane(alloc, borrow)?,
+    )?;
+    agrees(
+        rt,
+        alloc,
+        &(Call::SubtractStep, sample.count),
         &seen,
         &action,
         made.as_slice(),
@@ -300,6 +330,7 @@ pub(crate) fn run(rt: &impl Abort, alloc: Global, sample: &Sample) -> Result<(),
     operates(rt, alloc, sample)?;
     selects(rt, alloc, sample)?;
     adds(rt, alloc, sample)?;
+    subtracts(rt, alloc, sample)?;
     fills(rt, alloc, sample)?;
     reads_back(rt, alloc, sample)?;
     tells_bits(rt, alloc, sample)?;

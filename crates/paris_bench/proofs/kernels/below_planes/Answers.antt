@@ -1,5 +1,5 @@
 use Rattle.std.proofs.Common.{◌≡◌, ◌∙◌, ap, arith, length, sym}
-use Rattle.paris_alu.specs.Bits.{borrow_bit}
+use Rattle.paris_plane.specs.Bits.{borrow_bit}
 use Rattle.paris_alu.proofs.Places.{length_triple, read_long}
 use Rattle.paris_bench.proofs.kernels.below_planes.Goals as goal
 
