@@ -1,5 +1,5 @@
 -- Operations on three bits, and the same on words.
-use Rattle.std.specs.Prelude.{ℕ, Bool, ◌&&◌, ◌||◌, cond, bit_and}
+use Rattle.std.specs.Prelude.{ℕ, Bool, ◌&&◌, ◌||◌, bit_and}
 use Rattle.paris_model.specs.declared.operators.Sign.{Sign}
 use Rattle.paris_model.specs.declared.operators.Sign.TheVariants.{Unsigned, Signed}
 use Rattle.std.specs.Int.Bits.{bit_or, bit_xor}

@@ -1,5 +1,5 @@
 -- What the operations on words do to each bit.
-use Rattle.std.proofs.Common.{arith, bit_and}
+use Rattle.std.proofs.Common.{arith}
 use Rattle.std.specs.Int.Bits.{bit_xor}
 use Rattle.paris_plane.specs.Bits.{ByBit3}
 use Rattle.paris_plane.specs.Laws.{and_by_bit, or_by_bit, xor_by_bit}

@@ -1,13 +1,10 @@
 -- A word of a number's bits, and the numbers of a block of processors.
-use Rattle.std.proofs.Common.{◌≡◌, ℕ, zero, suc, ◌+◌, ◌-◌, ◌*◌, ◌/◌, ◌%◌, ◌^◌, ◌<◌, ◌≤◌, List, [], ◌∷◌, Bool, true, false, length, get_or, take, drop, min, arith, ap, ◌∙◌, sym, eqb, refl, subst, inl, inr}
-use Rattle.std.specs.Int.{bit_at}
-use Rattle.std.proofs.Math.Nat.{div-div-eq-div-mul, div-eq_of_lt, pow-succ'}
+use Rattle.std.proofs.Common.{◌≡◌, ℕ, zero, suc, ◌+◌, ◌*◌, ◌/◌, ◌%◌, ◌^◌, ◌<◌, ◌≤◌, List, [], ◌∷◌, Bool, true, false, length, get_or, take, drop, min, arith, ap, ◌∙◌, sym, eqb, refl, inl, inr}
+use Rattle.std.proofs.Math.Nat.{div-eq_of_lt}
 use Rattle.std.proofs.Math.Pow.{pow_mono}
 use Rattle.std.proofs.lemmas.Bool.{cases_lt}
-use Rattle.std.proofs.lemmas.Bool.Decides.{nat_tests}
 use Rattle.std.proofs.lemmas.List.{get_or-take, length-take, take_all, drop_all, length-drop}
 use Rattle.std.proofs.lemmas.Nat.{mod-pow-add}
-use Rattle.std.proofs.lemmas.Nat.Bits.{bit_at-lt}
 use Rattle.paris_model.specs.Store.{bit}
 use Rattle.paris_plane.specs.Bits.{word_bit}
 use Rattle.paris_plane.specs.Equal.{words_equal}

@@ -1,8 +1,7 @@
 -- From each place to whole lists of numbers.
-use Rattle.std.proofs.Common.{◌≡◌, ◌≤◌, ℕ, ◌+◌, ◌<◌, ◌*◌, ◌%◌, ◌^◌, List, [], ◌∷◌, ◌++◌, Bool, length, get_or, arith, ◌∙◌, sym, ap, false, true, refl, subst, cond, drop, take, ◌-◌}
+use Rattle.std.proofs.Common.{◌≡◌, ◌≤◌, ℕ, ◌+◌, ◌<◌, ◌*◌, ◌^◌, List, [], ◌∷◌, ◌++◌, Bool, length, get_or, arith, ◌∙◌, sym, ap, false, true, subst, cond, drop, take}
 use Rattle.std.proofs.lemmas.List.FromFn.{length-map-range_with_len, get_or-map-range_with_len, map-range_with_len_more, fill_by_all}
 use Rattle.paris_model.specs.Store.{put, stored}
-use Rattle.paris_field.specs.Fields.{FieldNumbers}
 use Rattle.paris_field.specs.Numbers.{number_at, numbers}
 use Rattle.paris_field.proofs.Numbers.{number_at_lt, number_at_put, number_at_split}
 

@@ -1,16 +1,16 @@
 -- What the planes of a value say of its width and of its numbers.
-use Rattle.std.proofs.Common.{◌≡◌, ◌≤◌, ℕ, zero, suc, ◌+◌, ◌*◌, ◌<◌, ◌/◌, ◌%◌, ◌^◌, ◌-◌, ◌==◌, ◌&&◌, List, [], ◌∷◌, ◌++◌, Bool, false, length, get_or, take, drop, map, replicate, arith, ◌∙◌, sym, ap, refl, subst, set, All, inl, inr, IsTrue}
+use Rattle.std.proofs.Common.{◌≡◌, ◌≤◌, ℕ, zero, suc, ◌+◌, ◌<◌, ◌^◌, ◌-◌, List, [], ◌∷◌, ◌++◌, Bool, false, length, get_or, take, drop, map, replicate, arith, ◌∙◌, sym, ap, refl, subst, inl, inr}
 use Rattle.std.proofs.lemmas.Bool.{cases_lt}
 use Rattle.std.proofs.Math.ListN.{get_or-append}
 use Rattle.std.specs.Bool.{Decides}
 use Rattle.std.proofs.lemmas.Bool.Decides.{Decides-and, Decides-eqb, Decides-like, same_from_decides}
 use Rattle.std.proofs.lemmas.Slice.Eq.{slice_eq-Decides}
 use Rattle.std.proofs.lemmas.List.{get_or-take, length-take-le, length-map, get_or-map, get_or-replicate, length-replicate, length-append, length-drop, get_or-append_right, get_or-drop}
-use Rattle.std.proofs.lemmas.List.Elements.{All-get_or, All-from_get_or}
-use Rattle.paris_model.specs.Store.{bit, low}
+use Rattle.std.proofs.lemmas.List.Elements.{All-from_get_or}
+use Rattle.paris_model.specs.Store.{bit}
 use Rattle.paris_field.specs.Fields.{FieldNumbers, AllFit, field_eq, overwritten}
 use Rattle.paris_field.specs.Numbers.{AllOf, bit_in, field_of, number_at, numbers, plane_at}
-use Rattle.paris_field.proofs.Numbers.{bit_of_number, number_at_low, number_at_lt, zero_number, same_numbers}
+use Rattle.paris_field.proofs.Numbers.{number_at_lt, same_numbers}
 use Rattle.paris_field.proofs.Lists.{count_of, number_of, numbers_are}
 
 -- a value by its two parts

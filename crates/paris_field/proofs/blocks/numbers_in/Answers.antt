@@ -1,4 +1,4 @@
-use Rattle.std.proofs.Common.{◌≡◌, ◌∙◌, ap, arith, List, ℕ, [], min, refl}
+use Rattle.std.proofs.Common.{◌≡◌, ◌∙◌, ap, arith, [], min, refl}
 use Rattle.paris_field.specs.Numbers.{numbers}
 use Rattle.paris_field.proofs.blocks.numbers_in.Goals as goal
 

@@ -1,4 +1,4 @@
-use Rattle.std.proofs.Common.{◌≡◌, ℕ, ◌+◌, ◌*◌, ◌<◌, ◌^◌, ◌∙◌, ap, sym, arith, List, [], ◌∷◌, ◌++◌, get_or, take, drop, false}
+use Rattle.std.proofs.Common.{◌≡◌, ℕ, ◌+◌, ◌*◌, ◌<◌, ◌^◌, ◌∙◌, ap, sym, arith, [], ◌∷◌, ◌++◌, get_or, take, drop, false}
 use Rattle.std.proofs.lemmas.List.{take_rest}
 use Rattle.paris_field.specs.Numbers.{number_at, numbers, plane_at}
 use Rattle.paris_field.proofs.Lists.{numbers_more}

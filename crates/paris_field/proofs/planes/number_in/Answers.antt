@@ -2,7 +2,7 @@ use Rattle.std.proofs.Common.{◌≡◌, ℕ, ◌+◌, ◌-◌, ◌<◌, ◌∙�
 use Rattle.std.proofs.lemmas.List.{get_or_read}
 use Rattle.paris_model.specs.Store.{bit}
 use Rattle.paris_field.specs.Numbers.{bit_in, number_at, plane_at}
-use Rattle.paris_field.proofs.Numbers.{none_above, room_above, number_at_from, below_two}
+use Rattle.paris_field.proofs.Numbers.{none_above, room_above, number_at_from}
 use Rattle.paris_field.proofs.planes.number_in.Goals as goal
 use Rattle.paris_field.proofs.planes.number_in.Goals.{then-get, else-get}
 

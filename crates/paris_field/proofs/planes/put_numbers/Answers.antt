@@ -1,4 +1,4 @@
-use Rattle.std.proofs.Common.{◌+◌, ◌%◌, ◌^◌, ◌≢◌, ◌∙◌, ap, arith, below_more, get_or, length}
+use Rattle.std.proofs.Common.{◌+◌, ◌%◌, ◌^◌, ◌≢◌, ◌∙◌, ap, arith, below_more, get_or}
 use Rattle.paris_field.proofs.planes.put_numbers.Goals as goal
 
 pub loop-i-preserved : goal.loop-i-preserved

@@ -1,4 +1,4 @@
-use Rattle.std.proofs.Common.{◌≡◌, ℕ, ◌+◌, List, arith, length, refl, subst, sym, ap}
+use Rattle.std.proofs.Common.{◌≡◌, ℕ, ◌+◌, arith, length, refl, subst, sym, ap}
 use Rattle.std.proofs.lemmas.List.{length-set}
 use Rattle.std.proofs.Common.{set}
 use Rattle.paris_field.proofs.Turn.{Halfway, halfway_passes, halfway_exchanges}

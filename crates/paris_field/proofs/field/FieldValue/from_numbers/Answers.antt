@@ -1,9 +1,9 @@
-use Rattle.std.proofs.Common.{◌≡◌, ◌<◌, ℕ, ◌+◌, ◌^◌, ◌%◌, ◌∙◌, sym, ap, arith, length, replicate, false, get_or, refl}
+use Rattle.std.proofs.Common.{◌≡◌, ◌<◌, ℕ, ◌^◌, ◌%◌, ◌∙◌, ap, arith, length, replicate, false, get_or, refl}
 use Rattle.std.proofs.Math.Nat.{mod-eq_of_lt}
 use Rattle.std.proofs.lemmas.Simd.{length-replicate}
 use Rattle.std.proofs.lemmas.List.Elements.{All-get_or}
 use Rattle.paris_plane.proofs.Bits.{written}
-use Rattle.paris_field.specs.Numbers.{field_of, number_at}
+use Rattle.paris_field.specs.Numbers.{field_of}
 use Rattle.paris_field.proofs.Values.{value_is}
 use Rattle.paris_field.proofs.field.FieldValue.from_numbers.Goals as goal
 
