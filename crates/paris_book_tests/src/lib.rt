@@ -1,4 +1,4 @@
-//! Tests of the book, and of every instruction through it. It has no code of its own.
+//! Tests of the book, and of every instruction through it: tables, and what must come of each. It has no code of its own.
 #![tactic(auto)]
 
 #[cfg(test)]
@@ -13,3 +13,5 @@ mod settling;
 mod sizes;
 #[cfg(test)]
 mod spellings;
+#[cfg(test)]
+mod steps;

@@ -1,20 +1,34 @@
 //! Programs of a few instructions in a book of the set `s`, run to their end.
 
 use crate::spellings::*;
-use paris_book::{Book, Edit, EditReply, Look};
-use paris_instr::Instr;
-use paris_model::Refusal;
-use paris_names::{FlagName, Items, KeyName, RowId, Spot};
+use paris_book::{Book, Edit, EditReply, Look, RowFault};
+use paris_names::{Items, RowId, Spot};
 use std::alloc::{AllocError, Global};
 use std::process::Abort;
+use std::test::*;
 
 /// A field of `s`: its name, its width, and its numbers at the start.
 pub(crate) type Given<'a> = (&'a [u8], u64, &'a [u128]);
 
-/// A key, and the numbers that it has at the end of the program.
-pub(crate) type Wanted<'a> = (KeyName, &'a [u128]);
+/// A key and its numbers.
+pub(crate) type Numbers<'a> = (&'a [u8], &'a [u128]);
 
-fn accept(rt: &impl Abort, book: &mut Book, edit: Edit) {
+/// A worked row, as a table has it.
+pub(crate) struct Row {
+    /// The lengths of the axes of `s`.
+    pub(crate) axes: &'static [u64],
+    pub(crate) fields: &'static [Given<'static>],
+    /// Flags of `s` with their numbers at the start.
+    pub(crate) flags: &'static [Numbers<'static>],
+    pub(crate) program: &'static [Text],
+    /// What keys hold at the end of the program.
+    pub(crate) wanted: &'static [Numbers<'static>],
+    /// The instructions that are refused when they run.
+    pub(crate) refused: &'static [RowFault],
+}
+
+/// Makes an edit that is accepted.
+pub(crate) fn accept(rt: &impl Abort, book: &mut Book, edit: Edit) {
     assert_eq!(rt; book.edit(edit), Ok(EditReply::Accepted));
 }
 
@@ -34,11 +48,11 @@ fn give(
     rt: &impl Abort,
     alloc: Global,
     book: &mut Book,
-    key: KeyName,
+    text: &[u8],
     numbers: &[u128],
 ) -> Result<(), AllocError> {
     let values = Items::new(Vec::from_slice(alloc, numbers)?);
-    accept(rt, book, Edit::Input(key, 0, values));
+    accept(rt, book, Edit::Input(key(rt, text), 0, values));
     Ok(())
 }
 
@@ -52,7 +66,7 @@ pub(crate) fn add_field(
     let (text, width, numbers) = field;
     let set = name(rt, b"s");
     accept(rt, book, Edit::AddField(name(rt, *text), set, *width));
-    give(rt, alloc, book, field_key(rt, *text), *numbers)
+    give(rt, alloc, book, *text, *numbers)
 }
 
 fn add_fields(
@@ -71,21 +85,33 @@ fn give_flags(
     rt: &impl Abort,
     alloc: Global,
     book: &mut Book,
-    flags: &[(FlagName, &[u128])],
+    flags: &[Numbers<'_>],
 ) -> Result<(), AllocError> {
     for (flag, numbers) in flags {
-        give(rt, alloc, book, flag_key(rt, *flag), *numbers)?;
+        give(rt, alloc, book, *flag, *numbers)?;
     }
     Ok(())
 }
 
+/// Declares the set `s` with these axes and fields.
+pub(crate) fn prepare(
+    rt: &impl Abort,
+    alloc: Global,
+    book: &mut Book,
+    axes: &[u64],
+    fields: &[Given<'_>],
+) -> Result<(), AllocError> {
+    add_set(rt, alloc, book, axes)?;
+    add_fields(rt, alloc, book, fields)
+}
+
 /// Puts instructions into a program of no rows, and answers how many they are.
-pub(crate) fn append(rt: &impl Abort, book: &mut Book, program: &[Instr]) -> u64 {
+pub(crate) fn append(rt: &impl Abort, book: &mut Book, program: &[&[u8]]) -> u64 {
     let mut count: u64 = 0;
-    for instr in program {
+    for text in program {
         count = count.wrapping_add(1);
         assert_eq!(rt;
-            book.edit(Edit::Insert(Spot::End, *instr)),
+            book.edit(Edit::Insert(Spot::End, instr_of(rt, *text))),
             Ok(EditReply::Row(RowId(count)))
         );
     }
@@ -93,69 +119,60 @@ pub(crate) fn append(rt: &impl Abort, book: &mut Book, program: &[Instr]) -> u64
 }
 
 /// Puts instructions into a program of no rows, and settles it.
-pub(crate) fn run(rt: &impl Abort, book: &mut Book, program: &[Instr]) {
+pub(crate) fn run(rt: &impl Abort, book: &mut Book, program: &[&[u8]]) {
     let count = append(rt, book, program);
     assert!(rt; book.settle() == Ok(count));
     assert_eq!(rt; book.unsettled_count(), 0);
 }
 
 /// A key has these numbers at the end of the program.
-pub(crate) fn shows(rt: &impl Abort, book: &Book, wanted: &Wanted<'_>) -> Result<(), AllocError> {
-    match book.show(wanted.0, Spot::End) {
-        Ok(Look::Settled(value)) => assert_eq!(rt; value.numbers()?.as_slice(), wanted.1),
+pub(crate) fn shows(
+    rt: &impl Abort,
+    book: &Book,
+    text: &[u8],
+    wanted: &[u128],
+) -> Result<(), AllocError> {
+    match book.show(key(rt, text), Spot::End) {
+        Ok(Look::Settled(value)) => assert_eq!(rt; value.numbers()?.as_slice(), wanted),
         _ => assert!(rt; false),
     }
     Ok(())
 }
 
-fn shows_all(rt: &impl Abort, book: &Book, wanted: &[Wanted<'_>]) -> Result<(), AllocError> {
-    for one in wanted {
-        shows(rt, book, one)?;
+fn shows_all(rt: &impl Abort, book: &Book, wanted: &[Numbers<'_>]) -> Result<(), AllocError> {
+    assert!(rt; !wanted.is_empty());
+    for (text, numbers) in wanted {
+        shows(rt, book, *text, *numbers)?;
     }
     Ok(())
 }
 
-/// The settled rows that were refused, and why.
-fn refused(rt: &impl Abort, book: &Book, wanted: &[(u64, Refusal)]) -> Result<(), AllocError> {
+/// Just these settled rows are refused.
+pub(crate) fn refuses(rt: &impl Abort, book: &Book, wanted: &[RowFault]) -> Result<(), AllocError> {
     let faults = book.faults()?;
-    assert_eq!(rt; faults.as_slice().len(), wanted.len());
-    for (fault, (row, cause)) in faults.as_slice().iter().zip(wanted) {
-        assert!(rt; fault.id == RowId(*row) && fault.cause == *cause);
-    }
+    assert!(rt; faults.as_slice() == wanted);
     Ok(())
 }
 
-/// Declares a set with these axes, fields and flags in a new book, settles a program in it, and looks at its keys.
-pub(crate) fn gives(
-    rt: &impl Abort,
-    alloc: Global,
-    axes: &[u64],
-    fields: &[Given<'_>],
-    flags: &[(FlagName, &[u128])],
-    program: &[Instr],
-    wanted: &[Wanted<'_>],
-) -> Result<(), AllocError> {
-    let mut book = Book::new(alloc);
-    add_set(rt, alloc, &mut book, axes)?;
-    add_fields(rt, alloc, &mut book, fields)?;
-    give_flags(rt, alloc, &mut book, flags)?;
-    run(rt, &mut book, program);
-    shows_all(rt, &book, wanted)
+/// Settles the program of a worked row in a book, and looks at its keys.
+fn holds_in(rt: &impl Abort, alloc: Global, book: &mut Book, row: &Row) -> Result<(), AllocError> {
+    prepare(rt, alloc, book, row.axes, row.fields)?;
+    give_flags(rt, alloc, book, row.flags)?;
+    run(rt, book, row.program);
+    refuses(rt, book, row.refused)?;
+    shows_all(rt, book, row.wanted)
 }
 
-/// The same on a set of four processors that are all selected, with the rows that are refused.
-pub(crate) fn gives_refused(
-    rt: &impl Abort,
-    alloc: Global,
-    fields: &[Given<'_>],
-    program: &[Instr],
-    wanted: &[Wanted<'_>],
-    faults: &[(u64, Refusal)],
-) -> Result<(), AllocError> {
+fn holds(rt: &impl Abort, alloc: Global, row: &Row) -> Result<(), AllocError> {
     let mut book = Book::new(alloc);
-    add_set(rt, alloc, &mut book, &[4])?;
-    add_fields(rt, alloc, &mut book, fields)?;
-    run(rt, &mut book, program);
-    refused(rt, &book, faults)?;
-    shows_all(rt, &book, wanted)
+    holds_in(rt, alloc, &mut book, row)
+}
+
+/// Each of some worked rows holds in a book of its own, and there are some.
+pub(crate) fn hold(rt: &impl Abort, alloc: Global, rows: &[Row]) -> Result<(), Fail> {
+    assert!(rt; !rows.is_empty());
+    for row in rows {
+        holds(rt, alloc, row)?;
+    }
+    Ok(())
 }

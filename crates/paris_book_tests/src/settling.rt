@@ -2,11 +2,10 @@
 
 ghost use Rattle.std.specs.Prelude.{◌≤◌};
 
-use crate::programs::{add_field, add_set, append, run, shows};
+use crate::programs::{Given, append, prepare, run, shows};
 use crate::spellings::*;
 use paris_book::{Book, Look};
 use paris_exec::{Gate, OpenGate};
-use paris_instr::Instr;
 use paris_names::{Edition, RowId, Spot};
 use std::alloc::{AllocError, Global};
 use std::process::Abort;
@@ -65,53 +64,101 @@ impl<C: Clock> Gate for BothAtOnce<'_, C> {
     fn leave(&self, _id: RowId, _edition: Edition) {}
 }
 
-/// A book of a set of four processors, with the fields `a`, `b`, `c` and `d`.
-fn declared_book(rt: &impl Abort, alloc: Global) -> Result<Book, AllocError> {
-    let mut book = Book::new(alloc);
-    add_set(rt, alloc, &mut book, &[4])?;
-    add_field(rt, alloc, &mut book, &(b"a", 8, &[1, 2, 3, 4]))?;
-    add_field(rt, alloc, &mut book, &(b"b", 8, &[10, 20, 30, 0]))?;
-    add_field(rt, alloc, &mut book, &(b"c", 8, &[0, 0, 0, 0]))?;
-    add_field(rt, alloc, &mut book, &(b"d", 8, &[0, 0, 0, 0]))?;
-    Ok(book)
+const FIELDS: &[Given<'static>] = &[
+    (b"a", 8, &[1, 2, 3, 4]),
+    (b"b", 8, &[10, 20, 30, 0]),
+    (b"c", 8, &[0, 0, 0, 0]),
+    (b"d", 8, &[0, 0, 0, 0]),
+];
+
+/// Two rows, which are ready at once.
+const CONSTANTS: &[Text] = &[b"u-move-constant-1L c 7 8", b"u-move-constant-1L d 9 8"];
+
+/// Two workers execute both rows at once.
+fn two_workers_meet<R: Threads + Abort + Sync, C: Clock + Sync>(
+    rt: &R,
+    alloc: Global,
+    book: &mut Book,
+    gate: &BothAtOnce<'_, C>,
+) -> Result<(), AllocError> {
+    prepare(rt, alloc, book, &[4], FIELDS)?;
+    let count = append(rt, book, CONSTANTS);
+    assert!(rt; book.settle_par(rt, 2, gate) == Ok(count));
+    assert!(rt; gate.have_entered() && !gate.is_late());
+    shows(rt, book, b"c", &[7, 7, 7, 7])?;
+    shows(rt, book, b"d", &[9, 9, 9, 9])
 }
 
 #[test]
 fn independent_rows_are_executed_at_once(rt: HostRuntime) -> Result<(), AllocError> {
-    let mut book = declared_book(&rt, rt.alloc())?;
-    let program = [constant(&rt, b"c", 7, 8), constant(&rt, b"d", 9, 8)];
-    let count = append(&rt, &mut book, &program);
+    let mut book = Book::new(rt.alloc());
     let gate = BothAtOnce::new(&rt);
-    assert!(&rt; book.settle_par(&rt, 2, &gate) == Ok(count));
-    assert!(&rt; gate.have_entered() && !gate.is_late());
-    shows(&rt, &book, &(field_key(&rt, b"c"), &[7, 7, 7, 7]))?;
-    shows(&rt, &book, &(field_key(&rt, b"d"), &[9, 9, 9, 9]))
+    two_workers_meet(&rt, rt.alloc(), &mut book, &gate)
 }
 
 /// Six rows: 1, 2 and 4 are ready at once, 3, 5 and 6 wait for rows before them.
-fn program(rt: &impl Abort) -> [Instr; 6] {
-    [
-        constant(rt, b"c", 7, 8),
-        sum(rt, b"d", b"a", b"b", 8),
-        sum(rt, b"a", b"c", b"d", 8),
-        constant(rt, b"b", 5, 8),
-        sum(rt, b"d", b"a", b"b", 8),
-        sum(rt, b"c", b"d", b"d", 8),
-    ]
-}
+const PROGRAM: &[Text] = &[
+    b"u-move-constant-1L c 7 8",
+    b"u-add-3-1L d a b 8",
+    b"u-add-3-1L a c d 8",
+    b"u-move-constant-1L b 5 8",
+    b"u-add-3-1L d a b 8",
+    b"u-add-3-1L c d d 8",
+];
 
 /// A field holds the same numbers in both books, after the last row.
 fn agree(rt: &impl Abort, one: &Book, other: &Book, text: &[u8]) -> Result<(), AllocError> {
-    match one.show(field_key(rt, text), Spot::End) {
-        Ok(Look::Settled(value)) => {
-            let numbers = value.numbers()?;
-            shows(rt, other, &(field_key(rt, text), numbers.as_slice()))
-        }
+    match one.show(key(rt, text), Spot::End) {
+        Ok(Look::Settled(value)) => shows(rt, other, text, value.numbers()?.as_slice()),
         _ => {
             assert!(rt; false);
             Ok(())
         }
     }
+}
+
+fn agree_on_all(rt: &impl Abort, one: &Book, other: &Book) -> Result<(), AllocError> {
+    for text in [b"a", b"b", b"c", b"d"] {
+        agree(rt, one, other, text)?;
+    }
+    Ok(())
+}
+
+fn settle_alone(rt: &impl Abort, alloc: Global, book: &mut Book) -> Result<(), AllocError> {
+    prepare(rt, alloc, book, &[4], FIELDS)?;
+    run(rt, book, PROGRAM);
+    Ok(())
+}
+
+/// Settles the program by so many workers.
+fn settle_by<R: Threads + Abort + Sync>(
+    rt: &R,
+    alloc: Global,
+    book: &mut Book,
+    workers: usize,
+) -> Result<(), AllocError>
+    requires { (1 ≤ workers) × (workers ≤ 16) }
+{
+    prepare(rt, alloc, book, &[4], FIELDS)?;
+    let count = append(rt, book, PROGRAM);
+    assert!(rt; book.settle_par(rt, workers, &OpenGate) == Ok(count));
+    assert!(rt; book.settle_par(rt, workers, &OpenGate) == Ok(0));
+    Ok(())
+}
+
+fn leave_the_same<R: Threads + Abort + Sync>(
+    rt: &R,
+    alloc: Global,
+    alone: &mut Book,
+    book: &mut Book,
+    workers: usize,
+) -> Result<(), AllocError>
+    requires { (1 ≤ workers) × (workers ≤ 16) }
+{
+    settle_alone(rt, alloc, alone)?;
+    settle_by(rt, alloc, book, workers)?;
+    agree_on_all(rt, alone, book)?;
+    shows(rt, book, b"c", &[46, 68, 90, 32])
 }
 
 /// So many workers leave what `settle` leaves.
@@ -122,16 +169,9 @@ fn workers_settle<R: Threads + Abort + Sync>(
 ) -> Result<(), AllocError>
     requires { (1 ≤ workers) × (workers ≤ 16) }
 {
-    let mut alone = declared_book(rt, alloc)?;
-    run(rt, &mut alone, &program(rt));
-    let mut book = declared_book(rt, alloc)?;
-    let count = append(rt, &mut book, &program(rt));
-    assert!(rt; book.settle_par(rt, workers, &OpenGate) == Ok(count));
-    assert!(rt; book.settle_par(rt, workers, &OpenGate) == Ok(0));
-    for text in [b"a", b"b", b"c", b"d"] {
-        agree(rt, &alone, &book, text)?;
-    }
-    shows(rt, &book, &(field_key(rt, b"c"), &[46, 68, 90, 32]))
+    let mut alone = Book::new(alloc);
+    let mut book = Book::new(alloc);
+    leave_the_same(rt, alloc, &mut alone, &mut book, workers)
 }
 
 #[test]

@@ -1,12 +1,22 @@
-//! What several tests use.
+//! What several tests use: keys, boards and instructions, as tables have them.
 
 use paris_board::Board;
 use paris_geometry::Geometry;
-use paris_instr::Instr;
-use paris_model::{Action, BinaryOperator, Conditional};
-use paris_names::{Fault, Name};
+use paris_instr::{Instr, Plan, resolve};
+use paris_names::{Fault, FieldNo, FlagName, Key, Name, SetNo};
+use paris_text::read_instr;
 use std::alloc::Global;
 use std::process::Abort;
+
+/// A name or an instruction, as a table has it.
+pub(crate) type Text = &'static [u8];
+
+/// A key, as a table has it. Fields and sets have their numbers.
+#[derive(Clone, Copy)]
+pub(crate) enum Place {
+    Field(u64),
+    Flag(u64, FlagName),
+}
 
 /// A set: its name, and the lengths of its axes.
 pub(crate) type SetGiven<'a> = (&'a [u8], &'a [u64]);
@@ -18,49 +28,107 @@ pub(crate) fn name(rt: &impl Abort, text: &[u8]) -> Name {
     Name::new(text).expect(rt, "it is a name")
 }
 
-/// `u-add-3-1L`.
-pub(crate) fn sum(rt: &impl Abort, to: &[u8], left: &[u8], right: &[u8], length: u64) -> Instr {
-    Action::OnSelected(Conditional::Binary {
-        operator: BinaryOperator::UnsignedAdd,
-        to: name(rt, to),
-        left: name(rt, left),
-        right: name(rt, right),
-        length,
-    })
+pub(crate) fn key(rt: &impl Abort, place: Place) -> Key {
+    match place {
+        Place::Field(number) => {
+            assert!(rt; number < 64);
+            Key::Field(FieldNo::new(number))
+        }
+        Place::Flag(set, flag) => {
+            assert!(rt; set < 8);
+            Key::Flag(SetNo::new(set), flag)
+        }
+    }
 }
 
-/// `u-move-constant-1L`.
-pub(crate) fn constant(rt: &impl Abort, to: &[u8], value: u128, length: u64) -> Instr {
-    Action::OnSelected(Conditional::MoveConstant {
-        to: name(rt, to),
-        value,
-        length,
-    })
+pub(crate) fn keys(rt: &impl Abort, alloc: Global, places: &[Place]) -> Vec<Key> {
+    let mut keys = Vec::new(alloc);
+    for place in places {
+        keys.push(key(rt, *place))
+            .ok()
+            .expect(rt, "there is memory");
+    }
+    keys
 }
 
-fn add_sets(board: &mut Board, rt: &impl Abort, sets: &[SetGiven<'_>]) -> Result<(), Fault> {
+/// The geometry of the lengths of its axes.
+pub(crate) fn geometry(rt: &impl Abort, lengths: &[u64]) -> Geometry {
+    Geometry::new(lengths)
+        .ok()
+        .expect(rt, "the lengths make a geometry")
+}
+
+/// The instruction that a text spells.
+pub(crate) fn instr(rt: &impl Abort, text: &[u8]) -> Instr {
+    read_instr(text)
+        .ok()
+        .expect(rt, "the text spells an instruction")
+}
+
+fn add_sets(rt: &impl Abort, board: &mut Board, sets: &[SetGiven<'_>]) {
     for (text, axes) in sets {
-        board.add_set(name(rt, *text), Geometry::new(*axes)?)?;
+        board
+            .add_set(name(rt, *text), geometry(rt, *axes))
+            .ok()
+            .expect(rt, "the set is declared");
     }
-    Ok(())
 }
 
-fn add_fields(board: &mut Board, rt: &impl Abort, fields: &[FieldGiven<'_>]) -> Result<(), Fault> {
+fn add_fields(rt: &impl Abort, board: &mut Board, fields: &[FieldGiven<'_>]) {
     for (text, set, width) in fields {
-        board.add_field(name(rt, *text), name(rt, *set), *width)?;
+        board
+            .add_field(name(rt, *text), name(rt, *set), *width)
+            .ok()
+            .expect(rt, "the field is declared");
     }
-    Ok(())
 }
 
 /// A board with these sets and fields.
 pub(crate) fn board_of(
-    alloc: Global,
     rt: &impl Abort,
+    alloc: Global,
     sets: &[SetGiven<'_>],
     fields: &[FieldGiven<'_>],
-) -> Result<Board, Fault> {
+) -> Board {
     let mut board = Board::new(alloc);
-    add_sets(&mut board, rt, sets)?;
-    add_fields(&mut board, rt, fields)?;
-    Ok(board)
+    add_sets(rt, &mut board, sets);
+    add_fields(rt, &mut board, fields);
+    board
+}
+
+/// The plan of an instruction on a board.
+pub(crate) fn plan_on(rt: &impl Abort, alloc: Global, board: &Board, text: &[u8]) -> Plan {
+    resolve(alloc, board, instr(rt, text))
+        .ok()
+        .expect(rt, "the instruction has a plan")
+}
+
+/// Whether these are the keys, in this order.
+fn are_keys(rt: &impl Abort, alloc: Global, found: &[Key], places: &[Place]) -> bool {
+    found == keys(rt, alloc, places).as_slice()
+}
+
+/// A plan reads and writes just these keys.
+pub(crate) fn has_keys(
+    rt: &impl Abort,
+    alloc: Global,
+    plan: &Plan,
+    reads: &[Place],
+    writes: &[Place],
+) {
+    assert!(rt; are_keys(rt, alloc, plan.reads(), reads));
+    assert!(rt; are_keys(rt, alloc, plan.writes(), writes));
+}
+
+/// Instructions are refused on a board with these faults.
+pub(crate) fn are_refused(
+    rt: &impl Abort,
+    alloc: Global,
+    board: &Board,
+    refused: &[(Text, Fault)],
+) {
+    for (text, fault) in refused {
+        let result = resolve(alloc, board, instr(rt, *text));
+        assert!(rt; result.err() == Some(*fault), "{fault:?}");
+    }
 }

@@ -1,49 +1,51 @@
 //! Instructions of each family on a set of four processors.
 
-ghost use Rattle.std.specs.Prelude.{◌≡◌, ◌<◌, ◌∷◌, [], IfOk};
-ghost use Rattle.paris_model.specs.Fits.{IsFit};
+ghost use Rattle.std.specs.Prelude.{◌≡◌};
 
-use paris_geometry::{Direction, Geometry};
-use paris_model::{
-    Action, BinaryOperator, Combiner, Comparison, Conditional, Inclusion, Line, Mail, News,
-    Operand, Refusal, Sign, UnaryOperator, Unconditional,
-};
-use paris_names::{FieldNo, FlagName, Items, Key, SetNo};
+use crate::common::Place::{Field, Flag};
+use crate::common::*;
+use crate::families::Wanted::{Leaves, Refuses};
+use paris_board::Board;
+use paris_instr::Plan;
+use paris_model::Refusal;
+use paris_model::Refusal::{BadAddress, Collision};
+use paris_names::FlagName::{Carry, Context, Overflow, Test};
+use paris_names::{Items, SetNo};
 use paris_plain::*;
 use std::alloc::{AllocError, Global};
 use std::process::Abort;
-use std::test::*;
 
-/// A field of 8 bits.
-fn wide(number: u64) -> Operand
-    requires { number < 64 }
-    ensures { result ≡ record { field = number; width = 8 } }
-{
-    Operand {
-        field: FieldNo::new(number),
-        width: 8,
-    }
+/// Lists of four numbers, as a table has them.
+type Rows = &'static [[u128; 4]];
+
+/// What an instruction gives, as a table has it.
+enum Wanted {
+    /// These numbers, at each of the keys that it writes.
+    Leaves(Rows),
+    /// It is refused.
+    Refuses(Refusal),
 }
 
-/// A field of one bit.
-fn narrow(number: u64) -> Operand
-    requires { number < 64 }
-    ensures { result ≡ record { field = number; width = 1 } }
-{
-    Operand {
-        field: FieldNo::new(number),
-        width: 1,
-    }
+/// An instruction, as a table has it: some keys with the numbers at each of them, keys that it writes, and what it gives.
+struct Case {
+    instr: Text,
+    keys: &'static [Place],
+    rows: Rows,
+    writes: &'static [Place],
+    wanted: Wanted,
 }
 
-fn field(number: u64) -> Key
-    requires { number < 64 }
-{
-    Key::Field(FieldNo::new(number))
-}
-
-fn flag(name: FlagName) -> Key {
-    Key::Flag(SetNo::new(0), name)
+/// A set of four processors in a line, with the fields `a`, `b`, `c` and `n`, which have the numbers 0 to 3. The field `b` has
+/// this width, `a` and `c` have 8 bits, and `n` has one.
+fn board(rt: &impl Abort, alloc: Global, width: u64) -> Board {
+    let sets: [SetGiven<'_>; 1] = [(b"s", &[4])];
+    let fields: [FieldGiven<'_>; 4] = [
+        (b"a", b"s", 8),
+        (b"b", b"s", width),
+        (b"c", b"s", 8),
+        (b"n", b"s", 1),
+    ];
+    board_of(rt, alloc, &sets, &fields)
 }
 
 /// Lists of four numbers.
@@ -65,421 +67,315 @@ fn are_numbers(values: &Items<Items<u128>>, rows: &[[u128; 4]]) -> bool {
             .all(|(value, row)| value.as_slice() == row.as_slice())
 }
 
-/// What an action gives in a set of four processors in a line.
-fn run(
-    rt: &impl Abort,
-    alloc: Global,
-    keys: &[Key],
-    rows: &[[u128; 4]],
-    action: &Action<Operand, SetNo>,
-    writes: &[Key],
-) -> Result<Result<Items<Items<u128>>, Refusal>, Fail>
-    requires { IsFit (4 ∷ []) action.now }
+/// Whether an instruction gives what is wanted.
+fn is_wanted(given: &Result<Items<Items<u128>>, Refusal>, wanted: &Wanted) -> bool {
+    match (given, wanted) {
+        (Ok(values), Wanted::Leaves(rows)) => are_numbers(values, *rows),
+        (Err(cause), Wanted::Refuses(refusal)) => *cause == *refusal,
+        _ => false,
+    }
+}
+
+/// What the plan of an instruction sees.
+fn seen(rt: &impl Abort, alloc: Global, plan: &Plan, case: &Case) -> Inputs
+    ensures { result.axes ≡ plan.now.axes }
 {
-    let geometry = Geometry::new(&[4])?;
-    let keys = Vec::from_slice(alloc, keys)?;
-    let values = lists(alloc, rows)?;
+    let keys = keys(rt, alloc, case.keys);
+    let values = lists(alloc, case.rows).ok().expect(rt, "there is memory");
+    assert!(rt; keys.len() == values.len());
     assert!(rt; flags_are_bits(keys.as_slice(), values.as_slice()));
-    let inputs = Inputs::new(SetNo::new(0), geometry, keys, values);
-    Ok(outcome(alloc, &inputs, action, writes)?)
+    Inputs::new(SetNo::new(0), plan.geometry(), keys, values)
 }
 
-/// Whether an action gives these numbers in a set of four processors in a line.
-fn gives(
-    rt: &impl Abort,
-    alloc: Global,
-    keys: &[Key],
-    rows: &[[u128; 4]],
-    action: &Action<Operand, SetNo>,
-    writes: &[Key],
-    expected: &[[u128; 4]],
-) -> Result<bool, Fail>
-    requires { IsFit (4 ∷ []) action.now }
-{
-    match run(rt, alloc, keys, rows, action, writes)? {
-        Ok(values) => Ok(are_numbers(&values, expected)),
-        Err(_) => Ok(false),
-    }
+/// An instruction gives what is wanted, where the field `b` has this width.
+fn gives_where(rt: &impl Abort, alloc: Global, width: u64, case: &Case) {
+    let plan = plan_on(rt, alloc, &board(rt, alloc, width), case.instr);
+    let inputs = seen(rt, alloc, &plan, case);
+    let action = plan.action();
+    let writes = keys(rt, alloc, case.writes);
+    let given = outcome(alloc, &inputs, &action, writes.as_slice())
+        .ok()
+        .expect(rt, "there is memory");
+    assert!(rt; is_wanted(&given, &case.wanted));
 }
 
-/// An operator on the fields 0 and 1, stored into field 2.
-fn binary(operator: BinaryOperator) -> Action<Operand, SetNo>
-    ensures { result ≡ Action.OnSelected (Conditional.Binary operator (record { field = 2; width = 8 }) (record { field = 0; width = 8 }) (record { field = 1; width = 8 }) 8) }
-{
-    Action::OnSelected(Conditional::Binary {
-        operator,
-        to: wide(2),
-        left: wide(0),
-        right: wide(1),
-        length: 8,
-    })
+/// An instruction gives what is wanted, where the field `b` has 8 bits.
+fn gives(rt: &impl Abort, alloc: Global, case: &Case) {
+    gives_where(rt, alloc, 8, case);
 }
 
 #[test]
-fn a_difference_borrows(rt: HostRuntime) -> Result<(), Fail> {
-    let action = binary(BinaryOperator::UnsignedSubtract);
-    let keys = [field(0), field(1), flag(FlagName::Context)];
-    let rows = [[5, 0, 255, 128], [6, 0, 1, 128], [1, 1, 1, 1]];
-    let writes = [field(2), flag(FlagName::Carry), flag(FlagName::Overflow)];
-    let expected = [[255, 0, 254, 0], [1, 0, 0, 0], [1, 0, 0, 0]];
-    assert!(rt; gives(&rt, rt.alloc(), &keys, &rows, &action, &writes, &expected)?);
-    Ok(())
+fn a_difference_borrows(rt: HostRuntime) {
+    const CASE: Case = Case {
+        instr: b"u-subtract-3-1L c a b 8",
+        keys: &[Field(0), Field(1), Flag(0, Context)],
+        rows: &[[5, 0, 255, 128], [6, 0, 1, 128], [1, 1, 1, 1]],
+        writes: &[Field(2), Flag(0, Carry), Flag(0, Overflow)],
+        wanted: Leaves(&[[255, 0, 254, 0], [1, 0, 0, 0], [1, 0, 0, 0]]),
+    };
+    gives(&rt, rt.alloc(), &CASE);
 }
 
 #[test]
-fn the_least_number_has_no_opposite(rt: HostRuntime) -> Result<(), Fail> {
-    let action = Action::OnSelected(Conditional::Unary {
-        operator: UnaryOperator::Negate,
-        to: wide(2),
-        from: wide(0),
-        length: 8,
-    });
-    let keys = [field(0), flag(FlagName::Context)];
-    let rows = [[128, 1, 0, 255], [1, 1, 1, 1]];
-    let writes = [field(2), flag(FlagName::Overflow)];
-    let expected = [[128, 255, 0, 1], [1, 0, 0, 0]];
-    assert!(rt; gives(&rt, rt.alloc(), &keys, &rows, &action, &writes, &expected)?);
-    Ok(())
+fn the_least_number_has_no_opposite(rt: HostRuntime) {
+    const CASE: Case = Case {
+        instr: b"s-negate-2-1L c a 8",
+        keys: &[Field(0), Flag(0, Context)],
+        rows: &[[128, 1, 0, 255], [1, 1, 1, 1]],
+        writes: &[Field(2), Flag(0, Overflow)],
+        wanted: Leaves(&[[128, 255, 0, 1], [1, 0, 0, 0]]),
+    };
+    gives(&rt, rt.alloc(), &CASE);
 }
 
 #[test]
-fn an_unsigned_product_overflows(rt: HostRuntime) -> Result<(), Fail> {
-    let action = binary(BinaryOperator::UnsignedMultiply);
-    let keys = [field(0), field(1), flag(FlagName::Context)];
-    let rows = [[16, 255, 2, 0], [16, 255, 100, 9], [1, 1, 1, 1]];
-    let writes = [field(2), flag(FlagName::Overflow)];
-    let expected = [[0, 1, 200, 0], [1, 1, 0, 0]];
-    assert!(rt; gives(&rt, rt.alloc(), &keys, &rows, &action, &writes, &expected)?);
-    Ok(())
+fn an_unsigned_product_overflows(rt: HostRuntime) {
+    const CASE: Case = Case {
+        instr: b"u-multiply-3-1L c a b 8",
+        keys: &[Field(0), Field(1), Flag(0, Context)],
+        rows: &[[16, 255, 2, 0], [16, 255, 100, 9], [1, 1, 1, 1]],
+        writes: &[Field(2), Flag(0, Overflow)],
+        wanted: Leaves(&[[0, 1, 200, 0], [1, 1, 0, 0]]),
+    };
+    gives(&rt, rt.alloc(), &CASE);
 }
 
 #[test]
-fn a_signed_product_overflows(rt: HostRuntime) -> Result<(), Fail> {
-    let action = binary(BinaryOperator::SignedMultiply);
-    let keys = [field(0), field(1), flag(FlagName::Context)];
-    let rows = [[16, 255, 2, 0], [16, 255, 100, 9], [1, 1, 1, 1]];
-    let writes = [field(2), flag(FlagName::Overflow)];
-    let expected = [[0, 1, 200, 0], [1, 0, 1, 0]];
-    assert!(rt; gives(&rt, rt.alloc(), &keys, &rows, &action, &writes, &expected)?);
-    Ok(())
+fn a_signed_product_overflows(rt: HostRuntime) {
+    const CASE: Case = Case {
+        instr: b"s-multiply-3-1L c a b 8",
+        keys: &[Field(0), Field(1), Flag(0, Context)],
+        rows: &[[16, 255, 2, 0], [16, 255, 100, 9], [1, 1, 1, 1]],
+        writes: &[Field(2), Flag(0, Overflow)],
+        wanted: Leaves(&[[0, 1, 200, 0], [1, 0, 1, 0]]),
+    };
+    gives(&rt, rt.alloc(), &CASE);
 }
 
 #[test]
-fn a_signed_move_widens(rt: HostRuntime) -> Result<(), Fail> {
-    let action = Action::OnSelected(Conditional::Resize {
-        sign: Sign::Signed,
-        to: wide(2),
-        from: wide(0),
-        length: 8,
-        from_length: 4,
-    });
-    let keys = [field(0), flag(FlagName::Context)];
-    let rows = [[7, 8, 15, 16], [1, 1, 1, 1]];
-    let writes = [field(2), flag(FlagName::Overflow)];
-    let expected = [[7, 248, 255, 0], [0, 0, 0, 0]];
-    assert!(rt; gives(&rt, rt.alloc(), &keys, &rows, &action, &writes, &expected)?);
-    Ok(())
+fn a_signed_move_widens(rt: HostRuntime) {
+    const CASE: Case = Case {
+        instr: b"s-move-2L c a 8 4",
+        keys: &[Field(0), Flag(0, Context)],
+        rows: &[[7, 8, 15, 16], [1, 1, 1, 1]],
+        writes: &[Field(2), Flag(0, Overflow)],
+        wanted: Leaves(&[[7, 248, 255, 0], [0, 0, 0, 0]]),
+    };
+    gives(&rt, rt.alloc(), &CASE);
 }
 
 #[test]
-fn an_unsigned_move_narrows(rt: HostRuntime) -> Result<(), Fail> {
-    let action = Action::OnSelected(Conditional::Resize {
-        sign: Sign::Unsigned,
-        to: wide(2),
-        from: wide(0),
-        length: 3,
-        from_length: 8,
-    });
-    let keys = [field(0), field(2), flag(FlagName::Context)];
-    let rows = [[7, 8, 15, 16], [0, 0, 0, 0], [1, 1, 1, 1]];
-    let writes = [field(2), flag(FlagName::Overflow)];
-    let expected = [[7, 0, 7, 0], [0, 1, 1, 1]];
-    assert!(rt; gives(&rt, rt.alloc(), &keys, &rows, &action, &writes, &expected)?);
-    Ok(())
+fn an_unsigned_move_narrows(rt: HostRuntime) {
+    const CASE: Case = Case {
+        instr: b"u-move-2L c a 3 8",
+        keys: &[Field(0), Field(2), Flag(0, Context)],
+        rows: &[[7, 8, 15, 16], [0, 0, 0, 0], [1, 1, 1, 1]],
+        writes: &[Field(2), Flag(0, Overflow)],
+        wanted: Leaves(&[[7, 0, 7, 0], [0, 1, 1, 1]]),
+    };
+    gives(&rt, rt.alloc(), &CASE);
 }
 
 #[test]
-fn unsigned_numbers_compare(rt: HostRuntime) -> Result<(), Fail> {
-    let action = Action::OnSelected(Conditional::Compare {
-        comparison: Comparison::Less(Sign::Unsigned),
-        left: wide(0),
-        right: wide(1),
-        length: 8,
-    });
-    let keys = [field(0), field(1), flag(FlagName::Context)];
-    let rows = [[1, 200, 3, 4], [2, 100, 3, 0], [1, 1, 1, 1]];
-    let writes = [flag(FlagName::Test)];
-    let expected = [[1, 0, 0, 0]];
-    assert!(rt; gives(&rt, rt.alloc(), &keys, &rows, &action, &writes, &expected)?);
-    Ok(())
+fn unsigned_numbers_compare(rt: HostRuntime) {
+    const CASE: Case = Case {
+        instr: b"u-lt-1L a b 8",
+        keys: &[Field(0), Field(1), Flag(0, Context)],
+        rows: &[[1, 200, 3, 4], [2, 100, 3, 0], [1, 1, 1, 1]],
+        writes: &[Flag(0, Test)],
+        wanted: Leaves(&[[1, 0, 0, 0]]),
+    };
+    gives(&rt, rt.alloc(), &CASE);
 }
 
 #[test]
-fn signed_numbers_compare(rt: HostRuntime) -> Result<(), Fail> {
-    let action = Action::OnSelected(Conditional::Compare {
-        comparison: Comparison::Less(Sign::Signed),
-        left: wide(0),
-        right: wide(1),
-        length: 8,
-    });
-    let keys = [field(0), field(1), flag(FlagName::Context)];
-    let rows = [[1, 200, 3, 4], [2, 100, 3, 0], [1, 1, 1, 1]];
-    let writes = [flag(FlagName::Test)];
-    let expected = [[1, 1, 0, 0]];
-    assert!(rt; gives(&rt, rt.alloc(), &keys, &rows, &action, &writes, &expected)?);
-    Ok(())
+fn signed_numbers_compare(rt: HostRuntime) {
+    const CASE: Case = Case {
+        instr: b"s-lt-1L a b 8",
+        keys: &[Field(0), Field(1), Flag(0, Context)],
+        rows: &[[1, 200, 3, 4], [2, 100, 3, 0], [1, 1, 1, 1]],
+        writes: &[Flag(0, Test)],
+        wanted: Leaves(&[[1, 1, 0, 0]]),
+    };
+    gives(&rt, rt.alloc(), &CASE);
 }
 
 #[test]
-fn a_sum_takes_the_old_carry(rt: HostRuntime) -> Result<(), Fail> {
-    let action = binary(BinaryOperator::UnsignedAddCarry);
-    let keys = [
-        field(0),
-        field(1),
-        flag(FlagName::Context),
-        flag(FlagName::Carry),
-    ];
-    let rows = [[255, 255, 1, 1], [0, 0, 0, 0], [1, 1, 1, 1], [1, 0, 1, 0]];
-    let writes = [field(2), flag(FlagName::Carry)];
-    let expected = [[0, 255, 2, 1], [1, 0, 0, 0]];
-    assert!(rt; gives(&rt, rt.alloc(), &keys, &rows, &action, &writes, &expected)?);
-    Ok(())
+fn a_sum_takes_the_old_carry(rt: HostRuntime) {
+    const CASE: Case = Case {
+        instr: b"u-add-carry-3-1L c a b 8",
+        keys: &[Field(0), Field(1), Flag(0, Context), Flag(0, Carry)],
+        rows: &[[255, 255, 1, 1], [0, 0, 0, 0], [1, 1, 1, 1], [1, 0, 1, 0]],
+        writes: &[Field(2), Flag(0, Carry)],
+        wanted: Leaves(&[[0, 255, 2, 1], [1, 0, 0, 0]]),
+    };
+    gives(&rt, rt.alloc(), &CASE);
 }
 
 #[test]
-fn a_short_move_keeps_the_upper_bits(rt: HostRuntime) -> Result<(), Fail> {
-    let action = Action::OnSelected(Conditional::Unary {
-        operator: UnaryOperator::Move,
-        to: wide(2),
-        from: wide(0),
-        length: 4,
-    });
-    let keys = [field(0), field(2), flag(FlagName::Context)];
-    let rows = [[3, 15, 16, 255], [240, 240, 240, 240], [1, 1, 1, 1]];
-    let writes = [field(2)];
-    let expected = [[243, 255, 240, 255]];
-    assert!(rt; gives(&rt, rt.alloc(), &keys, &rows, &action, &writes, &expected)?);
-    Ok(())
+fn a_short_move_keeps_the_upper_bits(rt: HostRuntime) {
+    const CASE: Case = Case {
+        instr: b"u-move-1L c a 4",
+        keys: &[Field(0), Field(2), Flag(0, Context)],
+        rows: &[[3, 15, 16, 255], [240, 240, 240, 240], [1, 1, 1, 1]],
+        writes: &[Field(2)],
+        wanted: Leaves(&[[243, 255, 240, 255]]),
+    };
+    gives(&rt, rt.alloc(), &CASE);
 }
 
 #[test]
-fn a_spread_adds_the_selected(rt: HostRuntime) -> Result<(), Fail> {
-    let action = Action::AlongLine(Line::Spread {
-        combiner: Combiner::Sum,
-        to: wide(2),
-        from: wide(0),
-        axis: 0,
-        length: 8,
-    });
-    let keys = [field(0), flag(FlagName::Context)];
-    let rows = [[1, 2, 3, 4], [0, 1, 1, 0]];
-    let writes = [field(2)];
-    let expected = [[0, 5, 5, 0]];
-    assert!(rt; gives(&rt, rt.alloc(), &keys, &rows, &action, &writes, &expected)?);
-    Ok(())
+fn a_spread_adds_the_selected(rt: HostRuntime) {
+    const CASE: Case = Case {
+        instr: b"spread-with-u-add-1L c a 0 8",
+        keys: &[Field(0), Flag(0, Context)],
+        rows: &[[1, 2, 3, 4], [0, 1, 1, 0]],
+        writes: &[Field(2)],
+        wanted: Leaves(&[[0, 5, 5, 0]]),
+    };
+    gives(&rt, rt.alloc(), &CASE);
 }
 
 #[test]
-fn a_spread_copies_from_an_unselected_processor(rt: HostRuntime) -> Result<(), Fail> {
-    let action = Action::AlongLine(Line::CopySpread {
-        to: wide(2),
-        from: wide(0),
-        axis: 0,
-        length: 8,
-        coordinate: 3,
-    });
-    let keys = [field(0), flag(FlagName::Context)];
-    let rows = [[1, 2, 3, 4], [0, 1, 1, 0]];
-    let writes = [field(2)];
-    let expected = [[0, 4, 4, 0]];
-    assert!(rt; gives(&rt, rt.alloc(), &keys, &rows, &action, &writes, &expected)?);
-    Ok(())
+fn a_spread_copies_from_an_unselected_processor(rt: HostRuntime) {
+    const CASE: Case = Case {
+        instr: b"spread-with-copy-1L c a 0 8 3",
+        keys: &[Field(0), Flag(0, Context)],
+        rows: &[[1, 2, 3, 4], [0, 1, 1, 0]],
+        writes: &[Field(2)],
+        wanted: Leaves(&[[0, 4, 4, 0]]),
+    };
+    gives(&rt, rt.alloc(), &CASE);
 }
 
 #[test]
-fn a_reduce_stores_at_a_selected_processor(rt: HostRuntime) -> Result<(), Fail> {
-    let action = Action::AlongLine(Line::Reduce {
-        combiner: Combiner::Maximum,
-        to: wide(2),
-        from: wide(0),
-        axis: 0,
-        length: 8,
-        coordinate: 1,
-    });
-    let keys = [field(0), flag(FlagName::Context)];
-    let rows = [[1, 2, 3, 4], [0, 1, 1, 0]];
-    let writes = [field(2)];
-    let expected = [[0, 3, 0, 0]];
-    assert!(rt; gives(&rt, rt.alloc(), &keys, &rows, &action, &writes, &expected)?);
-    Ok(())
+fn a_reduce_stores_at_a_selected_processor(rt: HostRuntime) {
+    const CASE: Case = Case {
+        instr: b"reduce-with-u-max-1L c a 0 8 1",
+        keys: &[Field(0), Flag(0, Context)],
+        rows: &[[1, 2, 3, 4], [0, 1, 1, 0]],
+        writes: &[Field(2)],
+        wanted: Leaves(&[[0, 3, 0, 0]]),
+    };
+    gives(&rt, rt.alloc(), &CASE);
 }
 
 #[test]
-fn a_reduce_to_an_unselected_processor_stores_nothing(rt: HostRuntime) -> Result<(), Fail> {
-    let action = Action::AlongLine(Line::Reduce {
-        combiner: Combiner::Maximum,
-        to: wide(2),
-        from: wide(0),
-        axis: 0,
-        length: 8,
-        coordinate: 0,
-    });
-    let keys = [field(0), flag(FlagName::Context)];
-    let rows = [[1, 2, 3, 4], [0, 1, 1, 0]];
-    let writes = [field(2)];
-    let expected = [[0, 0, 0, 0]];
-    assert!(rt; gives(&rt, rt.alloc(), &keys, &rows, &action, &writes, &expected)?);
-    Ok(())
+fn a_reduce_to_an_unselected_processor_stores_nothing(rt: HostRuntime) {
+    const CASE: Case = Case {
+        instr: b"reduce-with-u-max-1L c a 0 8 0",
+        keys: &[Field(0), Flag(0, Context)],
+        rows: &[[1, 2, 3, 4], [0, 1, 1, 0]],
+        writes: &[Field(2)],
+        wanted: Leaves(&[[0, 0, 0, 0]]),
+    };
+    gives(&rt, rt.alloc(), &CASE);
 }
 
 #[test]
-fn a_get_reads_at_the_address(rt: HostRuntime) -> Result<(), Fail> {
-    let action = Action::ByMail(Mail::Get {
-        to: wide(2),
-        addresses: wide(1),
-        from: wide(0),
-        length: 8,
-    });
-    let keys = [field(0), field(1), flag(FlagName::Context)];
-    let rows = [[1, 2, 3, 4], [3, 3, 0, 1], [1, 1, 0, 1]];
-    let writes = [field(2)];
-    let expected = [[4, 4, 0, 2]];
-    assert!(rt; gives(&rt, rt.alloc(), &keys, &rows, &action, &writes, &expected)?);
-    Ok(())
+fn a_get_reads_at_the_address(rt: HostRuntime) {
+    const CASE: Case = Case {
+        instr: b"get-1L c b a 8",
+        keys: &[Field(0), Field(1), Flag(0, Context)],
+        rows: &[[1, 2, 3, 4], [3, 3, 0, 1], [1, 1, 0, 1]],
+        writes: &[Field(2)],
+        wanted: Leaves(&[[4, 4, 0, 2]]),
+    };
+    gives(&rt, rt.alloc(), &CASE);
 }
 
 #[test]
-fn a_segment_begins_at_an_unselected_processor(rt: HostRuntime) -> Result<(), Fail> {
-    let action = Action::AlongLine(Line::CopyScan {
-        to: wide(2),
-        from: wide(0),
-        axis: 0,
-        length: 8,
-        direction: Direction::Upward,
-        segments: Some(narrow(1)),
-    });
-    let keys = [field(0), field(1), flag(FlagName::Context)];
-    let rows = [[9, 2, 3, 4], [0, 1, 0, 0], [1, 0, 1, 1]];
-    let writes = [field(2)];
-    let expected = [[9, 0, 3, 3]];
-    assert!(rt; gives(&rt, rt.alloc(), &keys, &rows, &action, &writes, &expected)?);
-    Ok(())
+fn a_segment_begins_at_an_unselected_processor(rt: HostRuntime) {
+    const CASE: Case = Case {
+        instr: b"scan-with-copy-1L c a 0 8 upward b",
+        keys: &[Field(0), Field(1), Flag(0, Context)],
+        rows: &[[9, 2, 3, 4], [0, 1, 0, 0], [1, 0, 1, 1]],
+        writes: &[Field(2)],
+        wanted: Leaves(&[[9, 0, 3, 3]]),
+    };
+    gives_where(&rt, rt.alloc(), 1, &CASE);
 }
 
 #[test]
-fn a_scan_overflows_by_the_exact_sum(rt: HostRuntime) -> Result<(), Fail> {
-    let action = Action::AlongLine(Line::Scan {
-        combiner: Combiner::Sum,
-        to: wide(2),
-        from: wide(0),
-        axis: 0,
-        length: 8,
-        direction: Direction::Upward,
-        inclusion: Inclusion::Inclusive,
-        segments: None,
-    });
-    let keys = [field(0), flag(FlagName::Context)];
-    let rows = [[200, 100, 1, 2], [1, 1, 1, 1]];
-    let writes = [field(2), flag(FlagName::Overflow)];
-    let expected = [[200, 44, 45, 47], [0, 1, 1, 1]];
-    assert!(rt; gives(&rt, rt.alloc(), &keys, &rows, &action, &writes, &expected)?);
-    Ok(())
+fn a_scan_overflows_by_the_exact_sum(rt: HostRuntime) {
+    const CASE: Case = Case {
+        instr: b"scan-with-u-add-1L c a 0 8 upward inclusive none",
+        keys: &[Field(0), Flag(0, Context)],
+        rows: &[[200, 100, 1, 2], [1, 1, 1, 1]],
+        writes: &[Field(2), Flag(0, Overflow)],
+        wanted: Leaves(&[[200, 44, 45, 47], [0, 1, 1, 1]]),
+    };
+    gives(&rt, rt.alloc(), &CASE);
 }
 
 #[test]
-fn the_context_is_inverted_in_every_processor(rt: HostRuntime) -> Result<(), Fail> {
-    let action = Action::OnAll(Unconditional::InvertContext(SetNo::new(0)));
-    let keys = [flag(FlagName::Context)];
-    let rows = [[1, 0, 1, 0]];
-    let writes = [flag(FlagName::Context)];
-    let expected = [[0, 1, 0, 1]];
-    assert!(rt; gives(&rt, rt.alloc(), &keys, &rows, &action, &writes, &expected)?);
-    Ok(())
+fn the_context_is_inverted_in_every_processor(rt: HostRuntime) {
+    const CASE: Case = Case {
+        instr: b"invert-context s",
+        keys: &[Flag(0, Context)],
+        rows: &[[1, 0, 1, 0]],
+        writes: &[Flag(0, Context)],
+        wanted: Leaves(&[[0, 1, 0, 1]]),
+    };
+    gives(&rt, rt.alloc(), &CASE);
 }
 
 #[test]
-fn a_send_to_the_neighbour_goes_by_the_senders_context(rt: HostRuntime) -> Result<(), Fail> {
-    let action = Action::ByNews(News::Send {
-        to: wide(2),
-        from: wide(0),
-        axis: 0,
-        direction: Direction::Upward,
-        length: 8,
-    });
-    let keys = [field(0), flag(FlagName::Context)];
-    let rows = [[1, 2, 3, 4], [1, 0, 1, 1]];
-    let writes = [field(2)];
-    let expected = [[4, 1, 0, 3]];
-    assert!(rt; gives(&rt, rt.alloc(), &keys, &rows, &action, &writes, &expected)?);
-    Ok(())
+fn a_send_to_the_neighbour_goes_by_the_senders_context(rt: HostRuntime) {
+    const CASE: Case = Case {
+        instr: b"send-to-news-1L c a 0 upward 8",
+        keys: &[Field(0), Flag(0, Context)],
+        rows: &[[1, 2, 3, 4], [1, 0, 1, 1]],
+        writes: &[Field(2)],
+        wanted: Leaves(&[[4, 1, 0, 3]]),
+    };
+    gives(&rt, rt.alloc(), &CASE);
 }
 
 #[test]
-fn a_combining_send_adds_to_the_old_value(rt: HostRuntime) -> Result<(), Fail> {
-    let action = Action::ByMail(Mail::CombiningSend {
-        combiner: Combiner::Sum,
-        to: wide(2),
-        addresses: wide(1),
-        from: wide(0),
-        length: 8,
-        notify: Some(narrow(3)),
-    });
-    let keys = [field(0), field(1), field(2), flag(FlagName::Context)];
-    let rows = [[1, 2, 3, 4], [0, 0, 1, 2], [10, 0, 0, 0], [1, 1, 1, 1]];
-    let writes = [field(2), field(3)];
-    let expected = [[13, 3, 4, 0], [1, 1, 1, 0]];
-    assert!(rt; gives(&rt, rt.alloc(), &keys, &rows, &action, &writes, &expected)?);
-    Ok(())
-}
-
-/// A send from field 0 to field 2, at the addresses in field 1, with field 3 to notify.
-fn send() -> Action<Operand, SetNo>
-    ensures { result ≡ Action.ByMail (Mail.Send (record { field = 2; width = 8 }) (record { field = 1; width = 8 }) (record { field = 0; width = 8 }) 8 (Some (record { field = 3; width = 1 }))) }
-{
-    Action::ByMail(Mail::Send {
-        to: wide(2),
-        addresses: wide(1),
-        from: wide(0),
-        length: 8,
-        notify: Some(narrow(3)),
-    })
-}
-
-/// Why a send to these addresses is refused.
-fn send_refusal(
-    rt: &impl Abort,
-    alloc: Global,
-    addresses: [u128; 4],
-) -> Result<Option<Refusal>, Fail> {
-    let keys = [field(0), field(1), flag(FlagName::Context)];
-    let rows = [[1, 2, 3, 4], addresses, [1, 1, 1, 1]];
-    match run(rt, alloc, &keys, &rows, &send(), &[field(2), field(3)])? {
-        Ok(_) => Ok(None),
-        Err(cause) => Ok(Some(cause)),
-    }
+fn a_combining_send_adds_to_the_old_value(rt: HostRuntime) {
+    const CASE: Case = Case {
+        instr: b"send-with-u-add-1L c b a 8 n",
+        keys: &[Field(0), Field(1), Field(2), Flag(0, Context)],
+        rows: &[[1, 2, 3, 4], [0, 0, 1, 2], [10, 0, 0, 0], [1, 1, 1, 1]],
+        writes: &[Field(2), Field(3)],
+        wanted: Leaves(&[[13, 3, 4, 0], [1, 1, 1, 0]]),
+    };
+    gives(&rt, rt.alloc(), &CASE);
 }
 
 #[test]
-fn two_messages_collide(rt: HostRuntime) -> Result<(), Fail> {
-    let cause = send_refusal(&rt, rt.alloc(), [0, 0, 1, 2])?;
-    assert!(rt; cause == Some(Refusal::Collision(0)));
-    Ok(())
+fn two_messages_collide(rt: HostRuntime) {
+    const CASE: Case = Case {
+        instr: b"send-1L c b a 8 n",
+        keys: &[Field(0), Field(1), Flag(0, Context)],
+        rows: &[[1, 2, 3, 4], [0, 0, 1, 2], [1, 1, 1, 1]],
+        writes: &[Field(2), Field(3)],
+        wanted: Refuses(Collision(0)),
+    };
+    gives(&rt, rt.alloc(), &CASE);
 }
 
 #[test]
-fn a_bad_address_comes_before_a_collision(rt: HostRuntime) -> Result<(), Fail> {
-    let cause = send_refusal(&rt, rt.alloc(), [0, 0, 4, 1])?;
-    assert!(rt; cause == Some(Refusal::BadAddress(2)));
-    Ok(())
+fn a_bad_address_comes_before_a_collision(rt: HostRuntime) {
+    const CASE: Case = Case {
+        instr: b"send-1L c b a 8 n",
+        keys: &[Field(0), Field(1), Flag(0, Context)],
+        rows: &[[1, 2, 3, 4], [0, 0, 4, 1], [1, 1, 1, 1]],
+        writes: &[Field(2), Field(3)],
+        wanted: Refuses(BadAddress(2)),
+    };
+    gives(&rt, rt.alloc(), &CASE);
 }
 
 #[test]
-fn a_send_notifies_the_receivers(rt: HostRuntime) -> Result<(), Fail> {
-    let action = send();
-    let keys = [field(0), field(1), field(2), flag(FlagName::Context)];
-    let rows = [[1, 2, 3, 4], [3, 2, 1, 3], [10, 0, 0, 0], [1, 1, 1, 0]];
-    let writes = [field(2), field(3)];
-    let expected = [[10, 3, 2, 1], [0, 1, 1, 1]];
-    assert!(rt; gives(&rt, rt.alloc(), &keys, &rows, &action, &writes, &expected)?);
-    Ok(())
+fn a_send_notifies_the_receivers(rt: HostRuntime) {
+    const CASE: Case = Case {
+        instr: b"send-1L c b a 8 n",
+        keys: &[Field(0), Field(1), Field(2), Flag(0, Context)],
+        rows: &[[1, 2, 3, 4], [3, 2, 1, 3], [10, 0, 0, 0], [1, 1, 1, 0]],
+        writes: &[Field(2), Field(3)],
+        wanted: Leaves(&[[10, 3, 2, 1], [0, 1, 1, 1]]),
+    };
+    gives(&rt, rt.alloc(), &CASE);
 }

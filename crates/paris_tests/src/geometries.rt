@@ -1,61 +1,84 @@
 //! Tests of geometries: coordinates, neighbours and addresses.
 
+use crate::common::geometry;
 use paris_geometry::{Direction, Geometry};
 use paris_names::Fault;
-use std::test::*;
+use std::process::Abort;
 
-#[test]
-fn a_geometry_gives_its_lengths_back(rt: HostRuntime) -> Result<(), Fail> {
-    let line = Geometry::new(&[4])?;
-    assert_eq!(rt; line.axes(), 1);
-    assert_eq!(rt; line.vps(), 4);
-    assert_eq!(rt; line.lengths(), [4u64].as_slice());
+/// The lengths of some axes, as a table has them, how many axes there are, and how many processors.
+type Shape = (&'static [u64], usize, usize);
 
-    let square = Geometry::new(&[2, 2])?;
-    assert_eq!(rt; square.axes(), 2);
-    assert_eq!(rt; square.vps(), 4);
-    assert!(rt; square != line);
-
-    let block = Geometry::new(&[8, 4, 2])?;
-    assert_eq!(rt; block.vps(), 64);
-    assert_eq!(rt; block.lengths(), [8u64, 4, 2].as_slice());
-    assert!(rt; block.axes() == 3);
-    for (axis, length) in [(0, 8), (1, 4), (2, 2)] {
-        assert!(rt; axis < block.axes());
-        assert_eq!(rt; block.len(axis), length, "at axis {axis}");
+/// Whether a geometry has axes of just these lengths.
+fn has_lengths(geometry: Geometry, lengths: &[u64]) -> bool {
+    for (axis, length) in lengths.iter().enumerate() {
+        if axis >= geometry.axes() || geometry.len(axis) != *length {
+            return false;
+        }
     }
-    Ok(())
+    geometry.lengths() == lengths
+}
+
+/// Whether lengths make a geometry, which gives them back.
+fn is_shape(shape: &Shape) -> bool {
+    let (lengths, axes, vps) = *shape;
+    match Geometry::new(lengths) {
+        Ok(geometry) => {
+            geometry.axes() == axes && geometry.vps() == vps && has_lengths(geometry, lengths)
+        }
+        Err(_) => false,
+    }
 }
 
 #[test]
-fn coordinates_count_along_axis_0_fastest(rt: HostRuntime) -> Result<(), Fail> {
-    let square = Geometry::new(&[2, 2])?;
+fn a_geometry_gives_its_lengths_back(rt: HostRuntime) {
+    const SHAPES: &[Shape] = &[(&[4], 1, 4), (&[2, 2], 2, 4), (&[8, 4, 2], 3, 64)];
+    for shape in SHAPES {
+        assert!(rt; is_shape(shape));
+    }
+    assert!(rt; geometry(&rt, &[2, 2]) != geometry(&rt, &[4]));
+}
+
+/// The coordinates of a processor of a set of 2 by 2.
+fn coordinates(rt: &impl Abort, processor: u32) -> (u32, u32) {
+    let square = geometry(rt, &[2, 2]);
     assert!(rt; square.axes() == 2);
-    for (processor, first, second) in [(0, 0, 0), (1, 1, 0), (2, 0, 1), (3, 1, 1)] {
-        assert_eq!(rt; square.coordinate(processor, 0), first, "of {processor}");
-        assert_eq!(rt; square.coordinate(processor, 1), second, "of {processor}");
-    }
-    Ok(())
+    (
+        square.coordinate(processor, 0),
+        square.coordinate(processor, 1),
+    )
 }
 
 #[test]
-fn axes_wrap_round(rt: HostRuntime) -> Result<(), Fail> {
-    let line = Geometry::new(&[4])?;
-    assert!(rt; line.axes() == 1 && line.vps() == 4);
-    for (processor, up, down) in [(0, 1, 3), (1, 2, 0), (2, 3, 1), (3, 0, 2)] {
-        assert!(rt; processor < 4);
-        assert_eq!(rt;
-            line.neighbour(processor, 0, Direction::Upward),
-            up,
-            "of {processor}"
-        );
-        assert_eq!(rt;
-            line.neighbour(processor, 0, Direction::Downward),
-            down,
+fn coordinates_count_along_axis_0_fastest(rt: HostRuntime) {
+    const CASES: &[(u32, u32, u32)] = &[(0, 0, 0), (1, 1, 0), (2, 0, 1), (3, 1, 1)];
+    for (processor, first, second) in CASES {
+        assert!(rt;
+            coordinates(&rt, *processor) == (*first, *second),
             "of {processor}"
         );
     }
-    Ok(())
+}
+
+/// The neighbours of a processor of a line of 4, upward and downward.
+fn neighbours(rt: &impl Abort, processor: u32) -> (u32, u32) {
+    let line = geometry(rt, &[4]);
+    assert!(rt; line.axes() == 1 && line.vps() == 4);
+    assert!(rt; processor < 4);
+    (
+        line.neighbour(processor, 0, Direction::Upward),
+        line.neighbour(processor, 0, Direction::Downward),
+    )
+}
+
+#[test]
+fn axes_wrap_round(rt: HostRuntime) {
+    const CASES: &[(u32, u32, u32)] = &[(0, 1, 3), (1, 2, 0), (2, 3, 1), (3, 0, 2)];
+    for (processor, up, down) in CASES {
+        assert!(rt;
+            neighbours(&rt, *processor) == (*up, *down),
+            "of {processor}"
+        );
+    }
 }
 
 #[test]
@@ -65,12 +88,16 @@ fn the_directions_differ(rt: HostRuntime) {
 }
 
 #[test]
-fn the_limits_are_met(rt: HostRuntime) -> Result<(), Fail> {
-    assert_eq!(rt; Geometry::new(&[65_536])?.vps(), 65_536);
-    assert_eq!(rt; Geometry::new(&[1])?.vps(), 1);
-    assert_eq!(rt; Geometry::new(&[1, 1, 1, 1])?.axes(), 4);
-    assert_eq!(rt; Geometry::new(&[16, 16, 16, 16])?.vps(), 65_536);
-    Ok(())
+fn the_limits_are_met(rt: HostRuntime) {
+    const SHAPES: &[Shape] = &[
+        (&[65_536], 1, 65_536),
+        (&[1], 1, 1),
+        (&[1, 1, 1, 1], 4, 1),
+        (&[16, 16, 16, 16], 4, 65_536),
+    ];
+    for shape in SHAPES {
+        assert!(rt; is_shape(shape));
+    }
 }
 
 #[test]

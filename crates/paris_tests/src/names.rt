@@ -5,13 +5,18 @@ use std::test::*;
 
 #[test]
 fn names_are_one_to_sixteen_bytes(rt: HostRuntime) {
-    assert!(rt; Name::new(b"a").is_some());
-    assert!(rt; Name::new(b"Some-name_of-16b").is_some());
-    assert!(rt; Name::new(b"").is_none());
-    assert!(rt; Name::new(b"none").is_none());
-    assert!(rt; Name::new(b"9a").is_none());
-    assert!(rt; Name::new(b"a.b").is_none());
-    assert!(rt; Name::new(b"a-name-of-17-byte").is_none());
+    const CASES: &[(&'static [u8], bool)] = &[
+        (b"a", true),
+        (b"Some-name_of-16b", true),
+        (b"", false),
+        (b"none", false),
+        (b"9a", false),
+        (b"a.b", false),
+        (b"a-name-of-17-byte", false),
+    ];
+    for (text, wanted) in CASES {
+        assert!(rt; Name::new(*text).is_some() == *wanted);
+    }
 }
 
 #[test]

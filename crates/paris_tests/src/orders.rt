@@ -1,21 +1,19 @@
+use crate::common::Place::{Field, Flag};
 use crate::common::*;
 use paris_exec::{Done, Order, Outcome, execute};
 use paris_field::FieldValue;
-use paris_instr::{Instr, Plan, resolve};
+use paris_instr::Plan;
+use paris_names::FlagName::{Carry, Overflow};
 use paris_names::keys::has_key;
-use paris_names::{Edition, Fault, FieldNo, FlagName, Key, RowId, SetNo};
-use std::alloc::{AllocError, Global};
+use paris_names::{Edition, Key, RowId};
+use std::alloc::Global;
 use std::process::Abort;
-use std::test::*;
+
+/// The numbers of an input, as a table has them, behind their width.
+type Part = (u64, &'static [u128]);
 
 /// The plan of an instruction where the fields `a`, `b` and `c` have this width, in a set of this many processors.
-fn plan_of(
-    alloc: Global,
-    rt: &impl Abort,
-    instr: Instr,
-    width: u64,
-    count: u64,
-) -> Result<Plan, Fault> {
+fn plan_of(rt: &impl Abort, alloc: Global, text: &[u8], width: u64, count: u64) -> Plan {
     let axes = [count];
     let sets: [SetGiven<'_>; 1] = [(b"s", &axes)];
     let fields: [FieldGiven<'_>; 3] = [
@@ -23,76 +21,53 @@ fn plan_of(
         (b"b", b"s", width),
         (b"c", b"s", width),
     ];
-    let board = board_of(alloc, rt, &sets, &fields)?;
-    resolve(alloc, &board, instr)
+    plan_on(rt, alloc, &board_of(rt, alloc, &sets, &fields), text)
 }
 
-/// The plan of `u-add-3-1L c a b`.
-fn plan_of_sum(
-    alloc: Global,
-    rt: &impl Abort,
-    length: u64,
-    width: u64,
-    count: u64,
-) -> Result<Plan, Fault> {
-    plan_of(alloc, rt, sum(rt, b"c", b"a", b"b", length), width, count)
-}
-
-/// The plan of `u-move-constant-1L c`.
-fn plan_of_constant(
-    alloc: Global,
-    rt: &impl Abort,
-    number: u128,
-    length: u64,
-    width: u64,
-    count: u64,
-) -> Result<Plan, Fault> {
-    plan_of(alloc, rt, constant(rt, b"c", number, length), width, count)
-}
-
-fn value(
-    alloc: Global,
-    rt: &impl Abort,
-    width: u64,
-    numbers: &[u128],
-) -> Result<FieldValue, AllocError> {
+fn value(rt: &impl Abort, alloc: Global, part: Part) -> FieldValue {
+    let (width, numbers) = part;
     assert!(rt; width <= 64);
     let limit = 1u128 << width;
     assert!(rt; numbers.iter().all(|n| *n < limit));
     FieldValue::from_numbers(alloc, width, numbers)
+        .ok()
+        .expect(rt, "there is memory")
 }
 
-fn values(
-    alloc: Global,
-    rt: &impl Abort,
-    parts: &[(u64, &[u128])],
-) -> Result<Vec<FieldValue>, AllocError> {
+fn values(rt: &impl Abort, alloc: Global, parts: &[Part]) -> Vec<FieldValue> {
     let mut values = Vec::new(alloc);
-    for (width, numbers) in parts {
-        values.push(value(alloc, rt, *width, *numbers)?)?;
+    for part in parts {
+        values
+            .push(value(rt, alloc, *part))
+            .ok()
+            .expect(rt, "there is memory");
     }
-    Ok(values)
+    values
 }
 
 /// The result of the order of a plan with these inputs.
-fn executed(
-    alloc: Global,
-    rt: &impl Abort,
-    plan: Plan,
-    parts: &[(u64, &[u128])],
-) -> Result<Done, AllocError> {
-    let inputs = values(alloc, rt, parts)?;
+fn executed(rt: &impl Abort, alloc: Global, plan: Plan, parts: &[Part]) -> Done {
+    let inputs = values(rt, alloc, parts);
     let order = Order::new(RowId(7), Edition(9), plan, inputs).expect(rt, "the inputs fit");
-    match execute(alloc, order) {
-        Ok(done) => Ok(done),
-        Err((_, error)) => Err(error),
+    execute(alloc, order).ok().expect(rt, "there is memory")
+}
+
+/// Whether a result is of the row 7 with the edition 9.
+fn is_of_row(order: &Order) -> bool {
+    order.id() == RowId(7) && order.edition() == Edition(9)
+}
+
+/// Whether a value has just these numbers.
+fn holds(value: &FieldValue, numbers: &[u128]) -> bool {
+    match value.numbers() {
+        Ok(found) => found.as_slice() == numbers,
+        Err(_) => false,
     }
 }
 
-/// What a result holds at a key.
-fn numbers_at(rt: &impl Abort, done: &Done, key: Key) -> Result<Vec<u128>, AllocError> {
-    assert!(rt; has_key(done.order().plan().writes(), key));
-    done.value(&key).numbers()
+/// Whether a result has these numbers at a key, which its plan writes.
+fn is_left(done: &Done, key: Key, numbers: &[u128]) -> bool {
+    has_key(done.order().plan().writes(), key) && holds(done.value(&key), numbers)
 }
 
 fn same_values(values: &[FieldValue], others: &[FieldValue]) -> bool {
@@ -108,27 +83,33 @@ fn same_outcomes(outcome: &Outcome, other: &Outcome) -> bool {
     }
 }
 
-/// What a sum or a constant leaves in `c`, and what a sum leaves in its two flags.
-fn destination(rt: &impl Abort, done: &Done) -> Result<Vec<u128>, AllocError> {
-    numbers_at(rt, done, Key::Field(FieldNo::new(2)))
+/// An order, as a table has it: its instruction, the width of the fields, how many processors there are, its inputs, and what it
+/// leaves at some keys.
+struct Case {
+    instr: Text,
+    width: u64,
+    count: u64,
+    inputs: &'static [Part],
+    left: &'static [(Place, &'static [u128])],
 }
 
-fn carry(rt: &impl Abort, done: &Done) -> Result<Vec<u128>, AllocError> {
-    numbers_at(rt, done, Key::Flag(SetNo::new(0), FlagName::Carry))
-}
-
-fn overflow(rt: &impl Abort, done: &Done) -> Result<Vec<u128>, AllocError> {
-    numbers_at(rt, done, Key::Flag(SetNo::new(0), FlagName::Overflow))
+/// An order leaves what is wanted, and its result is of its row.
+fn leaves(rt: &impl Abort, alloc: Global, case: &Case) {
+    let plan = plan_of(rt, alloc, case.instr, case.width, case.count);
+    let done = executed(rt, alloc, plan, case.inputs);
+    assert!(rt; is_of_row(done.order()));
+    for (place, numbers) in case.left {
+        assert!(rt; is_left(&done, key(rt, *place), *numbers));
+    }
 }
 
 #[test]
-fn a_sum_sets_its_flags(rt: HostRuntime) -> Result<(), Fail> {
-    let plan = plan_of_sum(rt.alloc(), &rt, 8, 8, 4)?;
-    let done = executed(
-        rt.alloc(),
-        &rt,
-        plan,
-        &[
+fn a_sum_sets_its_flags(rt: HostRuntime) {
+    const CASE: Case = Case {
+        instr: b"u-add-3-1L c a b 8",
+        width: 8,
+        count: 4,
+        inputs: &[
             (8, &[10, 20, 30, 250]),
             (8, &[1, 2, 3, 10]),
             (8, &[0, 0, 0, 0]),
@@ -136,29 +117,22 @@ fn a_sum_sets_its_flags(rt: HostRuntime) -> Result<(), Fail> {
             (1, &[0, 0, 0, 0]),
             (1, &[0, 0, 0, 0]),
         ],
-    )?;
-    assert_eq!(rt;
-        destination(&rt, &done)?.as_slice(),
-        [11u128, 22, 33, 4].as_slice()
-    );
-    assert_eq!(rt; carry(&rt, &done)?.as_slice(), [0u128, 0, 0, 1].as_slice());
-    assert_eq!(rt;
-        overflow(&rt, &done)?.as_slice(),
-        [0u128, 0, 0, 1].as_slice()
-    );
-    assert!(rt; done.order().id() == RowId(7));
-    assert!(rt; done.order().edition() == Edition(9));
-    Ok(())
+        left: &[
+            (Field(2), &[11, 22, 33, 4]),
+            (Flag(0, Carry), &[0, 0, 0, 1]),
+            (Flag(0, Overflow), &[0, 0, 0, 1]),
+        ],
+    };
+    leaves(&rt, rt.alloc(), &CASE);
 }
 
 #[test]
-fn unselected_processors_keep_what_they_have(rt: HostRuntime) -> Result<(), Fail> {
-    let plan = plan_of_sum(rt.alloc(), &rt, 8, 8, 4)?;
-    let done = executed(
-        rt.alloc(),
-        &rt,
-        plan,
-        &[
+fn unselected_processors_keep_what_they_have(rt: HostRuntime) {
+    const CASE: Case = Case {
+        instr: b"u-add-3-1L c a b 8",
+        width: 8,
+        count: 4,
+        inputs: &[
             (8, &[255, 255, 1, 1]),
             (8, &[1, 1, 1, 1]),
             (8, &[9, 9, 9, 9]),
@@ -166,27 +140,22 @@ fn unselected_processors_keep_what_they_have(rt: HostRuntime) -> Result<(), Fail
             (1, &[0, 1, 0, 1]),
             (1, &[0, 1, 0, 1]),
         ],
-    )?;
-    assert_eq!(rt;
-        destination(&rt, &done)?.as_slice(),
-        [0u128, 9, 2, 2].as_slice()
-    );
-    assert_eq!(rt; carry(&rt, &done)?.as_slice(), [1u128, 1, 0, 0].as_slice());
-    assert_eq!(rt;
-        overflow(&rt, &done)?.as_slice(),
-        [1u128, 1, 0, 0].as_slice()
-    );
-    Ok(())
+        left: &[
+            (Field(2), &[0, 9, 2, 2]),
+            (Flag(0, Carry), &[1, 1, 0, 0]),
+            (Flag(0, Overflow), &[1, 1, 0, 0]),
+        ],
+    };
+    leaves(&rt, rt.alloc(), &CASE);
 }
 
 #[test]
-fn a_sum_of_64_bits_wraps(rt: HostRuntime) -> Result<(), Fail> {
-    let plan = plan_of_sum(rt.alloc(), &rt, 64, 64, 1)?;
-    let done = executed(
-        rt.alloc(),
-        &rt,
-        plan,
-        &[
+fn a_sum_of_64_bits_wraps(rt: HostRuntime) {
+    const CASE: Case = Case {
+        instr: b"u-add-3-1L c a b 64",
+        width: 64,
+        count: 1,
+        inputs: &[
             (64, &[18_446_744_073_709_551_615]),
             (64, &[1]),
             (64, &[5]),
@@ -194,21 +163,22 @@ fn a_sum_of_64_bits_wraps(rt: HostRuntime) -> Result<(), Fail> {
             (1, &[0]),
             (1, &[0]),
         ],
-    )?;
-    assert_eq!(rt; destination(&rt, &done)?.as_slice(), [0u128].as_slice());
-    assert_eq!(rt; carry(&rt, &done)?.as_slice(), [1u128].as_slice());
-    assert_eq!(rt; overflow(&rt, &done)?.as_slice(), [1u128].as_slice());
-    Ok(())
+        left: &[
+            (Field(2), &[0]),
+            (Flag(0, Carry), &[1]),
+            (Flag(0, Overflow), &[1]),
+        ],
+    };
+    leaves(&rt, rt.alloc(), &CASE);
 }
 
 #[test]
-fn a_store_keeps_the_bits_above_its_length(rt: HostRuntime) -> Result<(), Fail> {
-    let plan = plan_of_sum(rt.alloc(), &rt, 4, 8, 1)?;
-    let done = executed(
-        rt.alloc(),
-        &rt,
-        plan,
-        &[
+fn a_store_keeps_the_bits_above_its_length(rt: HostRuntime) {
+    const SUM: Case = Case {
+        instr: b"u-add-3-1L c a b 4",
+        width: 8,
+        count: 1,
+        inputs: &[
             (8, &[0xf9]),
             (8, &[0x38]),
             (8, &[0xab]),
@@ -216,66 +186,93 @@ fn a_store_keeps_the_bits_above_its_length(rt: HostRuntime) -> Result<(), Fail> 
             (1, &[0]),
             (1, &[0]),
         ],
-    )?;
-    assert_eq!(rt; destination(&rt, &done)?.as_slice(), [0xa1u128].as_slice());
-    assert_eq!(rt; carry(&rt, &done)?.as_slice(), [1u128].as_slice());
-
-    let plan = plan_of_constant(rt.alloc(), &rt, 5, 4, 8, 2)?;
-    let done = executed(rt.alloc(), &rt, plan, &[(8, &[0xab, 0xab]), (1, &[0, 1])])?;
-    assert_eq!(rt;
-        destination(&rt, &done)?.as_slice(),
-        [0xabu128, 0xa5].as_slice()
-    );
-    Ok(())
+        left: &[(Field(2), &[0xa1]), (Flag(0, Carry), &[1])],
+    };
+    const CONSTANT: Case = Case {
+        instr: b"u-move-constant-1L c 5 4",
+        width: 8,
+        count: 2,
+        inputs: &[(8, &[0xab, 0xab]), (1, &[0, 1])],
+        left: &[(Field(2), &[0xab, 0xa5])],
+    };
+    leaves(&rt, rt.alloc(), &SUM);
+    leaves(&rt, rt.alloc(), &CONSTANT);
 }
 
 /// Whether these are the inputs of an order of `u-move-constant-1L c 5 4`, of 8 bits and 2 processors.
-fn is_order(alloc: Global, rt: &impl Abort, parts: &[(u64, &[u128])]) -> Result<bool, Fault> {
-    let plan = plan_of_constant(alloc, rt, 5, 4, 8, 2)?;
-    let Ok(inputs) = values(alloc, rt, parts) else {
-        return Err(Fault::NoMemory);
-    };
-    Ok(Order::new(RowId(1), Edition(1), plan, inputs).is_some())
+fn is_order(rt: &impl Abort, alloc: Global, parts: &[Part]) -> bool {
+    let plan = plan_of(rt, alloc, b"u-move-constant-1L c 5 4", 8, 2);
+    Order::new(RowId(1), Edition(1), plan, values(rt, alloc, parts)).is_some()
 }
 
 #[test]
-fn an_order_has_an_input_for_each_key(rt: HostRuntime) -> Result<(), Fail> {
-    assert!(rt; is_order(rt.alloc(), &rt, &[(8, &[1, 2]), (1, &[0, 1])])?);
-    assert!(rt; !is_order(rt.alloc(), &rt, &[(8, &[1, 2])])?);
-    assert!(rt; !is_order(rt.alloc(), &rt, &[])?);
-    assert!(rt; !is_order(rt.alloc(), &rt, &[(8, &[1, 2]), (1, &[0, 1]), (1, &[0, 1])])?);
-    assert!(rt; !is_order(rt.alloc(), &rt, &[(1, &[0, 1]), (8, &[1, 2])])?);
-    assert!(rt; !is_order(rt.alloc(), &rt, &[(7, &[1, 2]), (1, &[0, 1])])?);
-    assert!(rt; !is_order(rt.alloc(), &rt, &[(8, &[1, 2]), (2, &[0, 1])])?);
-    assert!(rt; !is_order(rt.alloc(), &rt, &[(8, &[1]), (1, &[0, 1])])?);
-    assert!(rt; !is_order(rt.alloc(), &rt, &[(8, &[1, 2]), (1, &[0, 1, 1])])?);
-    Ok(())
+fn an_order_has_an_input_for_each_key(rt: HostRuntime) {
+    const CASES: &[(&'static [Part], bool)] = &[
+        (&[(8, &[1, 2]), (1, &[0, 1])], true),
+        (&[(8, &[1, 2])], false),
+        (&[], false),
+        (&[(8, &[1, 2]), (1, &[0, 1]), (1, &[0, 1])], false),
+        (&[(1, &[0, 1]), (8, &[1, 2])], false),
+        (&[(7, &[1, 2]), (1, &[0, 1])], false),
+        (&[(8, &[1, 2]), (2, &[0, 1])], false),
+        (&[(8, &[1]), (1, &[0, 1])], false),
+        (&[(8, &[1, 2]), (1, &[0, 1, 1])], false),
+    ];
+    for (parts, wanted) in CASES {
+        assert!(rt; is_order(&rt, rt.alloc(), *parts) == *wanted);
+    }
+}
+
+/// Whether an order is that of row 7 with the edition 9, and has the plan and the inputs of another.
+fn is_copy(copy: &Order, order: &Order) -> bool {
+    is_of_row(copy)
+        && copy.plan().equals(order.plan())
+        && same_values(copy.inputs(), order.inputs())
+}
+
+/// Whether a copy of an order is made.
+fn is_copied(order: &Order) -> bool {
+    match order.copy() {
+        Ok(copy) => is_copy(&copy, order),
+        Err(_) => false,
+    }
+}
+
+/// Whether a copy of a result is made, which has the same outcome.
+fn has_copy(done: &Done) -> bool {
+    match done.copy() {
+        Ok(copy) => same_outcomes(copy.outcome(), done.outcome()),
+        Err(_) => false,
+    }
 }
 
 #[test]
-fn copies_are_equal(rt: HostRuntime) -> Result<(), Fail> {
-    let plan = plan_of_constant(rt.alloc(), &rt, 5, 4, 8, 2)?;
-    let done = executed(rt.alloc(), &rt, plan, &[(8, &[0xab, 0xab]), (1, &[0, 1])])?;
-    let copy = done.copy()?;
-    assert!(rt; same_outcomes(copy.outcome(), done.outcome()));
-    let order = done.order().copy()?;
-    assert!(rt; order.id() == RowId(7));
-    assert!(rt; order.edition() == Edition(9));
-    assert!(rt; order.plan().equals(done.order().plan()));
-    assert!(rt; same_values(order.inputs(), done.order().inputs()));
-    Ok(())
+fn copies_are_equal(rt: HostRuntime) {
+    const INPUTS: &[Part] = &[(8, &[0xab, 0xab]), (1, &[0, 1])];
+    let plan = plan_of(&rt, rt.alloc(), b"u-move-constant-1L c 5 4", 8, 2);
+    let done = executed(&rt, rt.alloc(), plan, INPUTS);
+    assert!(rt; has_copy(&done));
+    assert!(rt; is_copied(done.order()));
+}
+
+/// Whether a value has 3 bits, and the numbers 7 and 0.
+fn is_three(value: &FieldValue) -> bool {
+    value.width() == 3 && value.len() == 2 && value.get(0) == 7 && holds(value, &[7, 0])
+}
+
+/// Whether a value equals another.
+fn is_same(rt: &impl Abort, alloc: Global, three: &FieldValue, other: Part) -> bool {
+    three.equals(&value(rt, alloc, other))
 }
 
 #[test]
-fn a_value_holds_its_numbers(rt: HostRuntime) -> Result<(), Fail> {
-    let three = value(rt.alloc(), &rt, 3, &[7, 0])?;
-    assert_eq!(rt; three.width(), 3);
-    assert_eq!(rt; three.len(), 2);
-    assert_eq!(rt; three.get(0), 7);
-    assert_eq!(rt; three.numbers()?.as_slice(), [7u128, 0].as_slice());
-    assert!(rt; three.equals(&three.copy()?));
-    assert!(rt; !three.equals(&value(rt.alloc(), &rt, 4, &[7, 0])?));
-    assert!(rt; !three.equals(&value(rt.alloc(), &rt, 3, &[7, 1])?));
-    assert!(rt; !three.equals(&value(rt.alloc(), &rt, 3, &[7])?));
-    Ok(())
+fn a_value_holds_its_numbers(rt: HostRuntime) {
+    const OTHERS: &[Part] = &[(4, &[7, 0]), (3, &[7, 1]), (3, &[7])];
+    let three = value(&rt, rt.alloc(), (3, &[7, 0]));
+    assert!(rt; is_three(&three));
+    let copy = three.copy().ok().expect(&rt, "there is memory");
+    assert!(rt; three.equals(&copy));
+    for other in OTHERS {
+        assert!(rt; !is_same(&rt, rt.alloc(), &three, *other));
+    }
 }

@@ -1,14 +1,15 @@
+use crate::common::Place::{Field, Flag};
 use crate::common::*;
 use paris_board::Board;
-use paris_instr::{Instr, resolve};
+use paris_instr::{Plan, resolve};
 use paris_model::{Action, Conditional, Operand};
-use paris_names::{Fault, FieldNo, FlagName, Key, SetNo};
+use paris_names::FlagName::{Carry, Context, Overflow};
+use paris_names::{Fault, FieldNo, SetNo};
 use std::alloc::Global;
 use std::process::Abort;
-use std::test::*;
 
 /// The sets `t` of 2 processors with the field `d`, and `s` of 4 with the fields `a`, `b` and `c`. The fields have this width.
-fn board(alloc: Global, rt: &impl Abort, width: u64) -> Result<Board, Fault> {
+fn board(rt: &impl Abort, alloc: Global, width: u64) -> Board {
     let sets: [SetGiven<'_>; 2] = [(b"t", &[2]), (b"s", &[4])];
     let fields: [FieldGiven<'_>; 4] = [
         (b"a", b"s", width),
@@ -16,49 +17,81 @@ fn board(alloc: Global, rt: &impl Abort, width: u64) -> Result<Board, Fault> {
         (b"c", b"s", width),
         (b"d", b"t", width),
     ];
-    board_of(alloc, rt, &sets, &fields)
+    board_of(rt, alloc, &sets, &fields)
+}
+
+/// The plan of an instruction where the fields have this width.
+fn plan_of(rt: &impl Abort, alloc: Global, width: u64, text: &[u8]) -> Plan {
+    plan_on(rt, alloc, &board(rt, alloc, width), text)
+}
+
+/// Instructions are refused with these faults where the fields have this width.
+fn refuses(rt: &impl Abort, alloc: Global, width: u64, refused: &[(Text, Fault)]) {
+    are_refused(rt, alloc, &board(rt, alloc, width), refused);
+}
+
+/// The plan of an instruction, as a table has it: its text, the width of the fields, the set's number and the lengths of its
+/// axes, the keys that the plan reads and writes, and the widths of some keys.
+struct Case {
+    instr: Text,
+    width: u64,
+    set: u64,
+    lengths: &'static [u64],
+    reads: &'static [Place],
+    writes: &'static [Place],
+    widths: &'static [(Place, u64)],
+}
+
+/// Keys of a plan have these widths.
+fn has_widths(rt: &impl Abort, plan: &Plan, widths: &[(Place, u64)]) {
+    for (place, width) in widths {
+        assert!(rt; plan.width(key(rt, *place)) == *width);
+    }
+}
+
+/// An instruction has this plan.
+fn is_planned(rt: &impl Abort, alloc: Global, case: &Case) {
+    let plan = plan_of(rt, alloc, case.width, case.instr);
+    assert!(rt; plan.instr() == instr(rt, case.instr));
+    assert!(rt; plan.set().number() == case.set);
+    assert!(rt; plan.geometry().lengths() == case.lengths);
+    has_keys(rt, alloc, &plan, case.reads, case.writes);
+    has_widths(rt, &plan, case.widths);
 }
 
 #[test]
-fn a_sum_reads_and_writes_its_keys(rt: HostRuntime) -> Result<(), Fail> {
-    let board = board(rt.alloc(), &rt, 16)?;
-    let instr = sum(&rt, b"c", b"a", b"b", 8);
-    let plan = resolve(rt.alloc(), &board, instr)?;
-    let set = SetNo::new(1);
-    let (a, b, c) = (FieldNo::new(0), FieldNo::new(1), FieldNo::new(2));
-    let reads = [
-        Key::Field(a),
-        Key::Field(b),
-        Key::Field(c),
-        Key::Flag(set, FlagName::Context),
-        Key::Flag(set, FlagName::Carry),
-        Key::Flag(set, FlagName::Overflow),
-    ];
-    let writes = [
-        Key::Field(c),
-        Key::Flag(set, FlagName::Carry),
-        Key::Flag(set, FlagName::Overflow),
-    ];
-    assert_eq!(rt; plan.reads(), reads.as_slice());
-    assert_eq!(rt; plan.writes(), writes.as_slice());
-    assert_eq!(rt; plan.width(Key::Field(b)), 16);
-    assert_eq!(rt; plan.width(Key::Flag(set, FlagName::Carry)), 1);
-    assert!(rt; plan.instr() == instr);
-    assert!(rt; plan.set() == set);
-    assert_eq!(rt; plan.geometry().lengths(), [4u64].as_slice());
-    Ok(())
+fn a_sum_reads_and_writes_its_keys(rt: HostRuntime) {
+    const CASE: Case = Case {
+        instr: b"u-add-3-1L c a b 8",
+        width: 16,
+        set: 1,
+        lengths: &[4],
+        reads: &[
+            Field(0),
+            Field(1),
+            Field(2),
+            Flag(1, Context),
+            Flag(1, Carry),
+            Flag(1, Overflow),
+        ],
+        writes: &[Field(2), Flag(1, Carry), Flag(1, Overflow)],
+        widths: &[(Field(1), 16), (Flag(1, Carry), 1)],
+    };
+    is_planned(&rt, rt.alloc(), &CASE);
 }
 
 #[test]
-fn a_constant_reads_and_writes_its_keys(rt: HostRuntime) -> Result<(), Fail> {
-    let board = board(rt.alloc(), &rt, 8)?;
-    let plan = resolve(rt.alloc(), &board, constant(&rt, b"d", 255, 8))?;
-    let d = FieldNo::new(3);
-    let reads = [Key::Field(d), Key::Flag(SetNo::new(0), FlagName::Context)];
-    assert_eq!(rt; plan.reads(), reads.as_slice());
-    assert_eq!(rt; plan.writes(), [Key::Field(d)].as_slice());
-    assert_eq!(rt; plan.geometry().lengths(), [2u64].as_slice());
-    Ok(())
+fn a_constant_reads_and_writes_its_keys(rt: HostRuntime) {
+    const CASE: Case = Case {
+        instr: b"u-move-constant-1L d 255 8",
+        width: 8,
+        set: 0,
+        lengths: &[2],
+        reads: &[Field(3), Flag(0, Context)],
+        writes: &[Field(3)],
+        widths: &[],
+    };
+    is_planned(&rt, rt.alloc(), &CASE);
 }
 
 /// Whether an action puts a constant into the low bits of a field.
@@ -72,94 +105,99 @@ fn is_constant(action: Action<Operand, SetNo>, field: FieldNo, number: u128, bit
 }
 
 #[test]
-fn a_name_becomes_its_field(rt: HostRuntime) -> Result<(), Fail> {
-    let board = board(rt.alloc(), &rt, 8)?;
-    let plan = resolve(rt.alloc(), &board, constant(&rt, b"d", 255, 8))?;
+fn a_name_becomes_its_field(rt: HostRuntime) {
+    let plan = plan_of(&rt, rt.alloc(), 8, b"u-move-constant-1L d 255 8");
     assert!(rt; is_constant(plan.action(), FieldNo::new(3), 255, 8));
-    Ok(())
 }
 
 #[test]
-fn a_key_is_read_once(rt: HostRuntime) -> Result<(), Fail> {
-    let board = board(rt.alloc(), &rt, 8)?;
-    let plan = resolve(rt.alloc(), &board, sum(&rt, b"a", b"a", b"a", 1))?;
-    assert_eq!(rt; plan.reads().len(), 4);
-    assert_eq!(rt; plan.writes().len(), 3);
-    Ok(())
+fn a_key_is_read_once(rt: HostRuntime) {
+    let plan = plan_of(&rt, rt.alloc(), 8, b"u-add-3-1L a a a 1");
+    assert!(rt; plan.reads().len() == 4);
+    assert!(rt; plan.writes().len() == 3);
 }
 
 #[test]
-fn the_first_fault_of_a_sum_is_answered(rt: HostRuntime) -> Result<(), Fail> {
-    let board = board(rt.alloc(), &rt, 8)?;
-    let refused: [(&[u8], &[u8], &[u8], u64, Fault); 6] = [
-        (b"d", b"a", b"x", 0, Fault::NoField),
-        (b"s", b"a", b"b", 8, Fault::NoField),
-        (b"d", b"a", b"b", 0, Fault::WrongSet),
-        (b"a", b"b", b"d", 9, Fault::WrongSet),
-        (b"c", b"a", b"b", 0, Fault::BadLength),
-        (b"c", b"a", b"b", 9, Fault::BadLength),
+fn the_first_fault_of_a_sum_is_answered(rt: HostRuntime) {
+    const REFUSED: &[(Text, Fault)] = &[
+        (b"u-add-3-1L d a x 0", Fault::NoField),
+        (b"u-add-3-1L s a b 8", Fault::NoField),
+        (b"u-add-3-1L d a b 0", Fault::WrongSet),
+        (b"u-add-3-1L a b d 9", Fault::WrongSet),
+        (b"u-add-3-1L c a b 0", Fault::BadLength),
+        (b"u-add-3-1L c a b 9", Fault::BadLength),
     ];
-    for (to, left, right, length, fault) in refused {
-        let result = resolve(rt.alloc(), &board, sum(&rt, to, left, right, length));
-        assert!(rt; result.err() == Some(fault));
-    }
-    Ok(())
+    refuses(&rt, rt.alloc(), 8, REFUSED);
 }
 
 #[test]
-fn the_first_fault_of_a_constant_is_answered(rt: HostRuntime) -> Result<(), Fail> {
-    let board = board(rt.alloc(), &rt, 8)?;
-    let refused: [(&[u8], u128, u64, Fault); 6] = [
-        (b"x", 256, 9, Fault::NoField),
-        (b"c", 256, 0, Fault::BadLength),
-        (b"c", 512, 9, Fault::BadLength),
-        (b"c", 256, 8, Fault::BadOperand),
-        (b"c", 2, 1, Fault::BadOperand),
-        (b"c", 18_446_744_073_709_551_616, 8, Fault::BadOperand),
+fn the_first_fault_of_a_constant_is_answered(rt: HostRuntime) {
+    const REFUSED: &[(Text, Fault)] = &[
+        (b"u-move-constant-1L x 256 9", Fault::NoField),
+        (b"u-move-constant-1L c 256 0", Fault::BadLength),
+        (b"u-move-constant-1L c 512 9", Fault::BadLength),
+        (b"u-move-constant-1L c 256 8", Fault::BadOperand),
+        (b"u-move-constant-1L c 2 1", Fault::BadOperand),
+        (
+            b"u-move-constant-1L c 18446744073709551616 8",
+            Fault::BadOperand,
+        ),
     ];
-    for (to, value, length, fault) in refused {
-        let result = resolve(rt.alloc(), &board, constant(&rt, to, value, length));
-        assert!(rt; result.err() == Some(fault));
+    refuses(&rt, rt.alloc(), 8, REFUSED);
+}
+
+/// Instructions have plans where the fields have this width.
+fn are_planned(rt: &impl Abort, alloc: Global, width: u64, texts: &[Text]) {
+    let board = board(rt, alloc, width);
+    for text in texts {
+        assert!(rt; resolve(alloc, &board, instr(rt, *text)).is_ok());
     }
-    Ok(())
 }
 
 #[test]
-fn the_limits_are_met(rt: HostRuntime) -> Result<(), Fail> {
-    let board = board(rt.alloc(), &rt, 64)?;
-    assert!(rt; resolve(rt.alloc(), &board, sum(&rt, b"c", b"a", b"b", 64)).is_ok());
-    for (value, length) in [(0, 1), (1, 1), (255, 8), (18_446_744_073_709_551_615, 64)] {
-        let result = resolve(rt.alloc(), &board, constant(&rt, b"c", value, length));
-        assert!(rt; result.is_ok());
-    }
-    let above = constant(&rt, b"c", 18_446_744_073_709_551_616, 64);
-    assert!(rt; resolve(rt.alloc(), &board, above).err() == Some(Fault::BadOperand));
-    Ok(())
+fn the_limits_are_met(rt: HostRuntime) {
+    const PLANNED: &[Text] = &[
+        b"u-add-3-1L c a b 64",
+        b"u-move-constant-1L c 0 1",
+        b"u-move-constant-1L c 1 1",
+        b"u-move-constant-1L c 255 8",
+        b"u-move-constant-1L c 18446744073709551615 64",
+    ];
+    const REFUSED: &[(Text, Fault)] = &[(
+        b"u-move-constant-1L c 18446744073709551616 64",
+        Fault::BadOperand,
+    )];
+    are_planned(&rt, rt.alloc(), 64, PLANNED);
+    refuses(&rt, rt.alloc(), 64, REFUSED);
 }
 
 /// Whether the plans of `u-add-3-1L c a b 8` in fields of 8 bits and of an instruction in fields of a width are equal.
-fn is_same_plan(alloc: Global, rt: &impl Abort, instr: Instr, width: u64) -> Result<bool, Fault> {
-    let plan = resolve(alloc, &board(alloc, rt, 8)?, sum(rt, b"c", b"a", b"b", 8))?;
-    let other = resolve(alloc, &board(alloc, rt, width)?, instr)?;
-    Ok(plan.equals(&other))
+fn is_same_plan(rt: &impl Abort, alloc: Global, text: &[u8], width: u64) -> bool {
+    let plan = plan_of(rt, alloc, 8, b"u-add-3-1L c a b 8");
+    plan.equals(&plan_of(rt, alloc, width, text))
 }
 
 #[test]
-fn plans_are_equal_where_all_parts_are(rt: HostRuntime) -> Result<(), Fail> {
-    assert!(rt; is_same_plan(rt.alloc(), &rt, sum(&rt, b"c", b"a", b"b", 8), 8)?);
-    assert!(rt; !is_same_plan(rt.alloc(), &rt, sum(&rt, b"c", b"a", b"b", 7), 8)?);
-    assert!(rt; !is_same_plan(rt.alloc(), &rt, sum(&rt, b"c", b"b", b"a", 8), 8)?);
-    assert!(rt; !is_same_plan(rt.alloc(), &rt, sum(&rt, b"c", b"a", b"b", 8), 9)?);
-    Ok(())
+fn plans_are_equal_where_all_parts_are(rt: HostRuntime) {
+    const CASES: &[(Text, u64, bool)] = &[
+        (b"u-add-3-1L c a b 8", 8, true),
+        (b"u-add-3-1L c a b 7", 8, false),
+        (b"u-add-3-1L c b a 8", 8, false),
+        (b"u-add-3-1L c a b 8", 9, false),
+    ];
+    for (text, width, wanted) in CASES {
+        assert!(rt; is_same_plan(&rt, rt.alloc(), *text, *width) == *wanted);
+    }
+}
+
+/// Whether a plan equals another, and has the same keys.
+fn is_copy(plan: &Plan, copy: &Plan) -> bool {
+    plan.equals(copy) && copy.reads() == plan.reads() && copy.writes() == plan.writes()
 }
 
 #[test]
-fn a_copy_is_equal(rt: HostRuntime) -> Result<(), Fail> {
-    let board = board(rt.alloc(), &rt, 8)?;
-    let plan = resolve(rt.alloc(), &board, sum(&rt, b"c", b"a", b"b", 8))?;
-    let copy = plan.copy()?;
-    assert!(rt; plan.equals(&copy));
-    assert_eq!(rt; copy.reads(), plan.reads());
-    assert_eq!(rt; copy.writes(), plan.writes());
-    Ok(())
+fn a_copy_is_equal(rt: HostRuntime) {
+    let plan = plan_of(&rt, rt.alloc(), 8, b"u-add-3-1L c a b 8");
+    let copy = plan.copy().ok().expect(&rt, "there is memory");
+    assert!(rt; is_copy(&plan, &copy));
 }

@@ -1,107 +1,189 @@
-use paris_names::RowId;
+use crate::programs::Step::*;
+use paris_names::Spot::{After, End, Start};
+use paris_names::{RowId, Spot};
 use paris_program::Program;
-use std::alloc::{AllocError, Global};
-use std::test::*;
+use std::alloc::Global;
+use std::process::Abort;
 
-/// The ids of the rows, in program order.
-fn ids(alloc: Global, program: &Program<u64>) -> Result<Vec<u64>, AllocError> {
-    let mut ids = Vec::new(alloc);
-    for place in 0..program.len() {
-        let (id, _) = program.at(place);
-        ids.push(id.0)?;
-    }
-    Ok(ids)
+/// What is done with a program of numbers, as a table has it, and what must come of it. Rows are named by their ids.
+enum Step {
+    /// A row is put at a spot, and has this id.
+    Puts(Spot, u64, u64),
+    /// The row of this id is taken out, and had this number.
+    Deletes(u64, u64),
+    /// The row of this id gets another number, and had that one.
+    Replaces(u64, u64, u64),
+    /// The number at this place is raised by so much.
+    RaisesAt(usize, u64),
+    /// The number of the row of this id is raised by so much.
+    Raises(u64, u64),
+    /// The next row has this id.
+    HasNext(u64),
+    /// Just these rows are there, each with its id and its number.
+    Has(&'static [(u64, u64)]),
+    /// No row has this id.
+    HasNo(u64),
 }
+
+fn put_after(rt: &impl Abort, program: &mut Program<u64>, above: RowId, row: u64) -> RowId {
+    assert!(rt; program.next_id().0 < 100);
+    assert!(rt; program.place_of(above).is_some());
+    program
+        .insert_after(above, row)
+        .ok()
+        .expect(rt, "there is memory")
+}
+
+/// Puts a row at a spot, and answers its id.
+fn put(rt: &impl Abort, program: &mut Program<u64>, spot: Spot, row: u64) -> RowId {
+    assert!(rt; program.next_id().0 < 100);
+    match spot {
+        Spot::Start => program.insert_start(row).ok().expect(rt, "there is memory"),
+        Spot::After(above) => put_after(rt, program, above, row),
+        Spot::End => program.insert_end(row).ok().expect(rt, "there is memory"),
+    }
+}
+
+fn delete(rt: &impl Abort, program: &mut Program<u64>, id: u64) -> u64 {
+    assert!(rt; program.place_of(RowId(id)).is_some());
+    program.delete(RowId(id))
+}
+
+fn replace(rt: &impl Abort, program: &mut Program<u64>, id: u64, row: u64) -> u64 {
+    assert!(rt; program.place_of(RowId(id)).is_some());
+    program.replace(RowId(id), row)
+}
+
+fn raise_at(rt: &impl Abort, program: &mut Program<u64>, place: usize, number: u64) {
+    assert!(rt; place < program.len());
+    let row = program.at_mut(place);
+    *row = row.saturating_add(number);
+}
+
+/// Raises the number of a row, and answers whether there is one of this id.
+fn raise(program: &mut Program<u64>, id: u64, number: u64) -> bool {
+    match program.row_mut(RowId(id)) {
+        Some(row) => {
+            *row = row.saturating_add(number);
+            true
+        }
+        None => false,
+    }
+}
+
+/// Whether no row has this id.
+fn has_no(program: &mut Program<u64>, id: RowId) -> bool {
+    program.row(id).is_none() && program.place_of(id).is_none() && program.row_mut(id).is_none()
+}
+
+/// Whether the row of this id stands at this place and has this number.
+fn has_row(program: &Program<u64>, place: usize, id: RowId, row: &u64) -> bool {
+    place < program.len()
+        && program.at(place).0 == id
+        && program.place_of(id) == Some(place)
+        && program.row(id) == Some(row)
+}
+
+/// Whether just these rows are there.
+fn has_all(program: &Program<u64>, rows: &[(u64, u64)]) -> bool {
+    if program.len() != rows.len() || program.is_empty() != rows.is_empty() {
+        return false;
+    }
+    for (place, (id, row)) in rows.iter().enumerate() {
+        if !has_row(program, place, RowId(*id), row) {
+            return false;
+        }
+    }
+    true
+}
+
+fn plays_step(rt: &impl Abort, program: &mut Program<u64>, step: &Step) {
+    match *step {
+        Step::Puts(spot, row, id) => assert!(rt; put(rt, program, spot, row) == RowId(id)),
+        Step::Deletes(id, old) => assert!(rt; delete(rt, program, id) == old),
+        Step::Replaces(id, row, old) => assert!(rt; replace(rt, program, id, row) == old),
+        Step::RaisesAt(place, number) => raise_at(rt, program, place, number),
+        Step::Raises(id, number) => assert!(rt; raise(program, id, number)),
+        Step::HasNext(id) => assert!(rt; program.next_id() == RowId(id)),
+        Step::Has(rows) => assert!(rt; has_all(program, rows)),
+        Step::HasNo(id) => assert!(rt; has_no(program, RowId(id))),
+    }
+}
+
+fn plays_all(rt: &impl Abort, program: &mut Program<u64>, steps: &[Step]) {
+    for step in steps {
+        plays_step(rt, program, step);
+    }
+}
+
+/// Plays the steps of a beginning in a new program, and then further steps.
+fn plays(rt: &impl Abort, alloc: Global, beginning: &[Step], steps: &[Step]) {
+    let mut program = Program::new(alloc);
+    plays_all(rt, &mut program, beginning);
+    plays_all(rt, &mut program, steps);
+}
+
+/// Two rows put at the end.
+const TWO_ROWS: &[Step] = &[Puts(End, 10, 1), Puts(End, 20, 2)];
 
 /// Rows put at the end, at the end, at the start, and after the first that was put.
-fn four_rows(alloc: Global) -> Result<Program<u64>, AllocError> {
-    let mut program = Program::new(alloc);
-    program.insert_end(10)?;
-    program.insert_end(20)?;
-    program.insert_start(30)?;
-    program.insert_after(RowId(1), 40)?;
-    Ok(program)
-}
+const FOUR_ROWS: &[Step] = &[
+    Puts(End, 10, 1),
+    Puts(End, 20, 2),
+    Puts(Start, 30, 3),
+    Puts(After(RowId(1)), 40, 4),
+];
 
 #[test]
 fn a_new_program_has_no_rows(rt: HostRuntime) {
     let program: Program<u64> = Program::new(rt.alloc());
     assert!(rt; program.is_empty());
-    assert_eq!(rt; program.next_id(), RowId(1));
+    assert!(rt; program.next_id() == RowId(1));
 }
 
 #[test]
-fn rows_go_where_they_are_put(rt: HostRuntime) -> Result<(), Fail> {
-    let program = four_rows(rt.alloc())?;
-    assert!(rt; !program.is_empty());
-    assert_eq!(rt;
-        ids(rt.alloc(), &program)?.as_slice(),
-        [3, 1, 4, 2].as_slice()
-    );
-    assert_eq!(rt; program.next_id(), RowId(5));
-    for (place, row) in [30, 10, 40, 20].iter().enumerate() {
-        let id = RowId([3, 1, 4, 2][place]);
-        assert_eq!(rt; program.place_of(id), Some(place));
-        assert_eq!(rt; program.row(id), Some(row));
-    }
-    Ok(())
+fn rows_go_where_they_are_put(rt: HostRuntime) {
+    const STEPS: &[Step] = &[Has(&[(3, 30), (1, 10), (4, 40), (2, 20)]), HasNext(5)];
+    plays(&rt, rt.alloc(), FOUR_ROWS, STEPS);
 }
 
 #[test]
-fn an_id_is_never_given_again(rt: HostRuntime) -> Result<(), Fail> {
-    let mut program = Program::new(rt.alloc());
-    program.insert_end(10)?;
-    assert_eq!(rt; program.delete(RowId(1)), 10);
-    assert!(rt; program.is_empty());
-    assert_eq!(rt; program.insert_end(20)?, RowId(2));
-    assert_eq!(rt; program.row(RowId(1)), None);
-    Ok(())
+fn an_id_is_never_given_again(rt: HostRuntime) {
+    const STEPS: &[Step] = &[
+        Puts(End, 10, 1),
+        Deletes(1, 10),
+        Has(&[]),
+        Puts(End, 20, 2),
+        HasNo(1),
+    ];
+    plays(&rt, rt.alloc(), &[], STEPS);
 }
 
 #[test]
-fn a_row_that_is_replaced_is_handed_out(rt: HostRuntime) -> Result<(), Fail> {
-    let mut program = Program::new(rt.alloc());
-    program.insert_end(10)?;
-    program.insert_end(20)?;
-    assert_eq!(rt; program.replace(RowId(1), 11), 10);
-    assert_eq!(rt; program.row(RowId(1)), Some(&11));
-    assert_eq!(rt; ids(rt.alloc(), &program)?.as_slice(), [1, 2].as_slice());
-    Ok(())
+fn a_row_that_is_replaced_is_handed_out(rt: HostRuntime) {
+    const STEPS: &[Step] = &[Replaces(1, 11, 10), Has(&[(1, 11), (2, 20)])];
+    plays(&rt, rt.alloc(), TWO_ROWS, STEPS);
 }
 
 #[test]
-fn a_row_that_is_not_there_is_not_found(rt: HostRuntime) -> Result<(), Fail> {
-    let mut program = four_rows(rt.alloc())?;
-    for id in [0, 5, u64::MAX] {
-        assert_eq!(rt; program.row(RowId(id)), None);
-        assert_eq!(rt; program.place_of(RowId(id)), None);
-        assert!(rt; program.row_mut(RowId(id)).is_none());
-    }
-    Ok(())
+fn a_row_that_is_not_there_is_not_found(rt: HostRuntime) {
+    const STEPS: &[Step] = &[HasNo(0), HasNo(5), HasNo(u64::MAX)];
+    plays(&rt, rt.alloc(), FOUR_ROWS, STEPS);
 }
 
 #[test]
-fn a_row_is_changed_in_place(rt: HostRuntime) -> Result<(), Fail> {
-    let mut program = Program::new(rt.alloc());
-    program.insert_end(10)?;
-    program.insert_end(20)?;
-    *program.at_mut(1) += 1;
-    if let Some(row) = program.row_mut(RowId(1)) {
-        *row += 2;
-    }
-    assert_eq!(rt; program.row(RowId(1)), Some(&12));
-    assert_eq!(rt; program.row(RowId(2)), Some(&21));
-    Ok(())
+fn a_row_is_changed_in_place(rt: HostRuntime) {
+    const STEPS: &[Step] = &[RaisesAt(1, 1), Raises(1, 2), Has(&[(1, 12), (2, 21)])];
+    plays(&rt, rt.alloc(), TWO_ROWS, STEPS);
 }
 
 #[test]
-fn room_is_made_for_a_row(rt: HostRuntime) -> Result<(), Fail> {
+fn room_is_made_for_a_row(rt: HostRuntime) {
     let mut program: Program<u64> = Program::new(rt.alloc());
-    program.room()?;
+    program.room().ok().expect(&rt, "there is memory");
     assert!(rt; program.is_empty());
     let Ok(id) = program.insert_start(10) else {
         unreachable!()
     };
-    assert_eq!(rt; id, RowId(1));
-    Ok(())
+    assert!(rt; id == RowId(1));
 }

@@ -1,0 +1,309 @@
+//! Tables of steps: what a user or a worker does with a book, and what must come of it.
+
+use crate::programs;
+use crate::spellings::*;
+use paris_book::{Book, Edit, EditReply, Event, Look, Reply, Verdict};
+use paris_exec::{Done, Order, execute};
+use paris_names::{Edition, Fault, Items, RowId, Spot};
+use std::alloc::{AllocError, Global};
+use std::process::Abort;
+use std::test::*;
+
+/// An edit, as a table has it.
+pub(crate) enum Change {
+    /// A set of this name is declared, with axes of these lengths.
+    Set(Text, &'static [u64]),
+    /// A field is declared: its name, its set, and its width.
+    Field(Text, Text, u64),
+    /// A key is given these numbers, from a processor on.
+    Input(Text, u64, &'static [u128]),
+    /// An instruction is put in after the last row.
+    Append(Text),
+}
+
+/// What a user or a worker does with a book, and what must come of it.
+pub(crate) enum Step {
+    /// An edit is accepted.
+    Accepts(Change),
+    /// An instruction is put in at a spot, and becomes the row of this id.
+    Inserts(Spot, Text, u64),
+    /// An edit is refused with this fault, and leaves the count of edits as it was.
+    Refuses(Change, Fault),
+    /// An order is taken, which is for the row of this id with this edition. Its result is kept in hand.
+    Takes(u64, u64),
+    /// An order is taken, which is for the row of this id with this edition, and is lost.
+    Loses(u64, u64),
+    /// No order is ready.
+    TakesNothing,
+    /// A copy of the result in hand that was taken after that many others is brought, and is judged so.
+    Brings(usize, Verdict),
+    /// The orders that are out are given up.
+    Releases,
+    /// The orders that are out are given up by an event.
+    ReleasesByEvent,
+    /// The book is settled by so many orders.
+    Settles(u64),
+    /// What is shown of a key at the end of the program is settled, and these numbers.
+    Shows(Text, &'static [u128]),
+    /// A key is pending at the end of the program, for the row of this id.
+    Waits(Text, u64),
+    /// Just so many edits were accepted.
+    HasEdits(u64),
+    /// Just so many rows aren't settled.
+    HasUnsettled(usize),
+    /// No settled row is refused.
+    HasNoFaults,
+    /// A fault has this number.
+    HasNumber(Fault, u64),
+}
+
+pub(crate) fn edit_of(rt: &impl Abort, alloc: Global, change: &Change) -> Result<Edit, AllocError> {
+    match change {
+        Change::Set(text, axes) => {
+            let axes = Items::new(Vec::from_slice(alloc, *axes)?);
+            Ok(Edit::AddSet(name(rt, *text), axes))
+        }
+        Change::Field(text, set, width) => {
+            Ok(Edit::AddField(name(rt, *text), name(rt, *set), *width))
+        }
+        Change::Input(text, from, numbers) => {
+            let values = Items::new(Vec::from_slice(alloc, *numbers)?);
+            Ok(Edit::Input(key(rt, *text), *from, values))
+        }
+        Change::Append(text) => Ok(Edit::Insert(Spot::End, instr_of(rt, *text))),
+    }
+}
+
+fn accepts(rt: &impl Abort, alloc: Global, book: &mut Book, change: &Change) -> Result<(), Fail> {
+    programs::accept(rt, book, edit_of(rt, alloc, change)?);
+    Ok(())
+}
+
+fn inserts(rt: &impl Abort, book: &mut Book, spot: Spot, text: &[u8], id: u64) -> Result<(), Fail> {
+    let answer = book.edit(Edit::Insert(spot, instr_of(rt, text)));
+    assert_eq!(rt; answer, Ok(EditReply::Row(RowId(id))));
+    Ok(())
+}
+
+fn refuses(
+    rt: &impl Abort,
+    alloc: Global,
+    book: &mut Book,
+    change: &Change,
+    fault: Fault,
+) -> Result<(), Fail> {
+    let count = book.edits();
+    let answer = book.edit(edit_of(rt, alloc, change)?);
+    assert_eq!(rt; answer, Err(fault));
+    has_edits(rt, book, count)
+}
+
+/// The result of an order.
+pub(crate) fn run(rt: &impl Abort, alloc: Global, order: Order) -> Result<Done, Fail> {
+    Ok(execute(alloc, order).ok().expect(rt, "there is memory"))
+}
+
+/// The book's next order, which is for the row of this id with this edition.
+fn take(rt: &impl Abort, book: &mut Book, id: u64, edition: u64) -> Result<Order, Fail> {
+    let order = book.take()?.expect(rt, "a row is ready");
+    assert!(rt; order.id() == RowId(id) && order.edition() == Edition(edition));
+    Ok(order)
+}
+
+fn takes(
+    rt: &impl Abort,
+    alloc: Global,
+    book: &mut Book,
+    hand: &mut Vec<Done>,
+    id: u64,
+    edition: u64,
+) -> Result<(), Fail> {
+    let order = take(rt, book, id, edition)?;
+    hand.push(run(rt, alloc, order)?)?;
+    Ok(())
+}
+
+fn loses(rt: &impl Abort, book: &mut Book, id: u64, edition: u64) -> Result<(), Fail> {
+    let _lost = take(rt, book, id, edition)?;
+    Ok(())
+}
+
+fn takes_nothing(rt: &impl Abort, book: &mut Book) -> Result<(), Fail> {
+    assert!(rt; book.take()?.is_none());
+    Ok(())
+}
+
+fn brings(
+    rt: &impl Abort,
+    book: &mut Book,
+    hand: &[Done],
+    number: usize,
+    verdict: Verdict,
+) -> Result<(), Fail> {
+    let done = hand.get(number).expect(rt, "it is in hand");
+    assert_eq!(rt; book.bring(done.copy()?), verdict);
+    Ok(())
+}
+
+fn releases(book: &mut Book) -> Result<(), Fail> {
+    book.release();
+    Ok(())
+}
+
+fn releases_by_event(rt: &impl Abort, book: &mut Book) -> Result<(), Fail> {
+    match book.step(Event::Release) {
+        Ok(Reply::Release) => {}
+        _ => assert!(rt; false),
+    }
+    Ok(())
+}
+
+fn settles(rt: &impl Abort, book: &mut Book, count: u64) -> Result<(), Fail> {
+    assert_eq!(rt; book.settle(), Ok(count));
+    has_unsettled(rt, book, 0)
+}
+
+fn shows(rt: &impl Abort, book: &Book, text: &[u8], wanted: &[u128]) -> Result<(), Fail> {
+    programs::shows(rt, book, text, wanted)?;
+    Ok(())
+}
+
+fn waits(rt: &impl Abort, book: &Book, text: &[u8], id: u64) -> Result<(), Fail> {
+    match book.show(key(rt, text), Spot::End)? {
+        Look::Settled(_) => assert!(rt; false),
+        Look::Pending(row) => assert_eq!(rt; row, RowId(id)),
+    }
+    Ok(())
+}
+
+fn has_edits(rt: &impl Abort, book: &Book, count: u64) -> Result<(), Fail> {
+    assert_eq!(rt; book.edits(), count);
+    Ok(())
+}
+
+fn has_unsettled(rt: &impl Abort, book: &Book, count: usize) -> Result<(), Fail> {
+    assert_eq!(rt; book.unsettled_count(), count);
+    Ok(())
+}
+
+fn has_no_faults(rt: &impl Abort, book: &Book) -> Result<(), Fail> {
+    programs::refuses(rt, book, &[])?;
+    Ok(())
+}
+
+fn has_number(rt: &impl Abort, fault: Fault, number: u64) -> Result<(), Fail> {
+    assert_eq!(rt; fault.number(), number);
+    Ok(())
+}
+
+fn plays_step(
+    rt: &impl Abort,
+    alloc: Global,
+    book: &mut Book,
+    hand: &mut Vec<Done>,
+    step: &Step,
+) -> Result<(), Fail> {
+    match step {
+        Step::Accepts(change) => accepts(rt, alloc, book, change),
+        Step::Inserts(spot, text, id) => inserts(rt, book, *spot, *text, *id),
+        Step::Refuses(change, fault) => refuses(rt, alloc, book, change, *fault),
+        Step::Takes(id, edition) => takes(rt, alloc, book, hand, *id, *edition),
+        Step::Loses(id, edition) => loses(rt, book, *id, *edition),
+        Step::TakesNothing => takes_nothing(rt, book),
+        Step::Brings(number, verdict) => brings(rt, book, hand.as_slice(), *number, *verdict),
+        Step::Releases => releases(book),
+        Step::ReleasesByEvent => releases_by_event(rt, book),
+        Step::Settles(count) => settles(rt, book, *count),
+        Step::Shows(text, numbers) => shows(rt, book, *text, *numbers),
+        Step::Waits(text, id) => waits(rt, book, *text, *id),
+        Step::HasEdits(count) => has_edits(rt, book, *count),
+        Step::HasUnsettled(count) => has_unsettled(rt, book, *count),
+        Step::HasNoFaults => has_no_faults(rt, book),
+        Step::HasNumber(fault, number) => has_number(rt, *fault, *number),
+    }
+}
+
+/// Plays steps in a book, with these results in hand. There are some steps.
+fn plays_all(
+    rt: &impl Abort,
+    alloc: Global,
+    book: &mut Book,
+    hand: &mut Vec<Done>,
+    steps: &[Step],
+) -> Result<(), Fail> {
+    assert!(rt; !steps.is_empty());
+    for step in steps {
+        plays_step(rt, alloc, book, hand, step)?;
+    }
+    Ok(())
+}
+
+/// Plays steps in a book, with nothing in hand.
+pub(crate) fn plays_in(
+    rt: &impl Abort,
+    alloc: Global,
+    book: &mut Book,
+    steps: &[Step],
+) -> Result<(), Fail> {
+    let mut hand = Vec::new(alloc);
+    plays_all(rt, alloc, book, &mut hand, steps)
+}
+
+/// Plays steps in a new book, with these results in hand.
+fn plays_in_new(
+    rt: &impl Abort,
+    alloc: Global,
+    hand: &mut Vec<Done>,
+    steps: &[Step],
+) -> Result<(), Fail> {
+    let mut book = Book::new(alloc);
+    plays_all(rt, alloc, &mut book, hand, steps)
+}
+
+/// Plays the steps of a beginning in a book, and then further steps.
+fn plays_both(
+    rt: &impl Abort,
+    alloc: Global,
+    book: &mut Book,
+    hand: &mut Vec<Done>,
+    beginning: &[Step],
+    steps: &[Step],
+) -> Result<(), Fail> {
+    plays_all(rt, alloc, book, hand, beginning)?;
+    plays_all(rt, alloc, book, hand, steps)
+}
+
+fn plays_both_in_new(
+    rt: &impl Abort,
+    alloc: Global,
+    hand: &mut Vec<Done>,
+    beginning: &[Step],
+    steps: &[Step],
+) -> Result<(), Fail> {
+    let mut book = Book::new(alloc);
+    plays_both(rt, alloc, &mut book, hand, beginning, steps)
+}
+
+/// Plays the steps of a beginning in a new book, and then further steps.
+pub(crate) fn plays_after(
+    rt: &impl Abort,
+    alloc: Global,
+    beginning: &[Step],
+    steps: &[Step],
+) -> Result<(), Fail> {
+    let mut hand = Vec::new(alloc);
+    plays_both_in_new(rt, alloc, &mut hand, beginning, steps)
+}
+
+/// Plays steps in another book, whose results are then in hand, and after it those of a beginning and further ones in a new book.
+pub(crate) fn plays_after_another(
+    rt: &impl Abort,
+    alloc: Global,
+    others: &[Step],
+    beginning: &[Step],
+    steps: &[Step],
+) -> Result<(), Fail> {
+    let mut hand = Vec::new(alloc);
+    plays_in_new(rt, alloc, &mut hand, others)?;
+    plays_both_in_new(rt, alloc, &mut hand, beginning, steps)
+}
