@@ -95,26 +95,19 @@ pub(crate) fn unconditional_values(
             stepped(alloc, ContextStep::Invert, bits, bits)
         }
         Unconditional::AndContext(from) => {
+            let bits = flag_plane(order, &context);
             let operand = order.input(&Key::Field(from.field)).mask();
-            stepped(
-                alloc,
-                ContextStep::And,
-                flag_plane(order, &context),
-                operand,
-            )
+            stepped(alloc, ContextStep::And, bits, operand)
         }
         Unconditional::OrContext(from) => {
+            let bits = flag_plane(order, &context);
             let operand = order.input(&Key::Field(from.field)).mask();
-            stepped(alloc, ContextStep::Or, flag_plane(order, &context), operand)
+            stepped(alloc, ContextStep::Or, bits, operand)
         }
         Unconditional::AndContextWithTest(_) => {
+            let bits = flag_plane(order, &context);
             let operand = flag_plane(order, &FlagName::Test);
-            stepped(
-                alloc,
-                ContextStep::And,
-                flag_plane(order, &context),
-                operand,
-            )
+            stepped(alloc, ContextStep::And, bits, operand)
         }
     }
 }

@@ -1,6 +1,6 @@
 //! Instructions that store in selected processors, each by itself, on planes.
 
-ghost use Rattle.std.specs.Prelude.{◌≡◌, ◌≤◌, ◌<◌, ℕ, true, false, length, replicate, slice_index, List, [], ◌∷◌, IfOk, IfSome};
+ghost use Rattle.std.specs.Prelude.{◌≡◌, ◌≤◌, ◌<◌, ℕ, true, false, length, replicate, slice_index, nat_le, is_some, List, [], ◌∷◌, IfOk, IfSome};
 ghost use Rattle.paris_names.specs.Keys.{has_key};
 ghost use Rattle.paris_names.specs.declared.keys.FlagName.TheVariants.{Context, Carry, Overflow};
 ghost use Rattle.paris_names.specs.declared.keys.Key.TheVariants.{Field, Flag};
@@ -11,7 +11,7 @@ ghost use Rattle.paris_model.specs.Fits.{IsFit};
 ghost use Rattle.paris_model.specs.Instructions.{reads, key_width};
 ghost use Rattle.paris_alu.specs.Alu.{binary_field, carry_plane, overflow_plane};
 ghost use Rattle.paris_field.specs.Fields.{AllFit};
-ghost use Rattle.paris_exec.specs.Planes.{AreRead};
+ghost use Rattle.paris_exec.specs.Planes.{AreRead, is_sum, is_flagless, is_plane_operator, is_from_planes, is_own, is_of_test, is_plane_conditional};
 ghost use Rattle.paris_exec.specs.Tasks.{left_values, put_value, seen_at};
 
 use crate::orders::Order;
@@ -47,6 +47,7 @@ fn sum_of(
     ensures carry { IfOk result (λ sum. IfSome sum (λ sum. sum.carry ≡ carry_plane operator len x.now y.now (slice_index (seen_at order.now (Flag order.now.plan.set_no Carry))))) }
     ensures overflow { IfOk result (λ sum. IfSome sum (λ sum. sum.overflow ≡ overflow_plane operator len x.now y.now (slice_index (seen_at order.now (Flag order.now.plan.set_no Carry))))) }
     ensures flags { IfOk result (λ sum. IfSome sum (λ _. binary_flags operator ≡ Carry ∷ Overflow ∷ [])) }
+    ensures sums { IfOk result (λ sum. is_some sum ≡ is_sum operator) }
 {
     match operator {
         BinaryOperator::UnsignedAdd => Ok(Some(add(alloc, Sign::Unsigned, x, y, len)?)),
@@ -84,6 +85,7 @@ fn flagless(
     requires same { length x.now.numbers ≡ length y.now.numbers }
     ensures value { IfOk result (λ value. IfSome value (λ value. value ≡ binary_field operator len x.now y.now (λ _. 0))) }
     ensures flags { IfOk result (λ value. IfSome value (λ _. binary_flags operator ≡ [])) }
+    ensures flagless { IfOk result (λ value. is_some value ≡ is_flagless operator) }
 {
     let value = match operator {
         BinaryOperator::BitAnd => logic(alloc, BitOperator::And, x, y, len)?,
@@ -116,7 +118,8 @@ fn binary_values(
 ) -> Result<Option<Vec<FieldValue>>, AllocError>
     requires acts { order.now.plan.action ≡ Action.OnSelected (Conditional.Binary operator to.now left.now right.now len) }
     requires fit { IsFit order.now.plan.axes order.now.plan.action }
-    ensures { IfOk result (λ values. IfSome values (λ values. values.items ≡ left_values order.now)) }
+    ensures values { IfOk result (λ values. IfSome values (λ values. values.items ≡ left_values order.now)) }
+    ensures planes { IfOk result (λ values. is_some values ≡ is_plane_operator operator) }
 {
     let x = order.input(&Key::Field(left.field));
     let y = order.input(&Key::Field(right.field));
@@ -162,7 +165,8 @@ fn resized_values(
 ) -> Result<Option<Vec<FieldValue>>, AllocError>
     requires acts { order.now.plan.action ≡ Action.OnSelected (Conditional.Resize sign to.now from.now len from_len) }
     requires fit { IsFit order.now.plan.axes order.now.plan.action }
-    ensures { IfOk result (λ values. IfSome values (λ values. values.items ≡ left_values order.now)) }
+    ensures values { IfOk result (λ values. IfSome values (λ values. values.items ≡ left_values order.now)) }
+    ensures planes { IfOk result (λ values. is_some values ≡ nat_le from_len (key_width order.now.plan (Field from.now.field))) }
 {
     let x = order.input(&Key::Field(from.field));
     if from_len > x.width() {
@@ -257,7 +261,8 @@ fn source_values(
 ) -> Result<Option<Vec<FieldValue>>, AllocError>
     requires acts { order.now.plan.action ≡ Action.OnSelected i.now }
     requires fit { IsFit order.now.plan.axes order.now.plan.action }
-    ensures { IfOk result (λ values. IfSome values (λ values. values.items ≡ left_values order.now)) }
+    ensures values { IfOk result (λ values. IfSome values (λ values. values.items ≡ left_values order.now)) }
+    ensures planes { IfOk result (λ values. is_some values ≡ is_from_planes order.now.plan i.now) }
 {
     match i {
         Conditional::Binary {
@@ -298,7 +303,8 @@ fn own_values(
 ) -> Result<Option<Vec<FieldValue>>, AllocError>
     requires acts { order.now.plan.action ≡ Action.OnSelected i.now }
     requires fit { IsFit order.now.plan.axes order.now.plan.action }
-    ensures { IfOk result (λ values. IfSome values (λ values. values.items ≡ left_values order.now)) }
+    ensures values { IfOk result (λ values. IfSome values (λ values. values.items ≡ left_values order.now)) }
+    ensures planes { IfOk result (λ values. is_some values ≡ is_own i.now) }
 {
     let geometry = order.plan().geometry();
     match i {
@@ -326,7 +332,8 @@ fn test_values(
 ) -> Result<Option<Vec<FieldValue>>, AllocError>
     requires acts { order.now.plan.action ≡ Action.OnSelected i.now }
     requires fit { IsFit order.now.plan.axes order.now.plan.action }
-    ensures { IfOk result (λ values. IfSome values (λ values. values.items ≡ left_values order.now)) }
+    ensures values { IfOk result (λ values. IfSome values (λ values. values.items ≡ left_values order.now)) }
+    ensures planes { IfOk result (λ values. is_some values ≡ is_of_test i.now) }
 {
     let vps = order.plan().geometry().vps();
     let test = FlagName::Test;
@@ -360,7 +367,8 @@ pub(crate) fn conditional_values(
 ) -> Result<Option<Vec<FieldValue>>, AllocError>
     requires acts { order.now.plan.action ≡ Action.OnSelected i.now }
     requires fit { IsFit order.now.plan.axes order.now.plan.action }
-    ensures { IfOk result (λ values. IfSome values (λ values. values.items ≡ left_values order.now)) }
+    ensures values { IfOk result (λ values. IfSome values (λ values. values.items ≡ left_values order.now)) }
+    ensures planes { IfOk result (λ values. is_some values ≡ is_plane_conditional order.now.plan i.now) }
 {
     if let Some(values) = source_values(alloc, order, i)? {
         return Ok(Some(values));

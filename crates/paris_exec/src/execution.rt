@@ -1,10 +1,11 @@
 //! Executing orders: it needs no book and no lock.
 
-ghost use Rattle.std.specs.Prelude.{◌≡◌, All, length, slice_index, IfOk, IfErr, IfSome, None, true};
+ghost use Rattle.std.specs.Prelude.{◌≡◌, All, length, slice_index, IfOk, IfErr, IfSome, is_some, None, true};
 ghost use Rattle.paris_model.specs.Instructions.{reads, refusal};
 ghost use Rattle.paris_field.specs.Fields.{FieldNumbers, AllFit};
 ghost use Rattle.paris_exec.specs.Tasks.{fields_of, fits, left_values, numbers_of, seen_at, task_outcome};
 ghost use Rattle.paris_exec.specs.Frames.{GivesInAnyWorld};
+ghost use Rattle.paris_exec.specs.Planes.{is_on_planes};
 ghost use Rattle.paris_exec.specs.Seen.{FitKeys, seen_by};
 
 use crate::contexts::unconditional_values;
@@ -80,6 +81,7 @@ fn outcome_of(alloc: Global, order: &Order) -> Result<Outcome, AllocError>
 fn values_on_planes(alloc: Global, order: &Order) -> Result<Option<Vec<FieldValue>>, AllocError>
     ensures values { IfOk result (λ values. IfSome values (λ values. values.items ≡ left_values order.now)) }
     ensures direct { IfOk result (λ values. IfSome values (λ _. refusal order.now.plan (seen_at order.now) ≡ None)) }
+    ensures planes { IfOk result (λ values. is_some values ≡ is_on_planes order.now.plan) }
 {
     match &order.plan().action() {
         Action::OnSelected(i) => conditional_values(alloc, order, i),

@@ -32,8 +32,8 @@ pub flag_plane-bits-requires : goal.flag_plane-bits-requires
 flag_plane-bits-requires c =
     all_source c.args.order.now (InvertContext c.in-InvertContext.field-0) (c.requires.acts ∙ ap OnAll c.in-InvertContext.is) (Flag c.args.order.now.plan.set_no Context) (first_key (Flag c.args.order.now.plan.set_no Context) [])
 
-pub flag_plane-requires-in-AndContext : goal.flag_plane-requires-in-AndContext
-flag_plane-requires-in-AndContext c =
+pub flag_plane-bits-requires-in-AndContext : goal.flag_plane-bits-requires-in-AndContext
+flag_plane-bits-requires-in-AndContext c =
     all_source c.args.order.now (AndContext c.in-AndContext.from) (c.requires.acts ∙ ap OnAll c.in-AndContext.is) (Flag c.args.order.now.plan.set_no Context) (first_key (Flag c.args.order.now.plan.set_no Context) [])
 
 pub input-requires-in-AndContext : goal.input-requires-in-AndContext
@@ -44,8 +44,8 @@ pub mask-operand-requires : goal.mask-operand-requires
 mask-operand-requires c =
     ap (λ (y : FieldNumbers). y.width) c.input-in-AndContext.ensures.value ∙ one_bit_alone c.args.order.now (AndContext c.in-AndContext.from) (c.requires.acts ∙ ap OnAll c.in-AndContext.is) c.in-AndContext.from refl c.requires.fit (bad_operand c.args.order.now (AndContext c.in-AndContext.from) (c.requires.acts ∙ ap OnAll c.in-AndContext.is) c.requires.fit)
 
-pub flag_plane-requires-in-OrContext : goal.flag_plane-requires-in-OrContext
-flag_plane-requires-in-OrContext c =
+pub flag_plane-bits-requires-in-OrContext : goal.flag_plane-bits-requires-in-OrContext
+flag_plane-bits-requires-in-OrContext c =
     all_source c.args.order.now (OrContext c.in-OrContext.from) (c.requires.acts ∙ ap OnAll c.in-OrContext.is) (Flag c.args.order.now.plan.set_no Context) (first_key (Flag c.args.order.now.plan.set_no Context) [])
 
 pub input-requires-in-OrContext : goal.input-requires-in-OrContext
@@ -56,8 +56,8 @@ pub mask-operand-requires-in-OrContext : goal.mask-operand-requires-in-OrContext
 mask-operand-requires-in-OrContext c =
     ap (λ (y : FieldNumbers). y.width) c.input-in-OrContext.ensures.value ∙ one_bit_alone c.args.order.now (OrContext c.in-OrContext.from) (c.requires.acts ∙ ap OnAll c.in-OrContext.is) c.in-OrContext.from refl c.requires.fit (bad_operand c.args.order.now (OrContext c.in-OrContext.from) (c.requires.acts ∙ ap OnAll c.in-OrContext.is) c.requires.fit)
 
-pub flag_plane-requires-in-AndContextWithTest : goal.flag_plane-requires-in-AndContextWithTest
-flag_plane-requires-in-AndContextWithTest c =
+pub flag_plane-bits-requires-in-AndContextWithTest : goal.flag_plane-bits-requires-in-AndContextWithTest
+flag_plane-bits-requires-in-AndContextWithTest c =
     all_source c.args.order.now (AndContextWithTest c.in-AndContextWithTest.field-0) (c.requires.acts ∙ ap OnAll c.in-AndContextWithTest.is) (Flag c.args.order.now.plan.set_no Context) (first_key (Flag c.args.order.now.plan.set_no Context) ((Flag c.args.order.now.plan.set_no Test) ∷ []))
 
 pub flag_plane-operand-requires : goal.flag_plane-operand-requires
@@ -81,7 +81,7 @@ returns-in_ok-copy-in-StoreContext c =
     ok_then _ _ c.bits_alone-in-StoreContext.result (λ values is. is ∙ store_left c.args.order.now c.flag_plane.result.now c.flag_plane.ensures.bits c.flag_plane.ensures.count c.in-StoreContext.field-0 (c.requires.acts ∙ ap OnAll c.in-StoreContext.is) (one_bit_alone c.args.order.now (StoreContext c.in-StoreContext.field-0) (c.requires.acts ∙ ap OnAll c.in-StoreContext.is) c.in-StoreContext.field-0 refl c.requires.fit (bad_operand c.args.order.now (StoreContext c.in-StoreContext.field-0) (c.requires.acts ∙ ap OnAll c.in-StoreContext.is) c.requires.fit)) c.in_ok-copy-in-StoreContext.field-0 c.in_ok-copy-in-StoreContext.ensures) c.bits_alone-in-StoreContext.ensures
 
 pub stepped-requires-in-AndContext : goal.stepped-requires-in-AndContext
-stepped-requires-in-AndContext c = c.flag_plane-in-AndContext.ensures.count ∙ sym (sym (length-map c.mask-operand.result.now bit) ∙ ap length c.mask-operand.ensures ∙ c.input-in-AndContext.ensures.count)
+stepped-requires-in-AndContext c = c.flag_plane-bits-in-AndContext.ensures.count ∙ sym (sym (length-map c.mask-operand.result.now bit) ∙ ap length c.mask-operand.ensures ∙ c.input-in-AndContext.ensures.count)
 
 pub returns-in-InvertContext : goal.returns-in-InvertContext
 returns-in-InvertContext c =
@@ -89,12 +89,12 @@ returns-in-InvertContext c =
 
 pub returns-in-AndContext : goal.returns-in-AndContext
 returns-in-AndContext c =
-    ok_then _ _ c.stepped-in-AndContext.result (λ values is. is ∙ and_left c.args.order.now c.flag_plane-in-AndContext.result.now c.flag_plane-in-AndContext.ensures.bits c.flag_plane-in-AndContext.ensures.count c.mask-operand.result.now (sym (length-map c.mask-operand.result.now bit) ∙ ap length c.mask-operand.ensures ∙ c.input-in-AndContext.ensures.count) c.in-AndContext.from (c.requires.acts ∙ ap OnAll c.in-AndContext.is) _ (c.mask-operand.ensures ∙ ap (λ (y : FieldNumbers). y.numbers) c.input-in-AndContext.ensures.value) refl) c.stepped-in-AndContext.ensures
+    ok_then _ _ c.stepped-in-AndContext.result (λ values is. is ∙ and_left c.args.order.now c.flag_plane-bits-in-AndContext.result.now c.flag_plane-bits-in-AndContext.ensures.bits c.flag_plane-bits-in-AndContext.ensures.count c.mask-operand.result.now (sym (length-map c.mask-operand.result.now bit) ∙ ap length c.mask-operand.ensures ∙ c.input-in-AndContext.ensures.count) c.in-AndContext.from (c.requires.acts ∙ ap OnAll c.in-AndContext.is) _ (c.mask-operand.ensures ∙ ap (λ (y : FieldNumbers). y.numbers) c.input-in-AndContext.ensures.value) refl) c.stepped-in-AndContext.ensures
 
 pub returns-in-OrContext : goal.returns-in-OrContext
 returns-in-OrContext c =
-    ok_then _ _ c.stepped-in-OrContext.result (λ values is. is ∙ or_left c.args.order.now c.flag_plane-in-OrContext.result.now c.flag_plane-in-OrContext.ensures.bits c.flag_plane-in-OrContext.ensures.count c.mask-operand-in-OrContext.result.now (sym (length-map c.mask-operand-in-OrContext.result.now bit) ∙ ap length c.mask-operand-in-OrContext.ensures ∙ c.input-in-OrContext.ensures.count) c.in-OrContext.from (c.requires.acts ∙ ap OnAll c.in-OrContext.is) _ (c.mask-operand-in-OrContext.ensures ∙ ap (λ (y : FieldNumbers). y.numbers) c.input-in-OrContext.ensures.value) refl) c.stepped-in-OrContext.ensures
+    ok_then _ _ c.stepped-in-OrContext.result (λ values is. is ∙ or_left c.args.order.now c.flag_plane-bits-in-OrContext.result.now c.flag_plane-bits-in-OrContext.ensures.bits c.flag_plane-bits-in-OrContext.ensures.count c.mask-operand-in-OrContext.result.now (sym (length-map c.mask-operand-in-OrContext.result.now bit) ∙ ap length c.mask-operand-in-OrContext.ensures ∙ c.input-in-OrContext.ensures.count) c.in-OrContext.from (c.requires.acts ∙ ap OnAll c.in-OrContext.is) _ (c.mask-operand-in-OrContext.ensures ∙ ap (λ (y : FieldNumbers). y.numbers) c.input-in-OrContext.ensures.value) refl) c.stepped-in-OrContext.ensures
 
 pub returns-in-AndContextWithTest : goal.returns-in-AndContextWithTest
 returns-in-AndContextWithTest c =
-    ok_then _ _ c.stepped-in-AndContextWithTest.result (λ values is. is ∙ and_test_left c.args.order.now c.flag_plane-in-AndContextWithTest.result.now c.flag_plane-in-AndContextWithTest.ensures.bits c.flag_plane-in-AndContextWithTest.ensures.count c.flag_plane-operand.result.now c.flag_plane-operand.ensures.count c.in-AndContextWithTest.field-0 (c.requires.acts ∙ ap OnAll c.in-AndContextWithTest.is) _ c.flag_plane-operand.ensures.bits refl) c.stepped-in-AndContextWithTest.ensures
+    ok_then _ _ c.stepped-in-AndContextWithTest.result (λ values is. is ∙ and_test_left c.args.order.now c.flag_plane-bits-in-AndContextWithTest.result.now c.flag_plane-bits-in-AndContextWithTest.ensures.bits c.flag_plane-bits-in-AndContextWithTest.ensures.count c.flag_plane-operand.result.now c.flag_plane-operand.ensures.count c.in-AndContextWithTest.field-0 (c.requires.acts ∙ ap OnAll c.in-AndContextWithTest.is) _ c.flag_plane-operand.ensures.bits refl) c.stepped-in-AndContextWithTest.ensures

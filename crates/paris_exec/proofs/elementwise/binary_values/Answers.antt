@@ -44,8 +44,8 @@ put_sum-requires-clause-carries c = bits_count c.in-Some.sum.carry (length c.inp
 pub put_sum-requires-clause-overflows : goal.put_sum-requires-clause-overflows
 put_sum-requires-clause-overflows c = bits_count c.in-Some.sum.overflow (length c.input-x.result.now.numbers) _ _ (if_some _ c.in-Some.is c.in_ok-sum.ensures.overflow) c.input-x.ensures.count
 
-pub returns-in-Some : goal.returns-in-Some
-returns-in-Some c =
+pub returns-in-Some-clause-values : goal.returns-in-Some-clause-values
+returns-in-Some-clause-values c =
     c.in_ok-put_sum.ensures
     ∙ sum_left c.args.order.now c.args.operator c.args.to.now c.args.left.now c.args.right.now c.args.len c.requires.acts c.input-x.result.now c.input-y.result.now c.input-x.ensures.value c.input-y.ensures.value c.input-x.ensures.count
     c.in-Some.sum.value c.in-Some.sum.carry c.in-Some.sum.overflow (if_some _ c.in-Some.is c.in_ok-sum.ensures.flags) (if_some _ c.in-Some.is c.in_ok-sum.ensures.value)
@@ -72,8 +72,8 @@ put_field-requires-clause-short c =
 pub put_field-requires-clause-count : goal.put_field-requires-clause-count
 put_field-requires-clause-count c = numbers_count c.in-Some-2.new c.args.len (length c.input-x.result.now.numbers) _ _ (if_some _ c.in-Some-2.is c.in_ok-new.ensures.value) c.input-x.ensures.count
 
-pub returns-in_ok-put_field-in-Some-2 : goal.returns-in_ok-put_field-in-Some-2
-returns-in_ok-put_field-in-Some-2 c =
+pub returns-in_ok-put_field-in-Some-2-clause-values : goal.returns-in_ok-put_field-in-Some-2-clause-values
+returns-in_ok-put_field-in-Some-2-clause-values c =
     c.in_ok-put_field-in-Some-2.ensures
     ∙ flagless_left c.args.order.now c.args.operator c.args.to.now c.args.left.now c.args.right.now c.args.len c.requires.acts c.input-x.result.now c.input-y.result.now c.input-x.ensures.value c.input-y.ensures.value c.input-x.ensures.count
     c.in-Some-2.new (if_some _ c.in-Some-2.is c.in_ok-new.ensures.flags) (if_some _ c.in-Some-2.is c.in_ok-new.ensures.value)

@@ -49,14 +49,14 @@ pub number_values-requires-in-MyAddress-clause-fit : goal.number_values-requires
 number_values-requires-in-MyAddress-clause-fit c =
     own_fit c.as_slice-in-MyAddress.result.now (processor_count c.args.order.now.plan.axes) c.in-MyAddress.length (λ v. v) (c.as_slice-in-MyAddress.ensures.value ∙ c.in_ok-numbers-in-MyAddress.ensures ∙ ap (λ g. everywhere (processor_count g) (low c.in-MyAddress.length)) (c.geometry-geometry.ensures ∙ ap (λ (p : Plan). p.axes) c.plan.ensures))
 
-pub returns-in_ok-number_values-in-MoveConstant : goal.returns-in_ok-number_values-in-MoveConstant
-returns-in_ok-number_values-in-MoveConstant c =
+pub returns-in_ok-number_values-in-MoveConstant-clause-values : goal.returns-in_ok-number_values-in-MoveConstant-clause-values
+returns-in_ok-number_values-in-MoveConstant-clause-values c =
     c.in_ok-number_values-in-MoveConstant.ensures ∙ constant_left c.args.order.now c.in-MoveConstant.to c.in-MoveConstant.value c.in-MoveConstant.length (c.requires.acts ∙ ap OnSelected c.in-MoveConstant.is) c.as_slice.result.now (c.as_slice.ensures.value ∙ c.in_ok-numbers-in-MoveConstant.ensures ∙ ap (λ n. replicate n c.in-MoveConstant.value) (c.vps.ensures.value ∙ ap processor_count (c.geometry-geometry.ensures ∙ ap (λ (p : Plan). p.axes) c.plan.ensures)))
 
-pub returns-in_ok-number_values-in-MyCoordinate : goal.returns-in_ok-number_values-in-MyCoordinate
-returns-in_ok-number_values-in-MyCoordinate c =
+pub returns-in_ok-number_values-in-MyCoordinate-clause-values : goal.returns-in_ok-number_values-in-MyCoordinate-clause-values
+returns-in_ok-number_values-in-MyCoordinate-clause-values c =
     c.in_ok-number_values-in-MyCoordinate.ensures ∙ coordinate_left c.args.order.now c.in-MyCoordinate.to c.in-MyCoordinate.axis c.in-MyCoordinate.length (c.requires.acts ∙ ap OnSelected c.in-MyCoordinate.is) c.as_slice-in-MyCoordinate.result.now (c.as_slice-in-MyCoordinate.ensures.value ∙ c.in_ok-numbers-in-MyCoordinate.ensures ∙ ap (λ g. everywhere (processor_count g) (λ v. low c.in-MyCoordinate.length (coordinate g c.in-MyCoordinate.axis v))) (c.geometry-geometry.ensures ∙ ap (λ (p : Plan). p.axes) c.plan.ensures))
 
-pub returns-in_ok-number_values-in-MyAddress : goal.returns-in_ok-number_values-in-MyAddress
-returns-in_ok-number_values-in-MyAddress c =
+pub returns-in_ok-number_values-in-MyAddress-clause-values : goal.returns-in_ok-number_values-in-MyAddress-clause-values
+returns-in_ok-number_values-in-MyAddress-clause-values c =
     c.in_ok-number_values-in-MyAddress.ensures ∙ address_left c.args.order.now c.in-MyAddress.to c.in-MyAddress.length (c.requires.acts ∙ ap OnSelected c.in-MyAddress.is) c.as_slice-in-MyAddress.result.now (c.as_slice-in-MyAddress.ensures.value ∙ c.in_ok-numbers-in-MyAddress.ensures ∙ ap (λ g. everywhere (processor_count g) (low c.in-MyAddress.length)) (c.geometry-geometry.ensures ∙ ap (λ (p : Plan). p.axes) c.plan.ensures))

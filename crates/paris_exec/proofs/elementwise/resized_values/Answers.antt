@@ -26,6 +26,6 @@ pub put_overflowing-requires-clause-flags : goal.put_overflowing-requires-clause
 put_overflowing-requires-clause-flags c =
     bits_count c.in_ok-resized.resized.overflow (length c.input-x.result.now.numbers) _ _ c.in_ok-resized.ensures.overflow c.input-x.ensures.count
 
-pub returns : goal.returns
-returns c =
+pub returns-clause-values : goal.returns-clause-values
+returns-clause-values c =
     c.in_ok-put_overflowing.ensures ∙ resize_left c.args.order.now c.args.sign c.args.to.now c.args.from.now c.args.len c.args.from_len c.requires.acts c.input-x.result.now c.input-x.ensures.value c.input-x.ensures.count c.in_ok-resized.resized.value c.in_ok-resized.resized.overflow c.in_ok-resized.ensures.value c.in_ok-resized.ensures.overflow

@@ -45,18 +45,18 @@ pub put_field-requires-clause-short : goal.put_field-requires-clause-short
 put_field-requires-clause-short c =
     subst (λ (y : FieldNumbers). y.width ≤ key_width c.args.order.now.plan (Field c.in-StoreTest.to.field)) (sym (c.in_ok-new-in-StoreTest.ensures ∙ c.input-in-StoreTest.ensures.value)) (subst (λ n. n ≤ key_width c.args.order.now.plan (Field c.in-StoreTest.to.field)) (sym (flag_width c.args.order.now.plan c.set.result Test)) (one_bit_to c.args.order.now (StoreTest c.in-StoreTest.to) (c.requires.acts ∙ ap OnSelected c.in-StoreTest.is) c.in-StoreTest.to refl c.requires.fit))
 
-pub returns-in_ok-put_flag_alone-in-SetTest : goal.returns-in_ok-put_flag_alone-in-SetTest
-returns-in_ok-put_flag_alone-in-SetTest c =
+pub returns-in_ok-put_flag_alone-in-SetTest-clause-values : goal.returns-in_ok-put_flag_alone-in-SetTest-clause-values
+returns-in_ok-put_flag_alone-in-SetTest-clause-values c =
     c.in_ok-put_flag_alone-in-SetTest.ensures ∙ set_test_left c.args.order.now c.in-SetTest.field-0 (c.requires.acts ∙ ap OnSelected c.in-SetTest.is) c.in_ok-new-in-SetTest.new (c.in_ok-new-in-SetTest.ensures ∙ ap (λ n. replicate n true) (c.vps-vps.ensures.value ∙ ap processor_count (c.geometry.ensures ∙ ap (λ (p : Plan). p.axes) c.plan.ensures)))
 
-pub returns-in_ok-put_flag_alone-in-ClearTest : goal.returns-in_ok-put_flag_alone-in-ClearTest
-returns-in_ok-put_flag_alone-in-ClearTest c =
+pub returns-in_ok-put_flag_alone-in-ClearTest-clause-values : goal.returns-in_ok-put_flag_alone-in-ClearTest-clause-values
+returns-in_ok-put_flag_alone-in-ClearTest-clause-values c =
     c.in_ok-put_flag_alone-in-ClearTest.ensures ∙ clear_test_left c.args.order.now c.in-ClearTest.field-0 (c.requires.acts ∙ ap OnSelected c.in-ClearTest.is) c.in_ok-new-in-ClearTest.new (c.in_ok-new-in-ClearTest.ensures ∙ ap (λ n. replicate n false) (c.vps-vps.ensures.value ∙ ap processor_count (c.geometry.ensures ∙ ap (λ (p : Plan). p.axes) c.plan.ensures)))
 
-pub returns-in_ok-put_flag_alone-in-LoadTest : goal.returns-in_ok-put_flag_alone-in-LoadTest
-returns-in_ok-put_flag_alone-in-LoadTest c =
+pub returns-in_ok-put_flag_alone-in-LoadTest-clause-values : goal.returns-in_ok-put_flag_alone-in-LoadTest-clause-values
+returns-in_ok-put_flag_alone-in-LoadTest-clause-values c =
     c.in_ok-put_flag_alone-in-LoadTest.ensures ∙ load_test_left c.args.order.now c.in-LoadTest.from (c.requires.acts ∙ ap OnSelected c.in-LoadTest.is) c.input.result.now c.in_ok-new-in-LoadTest.new c.input.ensures.value (rw c.in_ok-new-in-LoadTest.ensures c.mask.ensures)
 
-pub returns-in_ok-put_field-in-StoreTest : goal.returns-in_ok-put_field-in-StoreTest
-returns-in_ok-put_field-in-StoreTest c =
+pub returns-in_ok-put_field-in-StoreTest-clause-values : goal.returns-in_ok-put_field-in-StoreTest-clause-values
+returns-in_ok-put_field-in-StoreTest-clause-values c =
     c.in_ok-put_field-in-StoreTest.ensures ∙ store_test_left c.args.order.now c.in-StoreTest.to (c.requires.acts ∙ ap OnSelected c.in-StoreTest.is) c.in_ok-new-in-StoreTest.new (c.in_ok-new-in-StoreTest.ensures ∙ c.input-in-StoreTest.ensures.value ∙ ap (λ s. field_of c.args.order.now.plan (Flag s Test) (seen_at c.args.order.now (Flag s Test))) (c.set.ensures ∙ ap (λ (p : Plan). p.set_no) c.plan-in-StoreTest.ensures))
