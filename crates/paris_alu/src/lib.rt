@@ -9,8 +9,6 @@ mod kernel;
 mod order;
 mod planes;
 mod sums;
-#[cfg(test)]
-mod tests;
 mod widths;
 
 pub use bitwise::{BitOperator, copy_low, invert, logic};

@@ -4,8 +4,6 @@
 mod blocks;
 mod field;
 mod planes;
-#[cfg(test)]
-mod tests;
 mod transpose;
 
 pub use field::FieldValue;

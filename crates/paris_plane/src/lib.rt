@@ -3,8 +3,6 @@
 
 pub mod kernel;
 mod plane;
-#[cfg(test)]
-mod tests;
 
 pub use kernel::{TripleOp, WordOp};
 pub use plane::{Plane, add_step, subtract_step};

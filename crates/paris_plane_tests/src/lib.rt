@@ -6,6 +6,8 @@ mod arithmetic;
 #[cfg(test)]
 mod beside;
 #[cfg(test)]
+mod bits;
+#[cfg(test)]
 mod cases;
 #[cfg(test)]
 mod fields;
@@ -15,3 +17,7 @@ mod planes;
 mod runs;
 #[cfg(test)]
 mod steps;
+#[cfg(test)]
+mod values;
+#[cfg(test)]
+mod worked_rows;

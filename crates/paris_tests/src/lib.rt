@@ -4,6 +4,8 @@
 #[cfg(test)]
 mod boards;
 #[cfg(test)]
+mod commands;
+#[cfg(test)]
 mod common;
 #[cfg(test)]
 mod depends;
@@ -21,3 +23,5 @@ mod plans;
 mod programs;
 #[cfg(test)]
 mod resolving;
+#[cfg(test)]
+mod spellings;

@@ -1,15 +1,11 @@
 //! The text of a script: the words of a line, and the command that a line spells.
 #![tactic(auto)]
 
-#[cfg(test)]
-mod command_tests;
 pub mod commands;
 pub mod instructions;
 pub mod laws;
 pub mod mnemonics;
 pub mod reader;
-#[cfg(test)]
-mod tests;
 pub mod verbs;
 pub mod words;
 pub mod writer;

@@ -1,6 +1,6 @@
 use Rattle.std.proofs.Common.{◌≡◌, length}
 use Rattle.paris_field.specs.Fields.{AllFit}
-use Rattle.paris_field.proofs.tests.list.Given as goal
+use Rattle.paris_plane_tests.proofs.values.list.Given as goal
 
 abbrev pub invariant-loop-v : goal.invariant-loop-v
 invariant-loop-v l = record {

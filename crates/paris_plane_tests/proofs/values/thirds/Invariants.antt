@@ -1,5 +1,5 @@
 use Rattle.std.proofs.Common.{◌≡◌, length}
-use Rattle.paris_field.proofs.tests.thirds.Given as goal
+use Rattle.paris_plane_tests.proofs.values.thirds.Given as goal
 
 abbrev pub invariant-loop-v : goal.invariant-loop-v
 invariant-loop-v l = length l.mask ≡ l.count

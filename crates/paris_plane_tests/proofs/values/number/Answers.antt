@@ -1,6 +1,6 @@
 use Rattle.std.proofs.Common.{◌≡◌, ℕ, ◌+◌, ◌-◌, ◌/◌, ◌%◌, ◌<◌, ◌≤◌, ◌^◌, arith, subst}
 use Rattle.std.proofs.Math.Pow.{shr_lt}
-use Rattle.paris_field.proofs.tests.number.Goals as goal
+use Rattle.paris_plane_tests.proofs.values.number.Goals as goal
 
 high_bits : (x w : ℕ) → w ≤ 128 → x % 2 ^ 128 / 2 ^ (128 - w) < 2 ^ w
 high_bits x w narrow =

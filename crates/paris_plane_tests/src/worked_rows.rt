@@ -2,7 +2,7 @@
 
 ghost use Rattle.std.specs.Prelude.{◌≡◌, ◌<◌, ◌≤◌, IfOk, length};
 
-use crate::{
+use paris_alu::{
     BitOperator, Extremum, Overflowing, Sum, add, add_carry, compare, copy_low, extend, extreme,
     invert, logic, negate, subtract,
 };

@@ -1,9 +1,9 @@
 //! Worked spellings and wrong lines.
 
-use crate::{Syntax, read_instr, write_instr};
 use paris_geometry::Direction;
 use paris_model::{Action, BinaryOperator, Combiner, Conditional, Inclusion, Line, Mail, Sign};
 use paris_names::Name;
+use paris_text::{Syntax, read_instr, write_instr};
 use std::test::Fail;
 
 #[test]

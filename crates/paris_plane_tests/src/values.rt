@@ -3,7 +3,7 @@
 ghost use Rattle.std.specs.Prelude.{◌≡◌, ◌<◌, ◌≤◌, ◌^◌, IfOk, length};
 ghost use Rattle.paris_field.specs.Fields.{AllFit};
 
-use crate::{FieldValue, copy_planes, transpose64};
+use paris_field::{FieldValue, copy_planes, transpose64};
 use paris_plane::Plane;
 use std::alloc::{AllocError, Global};
 use std::process::Abort;

@@ -1,8 +1,8 @@
 //! Commands that are read, and wrong lines.
 
-use crate::{Command, read_command};
 use paris_model::{Action, Conditional};
 use paris_names::{Fault, FlagName, RowId, Spot};
+use paris_text::{Command, read_command};
 
 #[test]
 fn each_command_is_read(rt: HostRuntime) {
