@@ -12,16 +12,18 @@ use Rattle.paris_model.specs.Instructions.{reads}
 use Rattle.paris_instr.specs.PlanEq.{plan_eq}
 use Rattle.paris_field.specs.Fields.{field_eq}
 use Rattle.paris_exec.specs.Tasks.{Task, field_of}
-use Rattle.paris_book.specs.Machine.{Row, Inputs, State, is_settled, inputs_now, find_id, find_row, is_present, verdict_at, verdict_on, verdict_of, brought_on, after_bring}
+use Rattle.paris_events.specs.Rows.{is_settled}
+use Rattle.paris_book.specs.Machine.{Row, Inputs, State, inputs_now, find_id, find_row, is_present, verdict_at, verdict_on, verdict_of, brought_on, after_bring}
 use Rattle.paris_book.specs.Kept.{row_of}
 use Rattle.paris_program.specs.Program.{place_of}
 use Rattle.paris_book.specs.Entries.{Entry, entries_of}
 use Rattle.paris_book.specs.declared.rows.RowData.{RowData}
 use Rattle.paris_book.proofs.Entering.{find_is}
-use Rattle.paris_book.specs.declared.events.Verdict.{Verdict}
-use Rattle.paris_book.specs.declared.events.Verdict.TheVariants.{Gone, Stale, Repeated, Foreign, Kept}
+use Rattle.paris_events.specs.declared.verdicts.Verdict.{Verdict}
+use Rattle.paris_events.specs.declared.verdicts.Verdict.TheVariants.{Gone, Stale, Repeated, Foreign, Kept}
 use Rattle.paris_book.specs.Among.{firm_among, kept_entry}
-use Rattle.paris_book.specs.Verdicts.{present_among, verdict_among, is_kept_verdict}
+use Rattle.paris_events.specs.Verdicts.{is_kept}
+use Rattle.paris_book.specs.Verdicts.{present_among, verdict_among}
 use Rattle.paris_book.proofs.Finds.{found_some}
 use Rattle.paris_book.proofs.Takes.{none_of}
 use Rattle.paris_book.proofs.Inserts.{state_of}
@@ -47,14 +49,14 @@ answer_found b n m inputs es s k e t y x =
 pub answer_none : (b : Board) (n m : ℕ) (inputs : Inputs) (es : List Entry) (s : State) (t : Task) → state_of b n m inputs es ≡ s → find_id t.id.0 (map row_of es) ≡ None → verdict_of s t ≡ Gone
 answer_none b n m inputs es s t y x = ap (λ (z : State). verdict_of z t) (sym y) ∙ ap (λ o. verdict_on (state_of b n m inputs es) o t) x
 
-brought_other : (s : State) (v : Verdict) (o : Option (ℕ × Row)) → is_kept_verdict v ≡ false → brought_on s v o ≡ s
+brought_other : (s : State) (v : Verdict) (o : Option (ℕ × Row)) → is_kept v ≡ false → brought_on s v o ≡ s
 brought_other s Gone o h = refl
 brought_other s (Stale n) o h = refl
 brought_other s Repeated o h = refl
 brought_other s Foreign o h = refl
 brought_other s Kept o h = absurd (let x : true ≡ false = h in cc)
 
-pub kept_verdict : (v : Verdict) → is_kept_verdict v ≡ true → v ≡ Kept
+pub kept_verdict : (v : Verdict) → is_kept v ≡ true → v ≡ Kept
 kept_verdict Gone h = absurd (let x : false ≡ true = h in cc)
 kept_verdict (Stale n) h = absurd (let x : false ≡ true = h in cc)
 kept_verdict Repeated h = absurd (let x : false ≡ true = h in cc)
@@ -62,12 +64,12 @@ kept_verdict Foreign h = absurd (let x : false ≡ true = h in cc)
 kept_verdict Kept h = refl
 
 pub state_none : (b : Board) (n m : ℕ) (inputs : Inputs) (es : List Entry) (s : State) (t : Task) → state_of b n m inputs es ≡ s → find_id t.id.0 (map row_of es) ≡ None → after_bring s t ≡ s
-state_none b n m inputs es s t y x = brought_other s (verdict_of s t) (find_row s t.id) (ap is_kept_verdict (answer_none b n m inputs es s t y x))
+state_none b n m inputs es s t y x = brought_other s (verdict_of s t) (find_row s t.id) (ap is_kept (answer_none b n m inputs es s t y x))
 
-pub state_other : (b : Board) (n m : ℕ) (inputs : Inputs) (es : List Entry) (s : State) (k : ℕ) (e : Entry) (t : Task) (v : Verdict) → state_of b n m inputs es ≡ s → find_id t.id.0 (map row_of es) ≡ Some (k, row_of e) → v ≡ verdict_among inputs es k e t → is_kept_verdict v ≡ false → after_bring s t ≡ s
-state_other b n m inputs es s k e t v y x z h = brought_other s (verdict_of s t) (find_row s t.id) (ap is_kept_verdict (answer_found b n m inputs es s k e t y x ∙ sym z) ∙ h)
+pub state_other : (b : Board) (n m : ℕ) (inputs : Inputs) (es : List Entry) (s : State) (k : ℕ) (e : Entry) (t : Task) (v : Verdict) → state_of b n m inputs es ≡ s → find_id t.id.0 (map row_of es) ≡ Some (k, row_of e) → v ≡ verdict_among inputs es k e t → is_kept v ≡ false → after_bring s t ≡ s
+state_other b n m inputs es s k e t v y x z h = brought_other s (verdict_of s t) (find_row s t.id) (ap is_kept (answer_found b n m inputs es s k e t y x ∙ sym z) ∙ h)
 
-pub state_kept : (b : Board) (n m : ℕ) (inputs : Inputs) (es : List Entry) (s : State) (k : ℕ) (e : Entry) (t : Task) (v : Verdict) → state_of b n m inputs es ≡ s → find_id t.id.0 (map row_of es) ≡ Some (k, row_of e) → v ≡ verdict_among inputs es k e t → is_kept_verdict v ≡ true → state_of b n m inputs (set es k (kept_entry e t)) ≡ after_bring s t
+pub state_kept : (b : Board) (n m : ℕ) (inputs : Inputs) (es : List Entry) (s : State) (k : ℕ) (e : Entry) (t : Task) (v : Verdict) → state_of b n m inputs es ≡ s → find_id t.id.0 (map row_of es) ≡ Some (k, row_of e) → v ≡ verdict_among inputs es k e t → is_kept v ≡ true → state_of b n m inputs (set es k (kept_entry e t)) ≡ after_bring s t
 state_kept b n m inputs es s k e t v y x z h = sym (
     ap (λ (z : State). after_bring z t) (sym y)
     ∙ ap (λ o. brought_on (state_of b n m inputs es) (verdict_of (state_of b n m inputs es) t) o) x

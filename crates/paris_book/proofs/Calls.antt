@@ -7,7 +7,8 @@ use Rattle.std.specs.Option.{option_map, unwrap_or}
 use Rattle.paris_names.specs.declared.keys.Key.{Key}
 use Rattle.paris_board.specs.Board.{Board, is_declared, width_of, count_of}
 use Rattle.paris_model.specs.Instructions.{Plan}
-use Rattle.paris_book.specs.Machine.{Row, Inputs, State, find_id, input_of, is_settled, show_at, show_from, known, input_changed, input_set}
+use Rattle.paris_events.specs.Rows.{is_settled}
+use Rattle.paris_book.specs.Machine.{Row, Inputs, State, find_id, input_of, show_at, show_from, known, input_changed, input_set}
 use Rattle.paris_book.specs.Kept.{row_of}
 use Rattle.paris_book.specs.Whole.{shape_of, Shaped, Fitted}
 use Rattle.paris_program.specs.Program.{place_of}

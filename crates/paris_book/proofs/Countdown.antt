@@ -4,12 +4,13 @@ use Rattle.std.proofs.Math.Path.{ap₂}
 use Rattle.std.specs.List.{list_all}
 use Rattle.paris_board.specs.Board.{Board}
 use Rattle.paris_model.specs.Instructions.{reads}
-use Rattle.paris_book.specs.Machine.{Row, Inputs, State, is_settled, is_waiting, is_firm, is_ready, origin_at, next_ready, taken, after_take, recalled_status, recalled_row, after_release, unsettled_rows, settled_row, all_settled, after_run, ran_orders}
+use Rattle.paris_events.specs.Rows.{is_settled, is_waiting}
+use Rattle.paris_book.specs.Machine.{Row, Inputs, State, is_firm, is_ready, origin_at, next_ready, taken, after_take, recalled_status, recalled_row, after_release, unsettled_rows, settled_row, all_settled, after_run, ran_orders}
 use Rattle.paris_book.specs.Kept.{row_of}
 use Rattle.paris_book.specs.Whole.{IdsApart, ids_of, IsWhole}
 use Rattle.paris_book.specs.Entries.{Entry}
-use Rattle.paris_book.specs.declared.rows.Status.{Status}
-use Rattle.paris_book.specs.declared.rows.Status.TheVariants.{Waiting, Out, Settled}
+use Rattle.paris_events.specs.declared.rows.Status.{Status}
+use Rattle.paris_events.specs.declared.rows.Status.TheVariants.{Waiting, Out, Settled}
 use Rattle.std.specs.List.{enumerate_from}
 use Rattle.paris_book.proofs.Finds.{find_at_place, found_passes}
 use Rattle.paris_book.proofs.Inserts.{state_of}

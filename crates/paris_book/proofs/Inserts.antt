@@ -11,13 +11,14 @@ use Rattle.paris_model.specs.Frame.{World}
 use Rattle.paris_model.specs.Instructions.{Plan, writes, one, key_width}
 use Rattle.paris_model.specs.Run.{run}
 use Rattle.paris_model.proofs.Worlds.{one_is}
-use Rattle.paris_book.specs.Machine.{Row, Inputs, State, input_of, number_in, start_world, start_recipe, is_settled, new_row, row_inserted}
+use Rattle.paris_events.specs.Rows.{is_settled}
+use Rattle.paris_book.specs.Machine.{Row, Inputs, State, input_of, number_in, start_world, start_recipe, new_row, row_inserted}
 use Rattle.paris_book.specs.Kept.{row_of, plan_of, ripen, Right, Sound}
 use Rattle.paris_depends.specs.Sweeps.{touches, spread}
 use Rattle.paris_book.proofs.Swept.{swept, stale, swept_entries}
 use Rattle.paris_book.specs.Whole.{shape_in, InputsBelow, RowsBelow, IdsApart, ids_of, Fitted, AllFitted, IsWhole}
 use Rattle.paris_book.specs.Entries.{Entry}
-use Rattle.paris_book.specs.declared.rows.Status.TheVariants.{Waiting}
+use Rattle.paris_events.specs.declared.rows.Status.TheVariants.{Waiting}
 use Rattle.paris_book.proofs.Values.{Agree, sound_swept, swept_rows}
 use Rattle.paris_book.proofs.Origins.{ripe, sound-take}
 use Rattle.paris_book.proofs.Recipes.{past_all}

@@ -13,7 +13,7 @@ use Rattle.paris_book.specs.Kept.{row_of, ripen, Sound}
 use Rattle.paris_book.specs.Whole.{IsWhole}
 use Rattle.paris_book.specs.Among.{listed_entry, looks_kept}
 use Rattle.paris_book.specs.Entries.{Entry}
-use Rattle.paris_book.specs.declared.events.RowLook.{RowLook}
+use Rattle.paris_events.specs.declared.rows.RowLook.{RowLook}
 use Rattle.paris_book.proofs.Inserts.{state_of}
 use Rattle.paris_book.proofs.RefusedRows.{cause_is}
 

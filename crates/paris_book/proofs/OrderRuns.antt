@@ -16,11 +16,12 @@ use Rattle.paris_model.specs.Run.{run}
 use Rattle.paris_model.specs.Recipe.{origin}
 use Rattle.paris_field.specs.Fields.{FieldNumbers, field_eq}
 use Rattle.paris_exec.specs.Tasks.{Task, field_of}
-use Rattle.paris_book.specs.Machine.{Row, State, start_world, is_settled, is_waiting, row_plan, is_firm, is_ready, next_ready, inputs_now, order_of, with_status, taken, find_row, verdict_at, verdict_on, verdict_of, brought_on, settled_row, brought_back, after_run}
+use Rattle.paris_events.specs.Rows.{is_settled, is_waiting}
+use Rattle.paris_book.specs.Machine.{Row, State, start_world, row_plan, is_firm, is_ready, next_ready, inputs_now, order_of, with_status, taken, find_row, verdict_at, verdict_on, verdict_of, brought_on, settled_row, brought_back, after_run}
 use Rattle.paris_book.specs.Whole.{IdsApart}
-use Rattle.paris_book.specs.declared.rows.Status.{Status}
-use Rattle.paris_book.specs.declared.rows.Status.TheVariants.{Waiting, Out, Settled}
-use Rattle.paris_book.specs.declared.events.Verdict.TheVariants.{Kept}
+use Rattle.paris_events.specs.declared.rows.Status.{Status}
+use Rattle.paris_events.specs.declared.rows.Status.TheVariants.{Waiting, Out, Settled}
+use Rattle.paris_events.specs.declared.verdicts.Verdict.TheVariants.{Kept}
 use Rattle.paris_book.proofs.Finds.{find_here, eqb_apart}
 use Rattle.paris_book.proofs.Settling.{and_first, and_second}
 use Rattle.paris_book.proofs.EditLemmas.{or_first, or_second}

@@ -5,15 +5,16 @@ use Rattle.paris_names.specs.Keys.{has_key}
 use Rattle.paris_board.specs.Board.{Board}
 use Rattle.paris_model.specs.Frame.{World}
 use Rattle.paris_model.specs.Instructions.{writes, one}
-use Rattle.paris_book.specs.Machine.{Row, Inputs, State, start_world, is_settled, recalled_status, recalled_row, after_release}
+use Rattle.paris_events.specs.Rows.{is_settled}
+use Rattle.paris_book.specs.Machine.{Row, Inputs, State, start_world, recalled_status, recalled_row, after_release}
 use Rattle.paris_book.specs.Kept.{row_of, ripen, Sound}
 use Rattle.paris_book.specs.Whole.{RowsBelow, ids_of, AllFitted, IsWhole}
 use Rattle.paris_book.specs.Among.{recalled_entry}
 use Rattle.paris_book.specs.Entries.{Entry, entry_of, entries_of}
 use Rattle.paris_book.specs.Marks.{recalled_pair}
 use Rattle.paris_book.specs.declared.rows.RowData.{RowData}
-use Rattle.paris_book.specs.declared.rows.Status.{Status}
-use Rattle.paris_book.specs.declared.rows.Status.TheVariants.{Waiting, Out, Settled}
+use Rattle.paris_events.specs.declared.rows.Status.{Status}
+use Rattle.paris_events.specs.declared.rows.Status.TheVariants.{Waiting, Out, Settled}
 use Rattle.paris_book.proofs.Inserts.{state_of}
 use Rattle.paris_book.proofs.Settling.{sound_more}
 

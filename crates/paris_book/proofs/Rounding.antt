@@ -10,13 +10,14 @@ use Rattle.std.specs.List.{list_all}
 use Rattle.paris_model.specs.Instructions.{reads}
 use Rattle.paris_model.specs.Run.{run}
 use Rattle.paris_exec.specs.Tasks.{Task, field_of}
-use Rattle.paris_book.specs.Machine.{Row, State, start_world, is_settled, is_waiting, row_plan, next_ready, order_of, take_reply, with_status, taken, after_take, is_present, find_id, find_row, verdict_on, verdict_of, brought_on, after_bring, recalled_status, recalled_row, after_release, unsettled_rows, settled_row, all_settled, brought_back}
+use Rattle.paris_events.specs.Rows.{is_settled, is_waiting}
+use Rattle.paris_book.specs.Machine.{Row, State, start_world, row_plan, next_ready, order_of, take_reply, with_status, taken, after_take, is_present, find_id, find_row, verdict_on, verdict_of, brought_on, after_bring, recalled_status, recalled_row, after_release, unsettled_rows, settled_row, all_settled, brought_back}
 use Rattle.paris_book.specs.Rounds.{StaySettled, Advances, HasRun, has_result, first_order, after_slots}
 use Rattle.paris_book.specs.Whole.{IdsApart}
 use Rattle.paris_book.specs.declared.rounds.Slot.{Slot}
-use Rattle.paris_book.specs.declared.rows.Status.{Status}
-use Rattle.paris_book.specs.declared.rows.Status.TheVariants.{Waiting, Out, Settled}
-use Rattle.paris_book.specs.declared.events.Verdict.TheVariants.{Stale, Repeated, Foreign, Kept}
+use Rattle.paris_events.specs.declared.rows.Status.{Status}
+use Rattle.paris_events.specs.declared.rows.Status.TheVariants.{Waiting, Out, Settled}
+use Rattle.paris_events.specs.declared.verdicts.Verdict.TheVariants.{Stale, Repeated, Foreign, Kept}
 use Rattle.paris_book.proofs.Finds.{find_at_place}
 use Rattle.paris_book.proofs.Releases.{settled_same}
 use Rattle.paris_book.proofs.Settling.{and_first, and_second}

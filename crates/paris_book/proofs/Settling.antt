@@ -16,11 +16,12 @@ use Rattle.paris_model.specs.Run.{run}
 use Rattle.paris_instr.specs.PlanEq.{plan_eq}
 use Rattle.paris_field.specs.Fields.{FieldNumbers, field_eq}
 use Rattle.paris_exec.specs.Tasks.{Task, numbers_of, field_of}
-use Rattle.paris_book.specs.Machine.{Inputs, start_world, is_settled, is_firm}
+use Rattle.paris_events.specs.Rows.{is_settled}
+use Rattle.paris_book.specs.Machine.{Inputs, start_world, is_firm}
 use Rattle.paris_book.specs.Kept.{row_of, plan_of, ripen, Sound, present}
 use Rattle.paris_book.specs.Whole.{RowsBelow, ids_of, Fitted, AllFitted, IsWhole}
 use Rattle.paris_book.specs.Entries.{Entry}
-use Rattle.paris_book.specs.declared.events.Verdict.TheVariants.{Stale, Repeated, Foreign, Kept}
+use Rattle.paris_events.specs.declared.verdicts.Verdict.TheVariants.{Stale, Repeated, Foreign, Kept}
 use Rattle.paris_book.specs.Among.{origin_among, firm_among, inputs_among, out_entry, kept_entry}
 use Rattle.std.proofs.lemmas.Slice.Eq.{bytes_eq-Decides}
 use Rattle.paris_book.proofs.Origins.{ripe, ripe_is, is_firm_or}

@@ -17,7 +17,8 @@ use Rattle.paris_model.specs.Run.{run}
 use Rattle.paris_model.specs.Recipe.{origin, same}
 use Rattle.paris_field.specs.Fields.{FieldNumbers}
 use Rattle.paris_exec.specs.Tasks.{Task, numbers_of, field_of, fits_key, fits_keys, task_value}
-use Rattle.paris_book.specs.Machine.{Row, Inputs, input_of, numbers_in, start_world, is_settled, row_plan, now, origin_at, shown_of, show_at, is_firm}
+use Rattle.paris_events.specs.Rows.{is_settled}
+use Rattle.paris_book.specs.Machine.{Row, Inputs, input_of, numbers_in, start_world, row_plan, now, origin_at, shown_of, show_at, is_firm}
 use Rattle.paris_book.specs.Kept.{row_of, plan_of, last_kept, Sound, present}
 use Rattle.paris_book.specs.Whole.{shape_on, shape_of, shape_in, Shaped, Fitted, AllFitted}
 use Rattle.paris_book.specs.Entries.{Entry}

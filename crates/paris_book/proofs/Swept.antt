@@ -4,7 +4,7 @@ use Rattle.paris_names.specs.declared.keys.Key.{Key}
 use Rattle.paris_depends.specs.Sweeps.{touches, spread}
 use Rattle.paris_book.specs.Entries.{Entry}
 use Rattle.paris_book.specs.Machine.{Row, unsettled}
-use Rattle.paris_book.specs.declared.rows.Status.TheVariants.{Waiting}
+use Rattle.paris_events.specs.declared.rows.Status.TheVariants.{Waiting}
 
 -- the rows after a sweep from changed keys
 abbrev pub swept : ℕ → (Key → Bool) → List Row → List Row

@@ -10,11 +10,12 @@ use Rattle.paris_board.specs.Board.{Board}
 use Rattle.paris_model.specs.Frame.{World}
 use Rattle.paris_model.specs.Instructions.{reads}
 use Rattle.paris_exec.specs.Tasks.{field_of}
-use Rattle.paris_book.specs.Machine.{Row, Inputs, State, is_settled, is_waiting, next_ready, order_of, take_reply, taken, after_take}
+use Rattle.paris_events.specs.Rows.{is_settled, is_waiting}
+use Rattle.paris_book.specs.Machine.{Row, Inputs, State, next_ready, order_of, take_reply, taken, after_take}
 use Rattle.paris_book.specs.Kept.{row_of}
 use Rattle.paris_book.specs.Entries.{Entry}
-use Rattle.paris_book.specs.declared.rows.Status.{Status}
-use Rattle.paris_book.specs.declared.rows.Status.TheVariants.{Waiting, Out, Settled}
+use Rattle.paris_events.specs.declared.rows.Status.{Status}
+use Rattle.paris_events.specs.declared.rows.Status.TheVariants.{Waiting, Out, Settled}
 use Rattle.paris_book.specs.Among.{firm_among, ready_among, next_among, order_among, out_entry}
 use Rattle.paris_book.proofs.Finds.{found_by, found_passes}
 use Rattle.paris_book.proofs.Settling.{and_first, and_second}

@@ -5,7 +5,7 @@ use Rattle.paris_names.specs.declared.keys.Edition.{Edition}
 use Rattle.paris_model.specs.Instructions.{Plan}
 use Rattle.paris_program.specs.Program.{Program}
 use Rattle.paris_exec.specs.Tasks.{Task}
-use Rattle.paris_book.specs.declared.rows.Status.{Status}
+use Rattle.paris_events.specs.declared.rows.Status.{Status}
 use Rattle.paris_book.specs.declared.rows.RowData.{RowData}
 
 -- a row's id, and what the book keeps of it

@@ -8,7 +8,8 @@ use Rattle.paris_model.specs.Frame.{World}
 use Rattle.paris_model.specs.Instructions.{Plan, reads, writes, one}
 use Rattle.paris_model.specs.Run.{run}
 use Rattle.paris_exec.specs.Tasks.{Task, numbers_of}
-use Rattle.paris_book.specs.Machine.{Row, Inputs, start_world, is_settled}
+use Rattle.paris_events.specs.Rows.{is_settled}
+use Rattle.paris_book.specs.Machine.{Row, Inputs, start_world}
 use Rattle.paris_book.specs.Entries.{Entry}
 
 -- what others see of a row

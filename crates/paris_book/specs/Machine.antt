@@ -26,18 +26,19 @@ use Rattle.paris_instr.specs.PlanEq.{plan_eq}
 use Rattle.paris_instr.specs.Resolve.{resolution, fault_in}
 use Rattle.paris_field.specs.Fields.{FieldNumbers, field_eq, overwritten}
 use Rattle.paris_exec.specs.Tasks.{Task, field_of}
-use Rattle.paris_book.specs.declared.rows.Status.{Status}
-use Rattle.paris_book.specs.declared.rows.Status.TheVariants.{Waiting, Out, Settled}
+use Rattle.paris_events.specs.Rows.{is_settled, is_waiting}
+use Rattle.paris_events.specs.declared.rows.Status.{Status}
+use Rattle.paris_events.specs.declared.rows.Status.TheVariants.{Waiting, Out, Settled}
 use Rattle.paris_book.specs.declared.inputs.Input.{Input}
 use Rattle.paris_book.specs.declared.inputs.FlagInputs.{FlagInputs}
-use Rattle.paris_book.specs.declared.events.Edit.{Edit}
-use Rattle.paris_book.specs.declared.events.Edit.TheVariants.{AddSet, AddField, Input as SetInput, Insert, Delete, Replace}
-use Rattle.paris_book.specs.declared.events.EditReply.{EditReply}
-use Rattle.paris_book.specs.declared.events.EditReply.TheVariants.{Accepted, Row as NewRow}
-use Rattle.paris_book.specs.declared.events.Verdict.{Verdict}
-use Rattle.paris_book.specs.declared.events.Verdict.TheVariants.{Gone, Stale, Repeated, Foreign, Kept}
-use Rattle.paris_book.specs.declared.events.RowFault.{RowFault}
-use Rattle.paris_book.specs.declared.events.RowLook.{RowLook}
+use Rattle.paris_events.specs.declared.edits.Edit.{Edit}
+use Rattle.paris_events.specs.declared.edits.Edit.TheVariants.{AddSet, AddField, Input as SetInput, Insert, Delete, Replace}
+use Rattle.paris_events.specs.declared.edits.EditReply.{EditReply}
+use Rattle.paris_events.specs.declared.edits.EditReply.TheVariants.{Accepted, Row as NewRow}
+use Rattle.paris_events.specs.declared.verdicts.Verdict.{Verdict}
+use Rattle.paris_events.specs.declared.verdicts.Verdict.TheVariants.{Gone, Stale, Repeated, Foreign, Kept}
+use Rattle.paris_events.specs.declared.rows.RowFault.{RowFault}
+use Rattle.paris_events.specs.declared.rows.RowLook.{RowLook}
 use Rattle.paris_book.specs.declared.events.Shown.{Shown}
 use Rattle.paris_book.specs.declared.events.Shown.TheVariants.{Settled as ShownSettled, Pending}
 
@@ -124,16 +125,6 @@ declared_flags edit count = record {
 }
 
 -- ---- what is true now
-
-abbrev pub is_settled : Status → Bool
-is_settled Waiting = false
-is_settled Out = false
-is_settled Settled = true
-
-abbrev pub is_waiting : Status → Bool
-is_waiting Waiting = true
-is_waiting Out = false
-is_waiting Settled = false
 
 abbrev pub row_plan : Row → Plan
 row_plan r = r.plan

@@ -8,7 +8,7 @@ use Rattle.paris_depends.specs.Sweeps.{by_ids}
 use Rattle.paris_exec.specs.Tasks.{Task}
 use Rattle.paris_book.specs.Machine.{recalled_status}
 use Rattle.paris_book.specs.declared.rows.RowData.{RowData}
-use Rattle.paris_book.specs.declared.rows.Status.TheVariants.{Waiting, Out, Settled}
+use Rattle.paris_events.specs.declared.rows.Status.TheVariants.{Waiting, Out, Settled}
 
 abbrev pub data_plan : RowData → Plan
 data_plan row = row.plan

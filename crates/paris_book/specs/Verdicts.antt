@@ -11,13 +11,14 @@ use Rattle.paris_model.specs.Instructions.{reads, writes}
 use Rattle.paris_instr.specs.PlanEq.{plan_eq}
 use Rattle.paris_field.specs.Fields.{field_eq}
 use Rattle.paris_exec.specs.Tasks.{Task, task_value}
-use Rattle.paris_book.specs.Machine.{Inputs, is_settled}
+use Rattle.paris_events.specs.Rows.{is_settled}
+use Rattle.paris_book.specs.Machine.{Inputs}
 use Rattle.paris_book.specs.Among.{firm_among, inputs_among}
 use Rattle.paris_book.specs.Entries.{Entry}
 use Rattle.paris_book.specs.declared.events.Look.{Look}
 use Rattle.paris_book.specs.declared.events.Look.TheVariants.{Settled, Pending}
-use Rattle.paris_book.specs.declared.events.Verdict.{Verdict}
-use Rattle.paris_book.specs.declared.events.Verdict.TheVariants.{Stale, Repeated, Foreign, Kept}
+use Rattle.paris_events.specs.declared.verdicts.Verdict.{Verdict}
+use Rattle.paris_events.specs.declared.verdicts.Verdict.TheVariants.{Stale, Repeated, Foreign, Kept}
 
 -- a settled row keeps a result that holds the key
 abbrev pub KeptFor : Entry → Key → Type 0
@@ -37,10 +38,6 @@ verdict_among inputs es place e t =
     if e.edition.0 == t.edition.0
     then (if is_settled e.status then Repeated else (if present_among inputs es place e t then Kept else Foreign))
     else Stale e.edition
-
-abbrev pub is_kept_verdict : Verdict → Bool
-is_kept_verdict Kept = true
-is_kept_verdict _ = false
 
 -- whether a fault is want of memory
 abbrev pub is_no_memory : Fault → Bool

@@ -8,17 +8,18 @@ ghost use Rattle.paris_program.specs.Program.{place_of};
 ghost use Rattle.paris_book.specs.Machine.{empty_state, edit_fault, edit_answer, accepted, place_of_spot, show_reply, take_reply, after_take, verdict_of, after_bring, unsettled_rows};
 ghost use Rattle.paris_book.specs.declared.events.Event.TheVariants as EventCase;
 ghost use Rattle.paris_book.specs.Kept.{row_of};
-ghost use Rattle.paris_book.specs.Verdicts.{is_kept_verdict, is_no_memory};
+ghost use Rattle.paris_book.specs.Verdicts.{is_no_memory};
 ghost use Rattle.paris_book.specs.Events.{reply_to, after, replies_to, after_all};
 ghost use Rattle.paris_book.specs.Among.{look_shown};
 ghost use Rattle.paris_book.specs.Entries.{entries};
 ghost use Rattle.paris_book.specs.Marks.{out_data, kept_data};
 
-use crate::events::{Edit, EditReply, Event, Look, Reply, Shown, Verdict};
+use crate::events::{Event, Look, Reply, Shown};
 use crate::inputs::InputData;
 use crate::looks::{first_ready, judge, look_at, order_at};
-use crate::rows::{RowData, Status};
+use crate::rows::RowData;
 use paris_board::Board;
+use paris_events::{Edit, EditReply, Status, Verdict};
 use paris_exec::{Done, Order};
 use paris_names::{Fault, Items, KeyName, RowId, Spot};
 use paris_program::Program;
@@ -308,17 +309,5 @@ fn place_after(rows: &Program<RowData>, id: RowId) -> Result<usize, Fault>
     match rows.place_of(id) {
         Some(place) => Ok(place + 1),
         None => Err(Fault::NoRow),
-    }
-}
-
-impl Verdict {
-    /// Whether the result was kept.
-    pub fn is_kept(&self) -> bool
-        ensures { result ≡ is_kept_verdict self.now }
-    {
-        match self {
-            Verdict::Kept => true,
-            Verdict::Gone | Verdict::Stale(_) | Verdict::Repeated | Verdict::Foreign => false,
-        }
     }
 }

@@ -9,16 +9,16 @@ ghost use Rattle.paris_geometry.specs.Geometry.{is_geometry};
 ghost use Rattle.paris_board.specs.Board.{set_fault, field_fault, key_named, set_named};
 ghost use Rattle.paris_instr.specs.Resolve.{IsFittedTo};
 ghost use Rattle.paris_book.specs.Machine.{edit_fault, edit_answer, content_fault, accepted, input_fault, set_added, field_added, input_set, row_inserted, replaced_from, find_row, place_of_spot};
-ghost use Rattle.paris_book.specs.declared.events.Edit.TheVariants as EditCase;
+ghost use Rattle.paris_events.specs.declared.edits.Edit.TheVariants as EditCase;
 ghost use Rattle.paris_book.specs.Marks.{fresh_data};
 
 use crate::book::Book;
-use crate::events::{Edit, EditReply};
 use crate::inputs::{
     declare_flags, declare_input, given_input, input_at, push_field, push_flags, set_input,
 };
 use crate::marks::{unsettle_all, unsettled_by_replace, unsettled_from};
-use crate::rows::{RowData, Status};
+use crate::rows::RowData;
+use paris_events::{Edit, EditReply, Status};
 use paris_geometry::Geometry;
 use paris_instr::{Instr, Plan, resolve};
 use paris_names::limits::{MAX_EDITS, MAX_ROWS};

@@ -14,6 +14,6 @@ pub mod rows;
 pub mod settlement;
 
 pub use book::Book;
-pub use events::{Edit, EditReply, Event, Look, Reply, RowFault, RowLook, Shown, Verdict};
-pub use rows::Status;
+pub use events::{Event, Look, Reply, Shown};
+pub use paris_events::{Edit, EditReply, RowFault, RowLook, Status, Verdict};
 pub use settlement::SettleFault;

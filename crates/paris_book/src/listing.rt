@@ -6,9 +6,9 @@ ghost use Rattle.paris_book.specs.Among.{listed_entry, looks_kept};
 ghost use Rattle.paris_book.specs.Entries.{entry_of, entries};
 
 use crate::book::Book;
-use crate::events::RowLook;
 use crate::refusals::cause_of;
 use crate::rows::RowData;
+use paris_events::RowLook;
 use paris_names::{Items, RowId};
 use paris_program::Program;
 use std::alloc::{AllocError, Global};

@@ -7,47 +7,24 @@ ghost use Rattle.std.specs.Cmp.Lexicographic.{pointwise};
 ghost use Rattle.paris_model.specs.Instructions.{reads};
 ghost use Rattle.paris_field.specs.Fields.{field_eq};
 ghost use Rattle.paris_exec.specs.Tasks.{fits};
-ghost use Rattle.paris_book.specs.Machine.{input_of, start_world, is_settled, is_waiting, shown_of};
+ghost use Rattle.paris_book.specs.Machine.{input_of, start_world, shown_of};
 ghost use Rattle.paris_book.specs.Kept.{Sound, row_of, present};
 ghost use Rattle.paris_book.specs.Whole.{AllFitted, Fitted, shape_in};
 ghost use Rattle.paris_book.specs.Among.{inputs_of, look_among, look_shown, LookFits, firm_among, ready_among, next_among, inputs_among, order_among};
 ghost use Rattle.paris_book.specs.Verdicts.{KeptFor, LooksAt, verdict_among};
 ghost use Rattle.paris_book.specs.Entries.{Entry, entry_of, entries};
 
-use crate::events::{Look, Verdict};
+use crate::events::Look;
 use crate::inputs::{InputData, input_at};
-use crate::rows::{RowData, Status};
+use crate::rows::RowData;
 use paris_depends::origin;
+use paris_events::Verdict;
 use paris_exec::{Done, Order};
 use paris_field::FieldValue;
 use paris_instr::Plan;
 use paris_names::{Key, RowId};
 use paris_program::Program;
 use std::alloc::{AllocError, Global};
-
-impl Status {
-    /// Whether the row's result is known.
-    pub fn is_settled(self) -> bool
-        ensures { result ≡ is_settled self }
-    {
-        match self {
-            Status::Waiting | Status::Out => false,
-            Status::Settled => true,
-        }
-    }
-}
-
-impl Status {
-    /// Whether the row waits for an order to be taken.
-    pub fn is_waiting(self) -> bool
-        ensures { result ≡ is_waiting self }
-    {
-        match self {
-            Status::Waiting => true,
-            Status::Out | Status::Settled => false,
-        }
-    }
-}
 
 /// What is shown of a key at a place.
 pub(crate) fn look_at<'a>(

@@ -9,8 +9,9 @@ ghost use Rattle.paris_depends.specs.Sweeps.{touched};
 ghost use Rattle.paris_book.specs.Marks.{stale_row, unsettled_by_ids, ids_in, data_plan, writes_either};
 ghost use Rattle.paris_book.specs.declared.rows.RowData.{RowData as RowShape};
 
-use crate::rows::{RowData, Status};
+use crate::rows::RowData;
 use paris_depends::affected;
+use paris_events::Status;
 use paris_instr::Plan;
 use paris_names::keys::has_key;
 use paris_names::{Edition, Fault, Key, RowId};

@@ -6,8 +6,8 @@ ghost use Rattle.paris_book.specs.Among.{cause_kept, faults_kept};
 ghost use Rattle.paris_book.specs.Entries.{entry_of, entries};
 
 use crate::book::Book;
-use crate::events::RowFault;
 use crate::rows::RowData;
+use paris_events::RowFault;
 use paris_exec::Outcome;
 use paris_model::Refusal;
 use paris_names::{Items, RowId};

@@ -1,20 +1,10 @@
 //! Rows of the program as the book keeps them.
 
 use paris_depends::HasPlan;
+use paris_events::Status;
 use paris_exec::Done;
 use paris_instr::Plan;
 use paris_names::Edition;
-
-/// Where a row stands.
-#[derive(Clone, Copy, PartialEq, Eq, Debug)]
-pub enum Status {
-    /// It is unsettled, and no order of its present edition is out.
-    Waiting,
-    /// It is unsettled, and an order of its present edition is out.
-    Out,
-    /// Its result is known, and belongs to the present program.
-    Settled,
-}
 
 /// What the book keeps of a row, whose id is the program's, with the result that was last kept.
 #[derive(Debug, Drop)]

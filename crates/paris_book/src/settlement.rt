@@ -5,7 +5,8 @@ ghost use Rattle.paris_book.specs.Machine.{after_release, after_take, after_brin
 ghost use Rattle.paris_book.specs.Marks.{recalled_data, recalled_pair};
 
 use crate::book::{Book, count_unsettled};
-use crate::rows::{RowData, Status};
+use crate::rows::RowData;
+use paris_events::Status;
 use paris_exec::{Order, execute};
 use paris_program::Program;
 use std::alloc::AllocError;

@@ -1,13 +1,10 @@
 //! Reads a script from standard input, line by line, and writes the reply to each of its commands to standard output.
 #![tactic(auto)]
 
-mod program;
-mod words;
-
+use paris_cli::{WordsFault, refuse_words, run_words};
 use std::env::Env;
 use std::process::ExitCode;
 use std::{env, io};
-use words::WordsFault;
 
 /// The words of the command line behind the program's name.
 fn words_behind_name<H: Env + AllocGlobal>(rt: &H) -> io::Result<Vec<String>> {
@@ -24,7 +21,7 @@ fn main(rt: HostRuntime) -> ExitCode {
         Ok(words) => {
             let mut reader = rt.stdin();
             let mut writer = rt.stdout();
-            program::run_words(&rt, words.as_slice(), &mut reader, &mut writer, &mut errors)
+            run_words(&rt, words.as_slice(), &mut reader, &mut writer, &mut errors)
         }
         Err(error) => {
             let fault = if error.kind() == io::ErrorKind::OutOfMemory {
@@ -32,19 +29,8 @@ fn main(rt: HostRuntime) -> ExitCode {
             } else {
                 WordsFault::NotText
             };
-            program::refuse_words(&rt, &mut errors, &fault)
+            refuse_words(&rt, &mut errors, &fault)
         }
     };
     ExitCode::from(status)
 }
-
-#[cfg(test)]
-mod cuts;
-#[cfg(test)]
-mod gallery;
-#[cfg(test)]
-mod rows;
-#[cfg(test)]
-mod scripts;
-#[cfg(test)]
-mod tests;

@@ -11,11 +11,11 @@ use Rattle.paris_names.specs.declared.names.KeyName.{KeyName}
 use Rattle.paris_names.specs.Faults.{IsFaultOf}
 use Rattle.paris_exec.specs.Tasks.{Task}
 use Rattle.paris_book.specs.Machine.{State, edit_fault, edit_answer, accepted, take_reply, after_take, verdict_of, after_bring, show_reply}
-use Rattle.paris_book.specs.declared.events.Edit.{Edit}
-use Rattle.paris_book.specs.declared.events.EditReply.{EditReply}
-use Rattle.paris_book.specs.declared.events.Verdict.{Verdict}
+use Rattle.paris_events.specs.declared.edits.Edit.{Edit}
+use Rattle.paris_events.specs.declared.edits.EditReply.{EditReply}
+use Rattle.paris_events.specs.declared.verdicts.Verdict.{Verdict}
 use Rattle.paris_book.specs.declared.events.Shown.{Shown}
-use Rattle.paris_session.specs.Replies.{edit_text, order_text, nothing_text, verdict_text, shown_text}
+use Rattle.paris_replies.specs.Replies.{edit_text, order_text, nothing_text, verdict_text}
 use Rattle.paris_session.specs.Transcript.{Sitting, moved, refused, edited, edited_by, taken, taken_by, brought, brought_by, released, listed, faulted, settled, shown, shown_by, order_at, commanded_by, longest_line, answer}
 
 pub edit_accepted : (s : Sitting) (e : Edit) (new : State) (reply : EditReply) (text : List ℕ) → edit_fault s.state e ≡ None

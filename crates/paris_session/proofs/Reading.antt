@@ -6,10 +6,11 @@ use Rattle.paris_session.specs.Transcript.{Sitting}
 use Rattle.paris_session.specs.declared.answers.Summary.{Summary}
 use Rattle.paris_session.specs.declared.run.RunFault.{RunFault}
 use Rattle.paris_session.specs.declared.run.RunFault.TheVariants as faults
-use Rattle.paris_session.specs.Calls.{Marks}
+use Rattle.paris_calls.specs.Calls.{Marks}
+use Rattle.paris_calls.specs.Texts.{WritesFront}
 use Rattle.paris_session.specs.Transcript.{answer, start, transcript, sitting_after}
 use Rattle.paris_session.specs.Progress.{ended_lines, open_line, said, sitting_at}
-use Rattle.paris_session.specs.Run.{WritesFront, EndsWell, StopsShort, AnswersEnded, IsWriteFault}
+use Rattle.paris_session.specs.Run.{EndsWell, StopsShort, AnswersEnded, IsWriteFault}
 use Rattle.paris_session.proofs.LineLemmas.{transcript_lines, sitting_lines}
 use Rattle.paris_session.proofs.ScriptLemmas.{more_said, more_session, more_line, said-append, replies-append, after-append}
 

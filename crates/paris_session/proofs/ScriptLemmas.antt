@@ -3,7 +3,7 @@ use Rattle.std.proofs.Common.{◌≡◌, ℕ, List, [], ◌∷◌, ◌++◌, ref
 use Rattle.std.specs.Io.KnownBytes.{Appends}
 use Rattle.std.proofs.KnownBytes.{Appends-trans}
 use Rattle.std.proofs.Common.{Option}
-use Rattle.paris_session.specs.Run.{WritesFront}
+use Rattle.paris_calls.specs.Texts.{WritesFront}
 use Rattle.paris_session.specs.Transcript.{Sitting}
 use Rattle.paris_session.specs.Transcript.{after, replies, answer}
 use Rattle.paris_session.specs.Progress.{with_byte, ended_lines, open_line, said, sitting_at}

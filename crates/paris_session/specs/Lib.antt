@@ -1,5 +1,3 @@
-pub mod Calls
-pub mod Replies
 pub mod Transcript
 pub mod Progress
 pub mod Run

@@ -2,18 +2,11 @@
 use Rattle.std.specs.Prelude.{◌≡◌, ℕ, List, ◌++◌, Option, true}
 use Rattle.std.specs.Io.KnownBytes.{Appends, Consumes, IsAtEnd}
 use Rattle.paris_session.specs.Transcript.{transcript, transcript_of_ended, sitting_after}
-use Rattle.paris_session.specs.Calls.{Marks}
+use Rattle.paris_calls.specs.Calls.{Marks}
+use Rattle.paris_calls.specs.Texts.{BeginsWith}
 use Rattle.paris_session.specs.declared.answers.Summary.{Summary}
 use Rattle.paris_session.specs.declared.run.RunFault.{RunFault}
 use Rattle.paris_session.specs.declared.run.RunFault.TheVariants.{Read, Write, TooLong, NoMemory}
-
--- xs begins with the prefix
-abbrev pub BeginsWith : List ℕ → List ℕ → Type 0
-BeginsWith xs prefix = (more : List ℕ) × (xs ≡ prefix ++ more)
-
--- a front of the text was written
-abbrev pub WritesFront : Option (List ℕ) → Option (List ℕ) → List ℕ → Type 0
-WritesFront old new text = (front : List ℕ) × Appends old new front × BeginsWith text front
 
 -- the run has seen that its writer failed, or it wants memory
 abbrev pub IsWriteFault : RunFault → Marks → Type 0

@@ -7,13 +7,14 @@ use Rattle.paris_names.specs.declared.keys.Spot.{Spot}
 use Rattle.paris_names.specs.declared.names.KeyName.{KeyName}
 use Rattle.paris_exec.specs.Tasks.{Task}
 use Rattle.paris_book.specs.Machine.{State, empty_state, edit_fault, edit_answer, accepted, take_reply, after_take, verdict_of, after_bring, after_release, show_reply, list_of, faults_of, all_settled, unsettled_rows}
-use Rattle.paris_book.specs.declared.events.Edit.{Edit}
-use Rattle.paris_book.specs.declared.events.Edit.TheVariants.{AddSet, AddField, Input, Insert, Delete, Replace}
+use Rattle.paris_events.specs.declared.edits.Edit.{Edit}
+use Rattle.paris_events.specs.declared.edits.Edit.TheVariants.{AddSet, AddField, Input, Insert, Delete, Replace}
 use Rattle.paris_book.specs.declared.events.Shown.{Shown}
+use Rattle.paris_book.specs.declared.events.Shown.TheVariants.{Settled, Pending}
 use Rattle.paris_text.specs.declared.commands.Command.{Command}
 use Rattle.paris_text.specs.declared.commands.Command.TheVariants as command
 use Rattle.paris_text.specs.CommandReading.{command_of}
-use Rattle.paris_session.specs.Replies.{ok_text, edit_text, order_text, nothing_text, verdict_text, shown_text, list_text, faults_text, settled_text, refusal_text}
+use Rattle.paris_replies.specs.Replies.{ok_text, edit_text, order_text, nothing_text, verdict_text, values_text, pending_text, list_text, faults_text, settled_text, refusal_text}
 
 -- a session: the state of its book, the orders that it took, and how many commands it answered and refused
 pub record Sitting : Type 0 where
@@ -43,7 +44,7 @@ edited s e = edited_by s e (edit_fault s.state e)
 -- an order gets the next number, and stays in the tray
 abbrev pub taken_by : Sitting → Option Task → Sitting × List ℕ
 taken_by s None = (moved s (after_take s.state) s.tray, nothing_text)
-taken_by s (Some t) = (moved s (after_take s.state) (s.tray ++ t ∷ []), order_text (length s.tray + 1) t)
+taken_by s (Some t) = (moved s (after_take s.state) (s.tray ++ t ∷ []), order_text (length s.tray + 1) t.id t.edition)
 
 unfoldable pub taken : Sitting → Sitting × List ℕ
 taken s = taken_by s (take_reply s.state)
@@ -62,6 +63,10 @@ brought s number = brought_by s (order_at s.tray number)
 -- the orders that are out are given up. They stay in the tray
 unfoldable pub released : Sitting → Sitting × List ℕ
 released s = (moved s (after_release s.state) s.tray, ok_text)
+
+abbrev pub shown_text : Shown → List ℕ
+shown_text (Settled value) = values_text value.numbers
+shown_text (Pending id) = pending_text id
 
 abbrev pub shown_by : Sitting → Result Shown Fault → Sitting × List ℕ
 shown_by s (Ok x) = (moved s s.state s.tray, shown_text x)

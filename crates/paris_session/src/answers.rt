@@ -2,10 +2,10 @@
 
 ghost use Rattle.std.specs.Prelude.{◌≡◌, ℕ, ◌+◌, ◌^◌, ◌<◌, ◌≤◌, List, length, IfOk, OnOk, option_map, slice_get};
 ghost use Rattle.paris_text.specs.CommandReading.{command_of};
-ghost use Rattle.paris_session.specs.Transcript.{start, refused, edited, taken, brought, released, shown, listed, faulted, settled, order_at, commanded, commanded_by, answer};
+ghost use Rattle.paris_book.specs.Among.{look_shown};
+ghost use Rattle.paris_session.specs.Transcript.{shown_text, start, refused, edited, taken, brought, released, shown, listed, faulted, settled, order_at, commanded, commanded_by, answer};
 
-use crate::replies;
-use paris_book::{Book, Edit};
+use paris_book::{Book, Edit, Look};
 use paris_exec::{OpenGate, Order, execute};
 use paris_names::limits::MAX_LINE;
 use paris_names::{Fault, KeyName, Spot};
@@ -19,6 +19,19 @@ use std::thread::Threads;
 pub struct Summary {
     pub commands: u64,
     pub refused: u64,
+}
+
+/// The reply to a look at a key.
+fn look_text(alloc: Global, look: &Look<'_>) -> Result<Vec<u8>, AllocError>
+    ensures { IfOk result (λ text. text.items ≡ shown_text (look_shown look.now)) }
+{
+    match look {
+        Look::Settled(value) => {
+            let numbers = value.numbers()?;
+            paris_replies::values_text(alloc, numbers.as_slice())
+        }
+        Look::Pending(id) => paris_replies::pending_text(alloc, *id),
+    }
 }
 
 /// A book, the orders that this run took of it, how many workers settle it, from 1 to 16, and how many commands were answered and
@@ -77,7 +90,7 @@ impl Session {
         requires { self.old.commands < 2 ^ 62 }
         ensures { IfOk result (λ text. (self.new, text.items) ≡ refused self.old fault) }
     {
-        let text = replies::refusal_text(self.alloc(), fault)?;
+        let text = paris_replies::refusal_text(self.alloc(), fault)?;
         self.answered += 1;
         self.declined += 1;
         Ok(text)
@@ -91,7 +104,7 @@ impl Session {
         match self.book.edit(edit) {
             Ok(reply) => {
                 self.answered += 1;
-                replies::edit_text(self.alloc(), reply)
+                paris_replies::edit_text(self.alloc(), reply)
             }
             Err(fault) => {
                 if fault == Fault::NoMemory {
@@ -110,11 +123,11 @@ impl Session {
         match self.book.take()? {
             None => {
                 self.answered += 1;
-                replies::nothing_text(self.alloc())
+                paris_replies::nothing_text(self.alloc())
             }
             Some(order) => {
                 let number = self.orders.len() as u64 + 1;
-                let text = replies::order_text(self.alloc(), number, &order)?;
+                let text = paris_replies::order_text(self.alloc(), number, order.id(), order.edition())?;
                 self.orders.push(order)?;
                 self.answered += 1;
                 Ok(text)
@@ -145,7 +158,7 @@ impl Session {
             Ok(done) => {
                 let verdict = self.book.bring(done);
                 self.answered += 1;
-                replies::verdict_text(self.alloc(), verdict)
+                paris_replies::verdict_text(self.alloc(), verdict)
             }
             Err((_, error)) => Err(error),
         }
@@ -157,7 +170,7 @@ impl Session {
         requires { self.old.commands < 2 ^ 62 }
         ensures { IfOk result (λ text. (self.new, text.items) ≡ released self.old) }
     {
-        let text = replies::ok_text(self.alloc())?;
+        let text = paris_replies::ok_text(self.alloc())?;
         self.book.release();
         self.answered += 1;
         Ok(text)
@@ -170,7 +183,7 @@ impl Session {
     {
         match self.book.show(name, spot) {
             Ok(look) => {
-                let text = replies::shown_text(self.alloc(), &look)?;
+                let text = look_text(self.alloc(), &look)?;
                 self.answered += 1;
                 Ok(text)
             }
@@ -185,7 +198,7 @@ impl Session {
         ensures { IfOk result (λ text. (self.new, text.items) ≡ listed self.old) }
     {
         let looks = self.book.list()?;
-        let text = replies::list_text(self.alloc(), looks.as_slice())?;
+        let text = paris_replies::list_text(self.alloc(), looks.as_slice())?;
         self.answered += 1;
         Ok(text)
     }
@@ -197,7 +210,7 @@ impl Session {
         ensures { IfOk result (λ text. (self.new, text.items) ≡ faulted self.old) }
     {
         let faults = self.book.faults()?;
-        let text = replies::faults_text(self.alloc(), faults.as_slice())?;
+        let text = paris_replies::faults_text(self.alloc(), faults.as_slice())?;
         self.answered += 1;
         Ok(text)
     }
@@ -211,7 +224,7 @@ impl Session {
         match self.book.settle_par(rt, self.workers, &OpenGate) {
             Ok(ran) => {
                 self.answered += 1;
-                replies::settled_text(self.alloc(), ran)
+                paris_replies::settled_text(self.alloc(), ran)
             }
             Err(_) => Err(AllocError),
         }

@@ -2,10 +2,7 @@
 #![tactic(auto)]
 
 pub mod answers;
-pub mod calls;
-pub mod replies;
 pub mod run;
 
 pub use answers::{Session, Summary};
-pub use calls::Tally;
-pub use run::{RunFault, run_counted, run_script, write_out};
+pub use run::{RunFault, run_counted, run_script};

@@ -2,13 +2,14 @@
 
 ghost use Rattle.std.specs.Prelude.{◌≡◌, ℕ, ◌+◌, ◌^◌, ◌<◌, ◌≤◌, List, [], ◌∷◌, length, true, false, IfOk, IfErr, OnOk, OnErr};
 ghost use Rattle.std.specs.Io.KnownBytes.{Appends, Keeps};
-ghost use Rattle.paris_session.specs.Calls.{no_marks, SameReads};
+ghost use Rattle.paris_calls.specs.Calls.{no_marks, SameReads};
+ghost use Rattle.paris_calls.specs.Texts.{WritesFront};
 ghost use Rattle.paris_session.specs.Transcript.{answer, start};
 ghost use Rattle.paris_session.specs.Progress.{open_line, said, sitting_at};
-ghost use Rattle.paris_session.specs.Run.{WritesFront, IsWriteFault, IsFaultOf, EndsWell, StopsShort};
+ghost use Rattle.paris_session.specs.Run.{IsWriteFault, IsFaultOf, EndsWell, StopsShort};
 
 use crate::answers::{Session, Summary};
-use crate::calls::{self, Given, Sent, Tally};
+use paris_calls::{Given, Tally, read_once, write_out};
 use paris_names::limits::{MAX_LINE, MAX_READS};
 use std::alloc::Global;
 use std::io::{Read, Write};
@@ -28,8 +29,8 @@ pub enum RunFault {
     NoMemory,
 }
 
-/// Writes the whole text, by as many writes as the writer takes.
-pub fn write_out<W: Write>(
+/// Writes a reply.
+fn write_reply<W: Write>(
     rt: &impl Wait,
     writer: &mut W,
     tally: &mut Tally,
@@ -40,18 +41,10 @@ pub fn write_out<W: Write>(
     ensures fault { IfErr result (λ e. (e ≡ RunFault.Write) × (tally.new.write_failed ≡ true)) }
     ensures reads { SameReads tally.old tally.new }
 {
-    let mut rest = text;
-    for _ in rt.forever() {
-        if rest.is_empty() {
-            return Ok(());
-        }
-        match calls::write_once(writer, tally, rest) {
-            Sent::Bytes(n) => rest = &rest[n..],
-            Sent::Interrupted => {}
-            Sent::Failed => return Err(RunFault::Write),
-        }
+    match write_out(rt, writer, tally, text) {
+        Ok(()) => Ok(()),
+        Err(_) => Err(RunFault::Write),
     }
-    unreachable!()
 }
 
 /// A session, and the line that has begun.
@@ -111,7 +104,7 @@ impl Script {
     {
         if byte == b'\n' {
             let reply = self.end_line(rt)?;
-            return write_out(rt, writer, tally, reply.as_slice());
+            return write_reply(rt, writer, tally, reply.as_slice());
         }
         if self.line.len() <= MAX_LINE && self.line.push(byte).is_err() {
             return Err(RunFault::NoMemory);
@@ -160,7 +153,7 @@ impl Script {
         ensures reads { SameReads tally.old tally.new }
     {
         let reply = self.end_line(rt)?;
-        write_out(rt, writer, tally, reply.as_slice())?;
+        write_reply(rt, writer, tally, reply.as_slice())?;
         Ok(self.session.summary())
     }
 }
@@ -192,7 +185,7 @@ pub fn run_counted<H: Threads + Wait + Sync, R: Read, W: Write>(
     let mut script = Script::new(alloc, workers);
     let mut room = [0u8; ROOM];
     for _ in 0..bound {
-        match calls::read_once(reader, tally, &mut room) {
+        match read_once(reader, tally, &mut room) {
             Given::Bytes(n) => script.take_bytes(rt, writer, tally, &room[..n])?,
             Given::End => return script.finish(rt, writer, tally),
             Given::Interrupted => {}

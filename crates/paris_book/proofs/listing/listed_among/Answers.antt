@@ -3,7 +3,7 @@ use Rattle.std.proofs.Math.Seq.{take-length}
 use Rattle.std.proofs.lemmas.List.{length-map}
 use Rattle.paris_book.specs.Entries.{entry_of, entries}
 use Rattle.paris_book.specs.Among.{looks_kept}
-use Rattle.paris_book.specs.declared.events.RowLook.{RowLook}
+use Rattle.paris_events.specs.declared.rows.RowLook.{RowLook}
 use Rattle.paris_book.specs.declared.rows.RowData.{RowData}
 use Rattle.paris_book.proofs.Entering.{entry_place}
 use Rattle.paris_book.proofs.Listed.{looks_more}

@@ -2,7 +2,7 @@ use Rattle.std.proofs.Common.{◌≡◌, List, [], ◌∷◌, ◌++◌, Some, No
 use Rattle.std.proofs.Math.Seq.{take-length}
 use Rattle.std.proofs.lemmas.List.{append-nil, length-map}
 use Rattle.paris_book.specs.Entries.{entry_of, entries}
-use Rattle.paris_book.specs.declared.events.RowFault.{RowFault}
+use Rattle.paris_events.specs.declared.rows.RowFault.{RowFault}
 use Rattle.paris_book.specs.Among.{faults_kept}
 use Rattle.paris_book.proofs.Entering.{entry_place}
 use Rattle.paris_book.proofs.RefusedRows.{faults_more}

@@ -1,7 +1,7 @@
 use Rattle.std.proofs.Common.{◌≡◌, ◌+◌, rules, arith, ap, ◌∙◌, refl, length, take, ◌≤◌}
 use Rattle.std.proofs.lemmas.Grind.{common_steps}
 use Rattle.std.proofs.lemmas.Result.{err_from_is_err_and, IfOk-weaker, IfErr-weaker}
-use Rattle.paris_session.specs.Calls.{Marks}
+use Rattle.paris_calls.specs.Calls.{Marks}
 use Rattle.paris_session.specs.Transcript.{Sitting}
 use Rattle.paris_session.proofs.LineLemmas.{ended_said}
 use Rattle.paris_session.proofs.Reading.{reading_nothing, reading_kept, reading_more, stops_reading, stops_answering, stops_at_last, ends_well, answers_nothing}

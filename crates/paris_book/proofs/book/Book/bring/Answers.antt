@@ -3,7 +3,7 @@ use Rattle.paris_names.specs.declared.keys.RowId.{RowId}
 use Rattle.paris_exec.specs.Tasks.{Task}
 use Rattle.paris_book.specs.Entries.{Entry, entries}
 use Rattle.paris_book.specs.Whole.{IsWhole}
-use Rattle.paris_book.specs.declared.events.Verdict.TheVariants.{Kept}
+use Rattle.paris_events.specs.declared.verdicts.Verdict.TheVariants.{Kept}
 use Rattle.paris_book.specs.Among.{inputs_of}
 use Rattle.paris_book.proofs.Entering.{entries_kept}
 use Rattle.paris_book.proofs.Inserts.{state_of}

@@ -1,7 +1,7 @@
 use Rattle.std.proofs.Common.{◌≡◌, ◌+◌, ◌≤◌, take}
 use Rattle.std.specs.Io.KnownBytes.{Appends}
 use Rattle.paris_session.specs.Progress.{said, sitting_at, open_line}
-use Rattle.paris_session.specs.Calls.{SameReads}
+use Rattle.paris_calls.specs.Calls.{SameReads}
 use Rattle.paris_session.proofs.run.Script.take_bytes.Given as goal
 
 abbrev pub invariant-loop-byte : goal.invariant-loop-byte

@@ -1,0 +1,8 @@
+//! Calls of a reader and a writer, counted: one read, one write, and a whole text by as many writes as it takes.
+#![tactic(auto)]
+
+mod calls;
+mod texts;
+
+pub use calls::{Given, Sent, Tally, read_once, write_once};
+pub use texts::{WriteFailed, write_out};

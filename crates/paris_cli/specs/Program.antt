@@ -1,0 +1,47 @@
+-- What the program does on its reader and its writers, by its exit status.
+use Rattle.std.specs.Prelude.{◌≡◌, ℕ, ◌==◌, List, Option, codes, if◌then◌else◌}
+use Rattle.std.specs.Io.KnownBytes.{Appends, Consumes, Keeps, IsAtEnd}
+use Rattle.paris_session.specs.Transcript.{transcript, sitting_after}
+use Rattle.paris_calls.specs.Texts.{WritesFront}
+use Rattle.paris_session.specs.Run.{StopsShort}
+use Rattle.paris_session.specs.declared.run.RunFault.{RunFault}
+use Rattle.paris_session.specs.declared.run.RunFault.TheVariants.{Read, Write, TooLong, NoMemory}
+
+abbrev pub fault_line : RunFault → List ℕ
+fault_line Read = codes "read fault\n"
+fault_line Write = codes "write fault\n"
+fault_line TooLong = codes "too long\n"
+fault_line NoMemory = codes "no memory\n"
+
+abbrev pub fault_status : RunFault → ℕ
+fault_status Read = 3
+fault_status Write = 3
+fault_status TooLong = 3
+fault_status NoMemory = 4
+
+-- whether some command was refused
+abbrev pub exit_status : ℕ → ℕ
+exit_status refused = if refused == 0 then 0 else 1
+
+-- all bytes were read, their transcript was written, and the status says whether it has refused a command; no line names a fault
+pub record Finishes (reader_old reader_new writer_old writer_new errors_old errors_new : Option (List ℕ)) (status : ℕ) : Type 0 where
+  pub read : List ℕ
+  pub consumed : Consumes reader_old reader_new read
+  pub at_end : IsAtEnd reader_new
+  pub written : Appends writer_old writer_new (transcript read)
+  pub status_is : status ≡ exit_status (sitting_after read).refusals
+  pub silent : Keeps errors_old errors_new
+
+-- the words were refused: nothing was read and nothing was written, but for what is said of them
+pub record Refuses (reader_old reader_new writer_old writer_new errors_old errors_new : Option (List ℕ)) : Type 0 where
+  pub said : List ℕ
+  pub unread : Keeps reader_old reader_new
+  pub unwritten : Keeps writer_old writer_new
+  pub told : Appends errors_old errors_new said
+
+-- a fault stopped the run, the status says which, and a front of the line that names it was written
+pub record Stops (reader_old reader_new writer_old writer_new errors_old errors_new : Option (List ℕ)) (status : ℕ) : Type 0 where
+  pub fault : RunFault
+  pub status_is : status ≡ fault_status fault
+  pub short : StopsShort reader_old reader_new writer_old writer_new fault
+  pub named : WritesFront errors_old errors_new (fault_line fault)

@@ -1,0 +1,8 @@
+//! The command line: its words, the run that they ask for over any reader and writers, and the exit status.
+#![tactic(auto)]
+
+mod program;
+mod words;
+
+pub use program::{refuse_words, run_words};
+pub use words::{WordsFault, read_workers};

@@ -1,0 +1,104 @@
+//! The program over any reader and writers: runs a script, and answers with an exit status.
+
+ghost use Rattle.std.specs.Prelude.{◌≡◌, ◌≢◌, ℕ, ◌<◌, ◌≤◌, List, map};
+ghost use Rattle.std.specs.String.{string_bytes};
+ghost use Rattle.paris_calls.specs.Texts.{WritesFront};
+ghost use Rattle.paris_cli.specs.Program.{Finishes, Refuses, Stops, fault_line, fault_status, exit_status};
+ghost use Rattle.paris_cli.specs.Words.{AreTaken, refusal_line, refusal_status};
+
+use crate::words::{WordsFault, read_workers};
+use paris_calls::{Tally, write_out};
+use paris_session::{RunFault, run_script};
+use std::io::{Read, Write};
+use std::sync::Wait;
+use std::thread::Threads;
+
+/// The line that names a fault.
+fn fault_line(fault: RunFault) -> &'static [u8]
+    ensures { result.now ≡ fault_line fault }
+{
+    match fault {
+        RunFault::Read => b"read fault\n",
+        RunFault::Write => b"write fault\n",
+        RunFault::TooLong => b"too long\n",
+        RunFault::NoMemory => b"no memory\n",
+    }
+}
+
+/// The exit status of a run that stopped short.
+fn fault_status(fault: RunFault) -> u8
+    ensures { result ≡ fault_status fault }
+{
+    match fault {
+        RunFault::Read | RunFault::Write | RunFault::TooLong => 3,
+        RunFault::NoMemory => 4,
+    }
+}
+
+/// Writes what is said of a fault. Where the writer fails, the rest of it is lost.
+fn report<E: Write>(rt: &impl Wait, errors: &mut E, line: &[u8])
+    ensures { WritesFront (E.contents errors.old) (E.contents errors.new) line.now }
+{
+    let mut tally = Tally::new();
+    let _ = write_out(rt, errors, &mut tally, line);
+}
+
+/// Says why words are refused, and answers the exit status.
+pub fn refuse_words<E: Write>(rt: &impl Wait, errors: &mut E, fault: &WordsFault) -> u8
+    ensures line { WritesFront (E.contents errors.old) (E.contents errors.new) (refusal_line fault.now) }
+    ensures status { result ≡ refusal_status fault.now }
+{
+    report(rt, errors, fault.line());
+    fault.status()
+}
+
+/// Runs the script that the reader gives, with at most so many workers, and writes its transcript. Status 0 says that all commands
+/// were accepted, 1 that some command was refused, 3 that the reader or the writer failed or the bound on reads was passed, and 4
+/// that there is no memory left.
+fn run<H: Threads + Wait + Sync + AllocGlobal, R: Read, W: Write, E: Write>(
+    rt: &H,
+    workers: usize,
+    reader: &mut R,
+    writer: &mut W,
+    errors: &mut E,
+) -> u8
+    requires { (1 ≤ workers) × (workers ≤ 16) }
+    ensures finishes { result ≤ 1 → Finishes (R.remaining reader.old) (R.remaining reader.new)
+        (W.contents writer.old) (W.contents writer.new) (E.contents errors.old) (E.contents errors.new) result }
+    ensures stops { 1 < result → Stops (R.remaining reader.old) (R.remaining reader.new)
+        (W.contents writer.old) (W.contents writer.new) (E.contents errors.old) (E.contents errors.new) result }
+    ensures status { result ≢ 2 }
+{
+    match run_script(rt, rt.alloc(), reader, writer, workers) {
+        Ok(summary) => { if summary.refused == 0 { 0 } else { 1 } }
+        Err(fault) => {
+            report(rt, errors, fault_line(fault));
+            fault_status(fault)
+        }
+    }
+}
+
+/// Runs the script that the reader gives, as the words of the command line ask, and answers the exit status: 0 where all commands
+/// were accepted, 1 where some command was refused, 2 where the words are refused, 3 after a fault of the reader or the writer or
+/// past the bound on reads, and 4 where there is no memory left. At 2, 3 and 4 the cause is said on `errors`.
+pub fn run_words<H: Threads + Wait + Sync + AllocGlobal, R: Read, W: Write, E: Write>(
+    rt: &H,
+    words: &[String],
+    reader: &mut R,
+    writer: &mut W,
+    errors: &mut E,
+) -> u8
+    ensures finishes { result ≤ 1 → Finishes (R.remaining reader.old) (R.remaining reader.new)
+        (W.contents writer.old) (W.contents writer.new) (E.contents errors.old) (E.contents errors.new) result }
+    ensures taken { result ≤ 1 → AreTaken (map string_bytes words.now) }
+    ensures untaken { result ≡ 2 → AreTaken (map string_bytes words.now) → ⊥ }
+    ensures refuses { result ≡ 2 → Refuses (R.remaining reader.old) (R.remaining reader.new)
+        (W.contents writer.old) (W.contents writer.new) (E.contents errors.old) (E.contents errors.new) }
+    ensures stops { 2 < result → Stops (R.remaining reader.old) (R.remaining reader.new)
+        (W.contents writer.old) (W.contents writer.new) (E.contents errors.old) (E.contents errors.new) result }
+{
+    match read_workers(rt.alloc(), words) {
+        Ok(workers) => run(rt, workers, reader, writer, errors),
+        Err(fault) => refuse_words(rt, errors, &fault),
+    }
+}

@@ -1,0 +1,92 @@
+//! The words of the command line: what they may be, and how many workers they ask for.
+
+ghost use Rattle.std.specs.Prelude.{◌≤◌, ◌≡◌, ◌⊎◌, map, IfOk, OnOk, IfErr};
+ghost use Rattle.std.specs.String.{string_bytes};
+ghost use Rattle.clap.specs.Words.{kind_of};
+ghost use Rattle.clap.specs.declared.error.kind.ErrorKind.TheVariants.{OutOfMemory};
+ghost use Rattle.paris_cli.specs.Words.{AreTaken, refusal_line, refusal_status};
+ghost use Rattle.paris_cli.specs.declared.words.WordsFault.TheVariants as WordsCase;
+
+use clap::error::ErrorKind;
+use clap::{Arg, Command, value_parser};
+use std::alloc::Global;
+
+/// Why the words of a command line are refused.
+#[derive(Debug, Drop)]
+pub enum WordsFault {
+    /// They ask for nothing that the program does. The text says why, or is the help that they ask for.
+    Usage(String),
+    /// One of them is not in UTF-8.
+    NotText,
+    /// There is no memory left.
+    NoMemory,
+}
+
+impl WordsFault {
+    /// What is said of the fault.
+    pub fn line(&self) -> &[u8]
+        ensures { result.now ≡ refusal_line self.now }
+    {
+        match self {
+            WordsFault::Usage(text) => text.as_bytes(),
+            WordsFault::NotText => b"a word is not in UTF-8\n",
+            WordsFault::NoMemory => b"no memory\n",
+        }
+    }
+
+    /// The exit status for the fault.
+    pub fn status(&self) -> u8
+        ensures { result ≡ refusal_status self.now }
+    {
+        match self {
+            WordsFault::Usage(_) | WordsFault::NotText => 2,
+            WordsFault::NoMemory => 4,
+        }
+    }
+}
+
+/// The number of workers where no word gives one.
+const WORKERS: u8 = 2;
+
+/// The number that `--workers` gives.
+fn parse(alloc: Global, words: &[String]) -> Result<u8, clap::Error>
+    ensures taken { OnOk result (AreTaken (map string_bytes words.now)) }
+    ensures untaken { IfErr result (λ e. (kind_of e ≡ OutOfMemory) ⊎ (AreTaken (map string_bytes words.now) → ⊥)) }
+{
+    let workers = Arg::new(alloc, "workers")
+        .long("workers")
+        .value_name("N")
+        .help("how many orders are executed at once")
+        .value_parser(value_parser!(u8).range(1..=16))
+        .default_value("2");
+    let command = Command::new(alloc, "paris_front")
+        .no_binary_name(true)
+        .arg(workers)?;
+    let matches = command.try_get_matches_from(words)?;
+    Ok(matches.get_one::<u8>("workers").unwrap_or(WORKERS))
+}
+
+fn fault_of(alloc: Global, error: clap::Error) -> WordsFault
+    ensures { kind_of error ≡ OutOfMemory → result ≡ WordsCase.NoMemory }
+{
+    if error.kind() == ErrorKind::OutOfMemory {
+        return WordsFault::NoMemory;
+    }
+    match format!(in alloc; "{error}") {
+        Ok(text) => WordsFault::Usage(text),
+        Err(_) => WordsFault::NoMemory,
+    }
+}
+
+/// The number of workers that the words behind the program's name ask for: `--workers N`, a whole number from 1 to 16, or 2
+/// workers where there are no words. All other words are refused.
+pub fn read_workers(alloc: Global, words: &[String]) -> Result<usize, WordsFault>
+    ensures workers { IfOk result (λ workers. (1 ≤ workers) × (workers ≤ 16)) }
+    ensures taken { OnOk result (AreTaken (map string_bytes words.now)) }
+    ensures untaken { IfErr result (λ fault. (fault ≡ WordsCase.NoMemory) ⊎ (AreTaken (map string_bytes words.now) → ⊥)) }
+{
+    match parse(alloc, words) {
+        Ok(workers) => Ok(usize::from(workers).clamp(1, 16)),
+        Err(error) => Err(fault_of(alloc, error)),
+    }
+}

@@ -1,0 +1,13 @@
+//! Tests of whole scripts, by the call that the program makes. It has no code of its own.
+#![tactic(auto)]
+
+#[cfg(test)]
+mod cuts;
+#[cfg(test)]
+mod gallery;
+#[cfg(test)]
+mod rows;
+#[cfg(test)]
+mod scripts;
+#[cfg(test)]
+mod tests;

@@ -1,5 +1,0 @@
-use Rattle.paris_front.proofs.RefusedWords.{stops_at_words}
-use Rattle.paris_front.proofs.program.run_words.Goals as goal
-
-pub returns-in-Err-clause-stops : goal.returns-in-Err-clause-stops
-returns-in-Err-clause-stops g c = stops_at_words _ _ _ _ c.in-Err.fault _ c.refuse_words.ensures.status c.refuse_words.ensures.line
