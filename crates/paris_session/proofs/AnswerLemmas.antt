@@ -16,7 +16,7 @@ use Rattle.paris_events.specs.declared.edits.EditReply.{EditReply}
 use Rattle.paris_events.specs.declared.verdicts.Verdict.{Verdict}
 use Rattle.paris_book.specs.declared.events.Shown.{Shown}
 use Rattle.paris_replies.specs.Replies.{edit_text, order_text, nothing_text, verdict_text}
-use Rattle.paris_session.specs.Transcript.{Sitting, moved, refused, edited, edited_by, taken, taken_by, brought, brought_by, released, listed, faulted, settled, shown, shown_by, order_at, commanded_by, longest_line, answer}
+use Rattle.paris_session.specs.Transcript.{Sitting, moved, refused, edited, edited_by, taken, taken_by, brought, brought_by, released, listed, faulted, settled, shown_text, shown, shown_by, order_at, commanded_by, longest_line, answer}
 
 pub edit_accepted : (s : Sitting) (e : Edit) (new : State) (reply : EditReply) (text : List ℕ) → edit_fault s.state e ≡ None
     → reply ≡ edit_answer s.state e → new ≡ accepted s.state e → text ≡ edit_text reply → (moved s new s.tray, text) ≡ edited s e
@@ -41,11 +41,11 @@ take_none s new text none after said =
     ap (λ (x : State). (moved s x s.tray, text)) after ∙ ap (λ (t : List ℕ). (moved s (after_take s.state) s.tray, t)) said ∙ ap (taken_by s) none
 
 pub take_some : (s : Sitting) (new : State) (tray : List Task) (t : Task) (number : ℕ) (text : List ℕ) → Some t ≡ take_reply s.state
-    → new ≡ after_take s.state → tray ≡ s.tray ++ t ∷ [] → number ≡ length s.tray + 1 → text ≡ order_text number t → (moved s new tray, text) ≡ taken s
+    → new ≡ after_take s.state → tray ≡ s.tray ++ t ∷ [] → number ≡ length s.tray + 1 → text ≡ order_text number t.id t.edition → (moved s new tray, text) ≡ taken s
 unfolding taken
 take_some s new tray t number text some after more count said =
     ap (λ (x : State). (moved s x tray, text)) after ∙ ap (λ (x : List Task). (moved s (after_take s.state) x, text)) more
-    ∙ ap (λ (x : List ℕ). (moved s (after_take s.state) (s.tray ++ t ∷ []), x)) (said ∙ ap (λ (n : ℕ). order_text n t) count) ∙ ap (taken_by s) some
+    ∙ ap (λ (x : List ℕ). (moved s (after_take s.state) (s.tray ++ t ∷ []), x)) (said ∙ ap (λ (n : ℕ). order_text n t.id t.edition) count) ∙ ap (taken_by s) some
 
 pub bring_none : (s : Sitting) (number : ℕ) (out : Sitting × List ℕ) → None ≡ order_at s.tray number → out ≡ refused s NoOrder → out ≡ brought s number
 unfolding brought

@@ -4,7 +4,7 @@ use Rattle.std.proofs.lemmas.Result.{err_from_is_err_and, IfOk-weaker, IfErr-wea
 use Rattle.paris_calls.specs.Calls.{Marks}
 use Rattle.paris_session.specs.Transcript.{Sitting}
 use Rattle.paris_session.proofs.LineLemmas.{ended_said}
-use Rattle.paris_session.proofs.Reading.{reading_nothing, reading_kept, reading_more, stops_reading, stops_answering, stops_at_last, ends_well, answers_nothing}
+use Rattle.paris_session.proofs.Reading.{reading_nothing, reading_kept, reading_more, stops_reading, stops_answering, stops_at_last, ends_well, answers_nothing, asked_once}
 use Rattle.paris_session.proofs.run.run_counted.Goals as goal
 use Rattle.paris_session.proofs.run.run_counted.Goals.{in-Bytes+in_ok-take_bytes-in-Bytes, in-Interrupted}
 
@@ -54,7 +54,7 @@ loop-preserved g c =
       | in-Bytes+in_ok-take_bytes-in-Bytes w ↦
           let given = w.in-Bytes.ensures in
           let taken = w.in_ok-take_bytes-in-Bytes.ensures in
-          let asked : c.read_once.new.tally.reads ≡ c.loop.tally.reads + 1 = ap (λ (m : Marks). m.reads) given.marks in
+          let asked : c.read_once.new.tally.reads ≡ c.loop.tally.reads + 1 = asked_once _ _ given.marks in
           let bytes = take w.in-Bytes.n c.read_once.new.room in
           let few : length bytes ≤ 4096 = grind (arith, common_steps) in
           record {
@@ -66,7 +66,7 @@ loop-preserved g c =
           }
       | in-Interrupted w ↦
           let given = w.in-Interrupted.ensures in
-          let asked : c.read_once.new.tally.reads ≡ c.loop.tally.reads + 1 = ap (λ (m : Marks). m.reads) given.marks in
+          let asked : c.read_once.new.tally.reads ≡ c.loop.tally.reads + 1 = asked_once _ _ given.marks in
           record {
             reading = rw (w.script-is, w.writer-is) (reading_kept _ _ _ _ _ _ _ given.bytes kept.reading);
             reads = cc (w.tally-is, asked, kept.reads);

@@ -15,4 +15,4 @@ returns-in_ok-push-in-Some c =
     let s : Sitting = record { state = c.self.inside.book; tray = c.self.inside.orders.items; commands = c.self.inside.answered; refusals = c.self.inside.declined } in
     let h = c.in_ok-take.ensures in
     let count : c.len.result + 1 ≡ length s.tray + 1 = search rules in
-    rw (← c.self.view_is) (take_some s _ _ _ _ _ (rw c.in-Some.is at h.order) h.state c.in_ok-push-in-Some.ensures.items count c.in_ok-text-in-Some.ensures)
+    rw (← c.self.view_is) (take_some s _ _ _ _ _ (rw c.in-Some.is at h.order) h.state c.in_ok-push-in-Some.ensures.items count (rw (c.id.ensures, c.edition.ensures) at c.in_ok-text-in-Some.ensures))
