@@ -10,12 +10,14 @@ use Rattle.paris_names.specs.declared.keys.Spot.{Spot}
 use Rattle.paris_names.specs.declared.names.KeyName.{KeyName}
 use Rattle.paris_names.specs.Faults.{IsFaultOf}
 use Rattle.paris_exec.specs.Tasks.{Task}
-use Rattle.paris_book.specs.Machine.{State, edit_fault, edit_answer, accepted, take_reply, after_take, verdict_of, after_bring, show_reply}
+use Rattle.paris_book.specs.Machine.{State, edit_fault, edit_answer, accepted, take_reply, after_take, verdict_of, after_bring, after_release, show_reply, list_of, faults_of, all_settled, unsettled_rows}
 use Rattle.paris_events.specs.declared.edits.Edit.{Edit}
 use Rattle.paris_events.specs.declared.edits.EditReply.{EditReply}
+use Rattle.paris_events.specs.declared.rows.RowLook.{RowLook}
+use Rattle.paris_events.specs.declared.rows.RowFault.{RowFault}
 use Rattle.paris_events.specs.declared.verdicts.Verdict.{Verdict}
 use Rattle.paris_book.specs.declared.events.Shown.{Shown}
-use Rattle.paris_replies.specs.Replies.{edit_text, order_text, nothing_text, verdict_text}
+use Rattle.paris_replies.specs.Replies.{ok_text, edit_text, order_text, nothing_text, verdict_text, list_text, faults_text, settled_text}
 use Rattle.paris_session.specs.Transcript.{Sitting, moved, refused, edited, edited_by, taken, taken_by, brought, brought_by, released, listed, faulted, settled, shown_text, shown, shown_by, order_at, commanded_by, longest_line, answer}
 
 pub edit_accepted : (s : Sitting) (e : Edit) (new : State) (reply : EditReply) (text : List ℕ) → edit_fault s.state e ≡ None
@@ -68,6 +70,29 @@ pub show_refused : (s : Sitting) (name : KeyName) (spot : Spot) (fault : Fault) 
     → out ≡ refused s fault → out ≡ shown s name spot
 unfolding shown
 show_refused s name spot fault out err said = said ∙ ap (shown_by s) err
+
+pub released_all : (s : Sitting) (new : State) (text : List ℕ) → new ≡ after_release s.state → text ≡ ok_text → (moved s new s.tray, text) ≡ released s
+unfolding released
+released_all s new text after said = ap (λ (x : State). (moved s x s.tray, text)) after ∙ ap (λ (t : List ℕ). (moved s (after_release s.state) s.tray, t)) said
+
+pub rows_listed : (s : Sitting) (looks : List RowLook) (text : List ℕ) → looks ≡ list_of s.state → text ≡ list_text looks → (moved s s.state s.tray, text) ≡ listed s
+unfolding listed
+rows_listed s looks text are said = ap (λ (t : List ℕ). (moved s s.state s.tray, t)) (said ∙ ap list_text are)
+
+pub faults_listed : (s : Sitting) (faults : List RowFault) (text : List ℕ) → faults ≡ faults_of s.state → text ≡ faults_text faults → (moved s s.state s.tray, text) ≡ faulted s
+unfolding faulted
+faults_listed s faults text are said = ap (λ (t : List ℕ). (moved s s.state s.tray, t)) (said ∙ ap faults_text are)
+
+pub rows_settled : (s : Sitting) (new : State) (ran : ℕ) (text : List ℕ) → new ≡ all_settled s.state → ran ≡ unsettled_rows s.state.rows → text ≡ settled_text ran
+    → (moved s new s.tray, text) ≡ settled s
+unfolding settled
+rows_settled s new ran text after count said =
+    ap (λ (x : State). (moved s x s.tray, text)) after ∙ ap (λ (t : List ℕ). (moved s (all_settled s.state) s.tray, t)) (said ∙ ap settled_text count)
+
+pub line_too_long : (s : Sitting) (line : List ℕ) (out : Sitting × List ℕ) → nat_eq (length line) 0 ≡ false → nat_eq (slice_index line 0) 35 ≡ false
+    → nat_lt longest_line (length line) ≡ true → out ≡ refused s (Syntax (longest_line + 1)) → out ≡ answer s line
+unfolding answer
+line_too_long s line out some uncommented long said = rw (some, uncommented, long) said
 
 -- a line that is no command, where memory isn't what is wanted
 pub line_refused : (s : Sitting) (line : List ℕ) (fault : Fault) (out : Sitting × List ℕ)
