@@ -89,11 +89,6 @@ unfolding settled
 rows_settled s new ran text after count said =
     ap (λ (x : State). (moved s x s.tray, text)) after ∙ ap (λ (t : List ℕ). (moved s (all_settled s.state) s.tray, t)) (said ∙ ap settled_text count)
 
-pub line_too_long : (s : Sitting) (line : List ℕ) (out : Sitting × List ℕ) → nat_eq (length line) 0 ≡ false → nat_eq (slice_index line 0) 35 ≡ false
-    → nat_lt longest_line (length line) ≡ true → out ≡ refused s (Syntax (longest_line + 1)) → out ≡ answer s line
-unfolding answer
-line_too_long s line out some uncommented long said = rw (some, uncommented, long) said
-
 -- a line that is no command, where memory isn't what is wanted
 pub line_refused : (s : Sitting) (line : List ℕ) (fault : Fault) (out : Sitting × List ℕ)
     → (fault ≡ NoMemory) ⊎ ((column : ℕ) × (fault ≡ Syntax column) × (command_of line ≡ Err column))

@@ -1,5 +1,5 @@
 -- What a run has read and written so far.
-use Rattle.std.proofs.Common.{◌≡◌, ℕ, ◌+◌, List, [], ◌∷◌, ◌++◌, Option, refl, sym, ap, ◌∙◌, append_assoc, append-nil}
+use Rattle.std.proofs.Common.{◌≡◌, ℕ, ◌+◌, List, [], ◌∷◌, ◌++◌, Option, refl, sym, ap, ◌∙◌, append_assoc, append-nil, true}
 use Rattle.std.specs.Io.KnownBytes.{Appends, Consumes, Keeps, IsAtEnd}
 use Rattle.std.proofs.KnownBytes.{Consumes-nil, Appends-nil, Appends-trans, Consumes-trans, Consumes-kept}
 use Rattle.paris_session.specs.Transcript.{Sitting}
@@ -120,3 +120,7 @@ answers_nothing faults.NoMemory marks h read text = tt
 -- a read that is marked and nothing else
 pub asked_once : (old new : Marks) → new ≡ record old { reads = old.reads + 1 } → new.reads ≡ old.reads + 1
 asked_once old new marked = ap (λ (m : Marks). m.reads) marked
+
+-- a read that fails is marked
+pub read_failed : (old new : Marks) → new ≡ record old { reads = old.reads + 1; read_failed = true } → new.read_failed ≡ true
+read_failed old new marked = ap (λ (m : Marks). m.read_failed) marked

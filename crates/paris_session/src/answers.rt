@@ -1,9 +1,9 @@
 //! Answers the lines of a script from a book.
 
-ghost use Rattle.std.specs.Prelude.{◌≡◌, ℕ, ◌+◌, ◌^◌, ◌<◌, ◌≤◌, List, length, IfOk, OnOk, option_map, slice_get};
+ghost use Rattle.std.specs.Prelude.{◌≡◌, ℕ, ◌+◌, ◌^◌, ◌<◌, ◌≤◌, List, length, IfOk, OnOk, option_map, slice_get, nat_lt};
 ghost use Rattle.paris_text.specs.CommandReading.{command_of};
 ghost use Rattle.paris_book.specs.Among.{look_shown};
-ghost use Rattle.paris_session.specs.Transcript.{shown_text, start, refused, edited, taken, brought, released, shown, listed, faulted, settled, order_at, commanded, commanded_by, answer};
+ghost use Rattle.paris_session.specs.Transcript.{longest_line, shown_text, start, refused, edited, taken, brought, released, shown, listed, faulted, settled, order_at, commanded, commanded_by, answer};
 
 use paris_book::{Book, Edit, Look};
 use paris_exec::{OpenGate, Order, execute};
@@ -19,6 +19,13 @@ use std::thread::Threads;
 pub struct Summary {
     pub commands: u64,
     pub refused: u64,
+}
+
+/// Whether a line is longer than a line may be.
+fn is_overlong(line: &[u8]) -> bool
+    ensures { result ≡ nat_lt longest_line (length line.now) }
+{
+    line.len() > MAX_LINE
 }
 
 /// The reply to a look at a key.
@@ -284,7 +291,7 @@ impl Session {
         if line.is_empty() || line[0] == b'#' {
             return Ok(Vec::new(self.alloc()));
         }
-        if line.len() > MAX_LINE {
+        if is_overlong(line) {
             return self.refuse(Fault::Syntax(MAX_LINE as u64 + 1));
         }
         self.answer_line(rt, line)

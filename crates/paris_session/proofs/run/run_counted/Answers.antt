@@ -4,7 +4,7 @@ use Rattle.std.proofs.lemmas.Result.{err_from_is_err_and, IfOk-weaker, IfErr-wea
 use Rattle.paris_calls.specs.Calls.{Marks}
 use Rattle.paris_session.specs.Transcript.{Sitting}
 use Rattle.paris_session.proofs.LineLemmas.{ended_said}
-use Rattle.paris_session.proofs.Reading.{reading_nothing, reading_kept, reading_more, stops_reading, stops_answering, stops_at_last, ends_well, answers_nothing, asked_once}
+use Rattle.paris_session.proofs.Reading.{reading_nothing, reading_kept, reading_more, stops_reading, stops_answering, stops_at_last, ends_well, answers_nothing, asked_once, read_failed}
 use Rattle.paris_session.proofs.run.run_counted.Goals as goal
 use Rattle.paris_session.proofs.run.run_counted.Goals.{in-Bytes+in_ok-take_bytes-in-Bytes, in-Interrupted}
 
@@ -74,3 +74,6 @@ loop-preserved g c =
             room = same ∙ kept.room;
           }
     ]
+
+pub returns-in-Failed-clause-fault : goal.returns-in-Failed-clause-fault
+returns-in-Failed-clause-fault g c = read_failed c.loop.tally c.read_once.new.tally c.in-Failed.ensures.marks

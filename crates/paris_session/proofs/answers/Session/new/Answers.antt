@@ -1,7 +1,7 @@
-use Rattle.std.proofs.Common.{◌≡◌, List, ap₂}
+use Rattle.std.proofs.Common.{List, ap₂}
 use Rattle.paris_exec.specs.Tasks.{Task}
 use Rattle.paris_book.specs.Machine.{State}
-use Rattle.paris_session.specs.Transcript.{Sitting, start}
+use Rattle.paris_session.specs.Transcript.{start}
 use Rattle.paris_session.proofs.answers.Session.new.Goals as goal
 
 pub returns : goal.returns
