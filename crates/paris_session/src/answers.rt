@@ -134,7 +134,12 @@ impl Session {
             }
             Some(order) => {
                 let number = self.orders.len() as u64 + 1;
-                let text = paris_replies::order_text(self.alloc(), number, order.id(), order.edition())?;
+                let text = paris_replies::order_text(
+                    self.alloc(),
+                    number,
+                    order.id(),
+                    order.edition(),
+                )?;
                 self.orders.push(order)?;
                 self.answered += 1;
                 Ok(text)
