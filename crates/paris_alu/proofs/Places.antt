@@ -1,5 +1,5 @@
 -- Planes and fields that are made one by one, and what they hold in each processor.
-use Rattle.std.proofs.Common.{◌≡◌, ◌≤◌, ℕ, zero, suc, ◌+◌, ◌*◌, ◌^◌, ◌<◌, List, [], ◌∷◌, ◌++◌, Bool, false, length, get_or, replicate, take, arith, ◌∙◌, sym, ap, refl}
+use Rattle.std.proofs.Common.{◌≡◌, ◌≤◌, ℕ, zero, suc, ◌+◌, ◌-◌, ◌*◌, ◌^◌, ◌<◌, List, [], ◌∷◌, ◌++◌, Bool, false, length, get_or, replicate, take, arith, ◌∙◌, sym, ap, refl}
 use Rattle.std.specs.Simd.Lanes.{zip2}
 use Rattle.std.proofs.Math.Nat.{pow-succ', mul_assoc}
 use Rattle.std.proofs.lemmas.List.FromFn.{fill_by_all, length-map-range_with_len, get_or-map-range_with_len}
@@ -72,6 +72,10 @@ all_repeated n k r long j below = ap length (get_or-replicate k j r [] (omega (a
 -- a plane of a list that a loop reads
 pub read_long : {n : ℕ} (ps : List (List Bool)) (k : ℕ) (p : List Bool) → AllOf n ps → k < length ps → p ≡ get_or ps k p → length p ≡ n
 read_long ps k p all h is = ap length (get_or_read ps k p h is []) ∙ all k h
+
+-- the highest of L planes
+pub last_long : {n : ℕ} (L : ℕ) (ps : List (List Bool)) (p : List Bool) → 0 < L → length ps ≡ L → AllOf n ps → p ≡ get_or ps (L - 1) p → length p ≡ n
+last_long L ps p some count all is = read_long ps (L - 1) p all (omega (arith, some, count)) is
 
 -- planes that hold f in n processors
 pub record Holds (n L : ℕ) (f : ℕ → ℕ) (ps : List (List Bool)) : Type 0 where

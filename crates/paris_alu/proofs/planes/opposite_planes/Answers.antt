@@ -19,6 +19,14 @@ loop-k-init c =
       exact = λ v h. omega (arith, ap (λ (ps : List (List Bool)). number_at ps v) e);
     }
 
+pub xor_in-requires : goal.xor_in-requires
+xor_in-requires c =
+    ap length c.in_ok-plane.ensures ∙ read_long c.args.x.now c.loop-k.k c.index-x-k.result c.requires c.loop-k-test.true c.index-x-k.is ∙ sym c.loop-k.invariant.long
+
+pub or_in-requires : goal.or_in-requires
+or_in-requires c =
+    c.loop-k.invariant.long ∙ sym (read_long c.args.x.now c.loop-k.k c.index-x-k-in-loop-k.result c.requires c.loop-k-test.true c.index-x-k-in-loop-k.is)
+
 pub returns-in_err-push-clause-long : goal.returns-in_err-push-clause-long
 returns-in_err-push-clause-long c =
     let lx : length c.index-x-k-in-loop-k.result ≡ length c.args.borrow.now = read_long c.args.x.now c.loop-k.k c.index-x-k-in-loop-k.result c.requires c.loop-k-test.true c.index-x-k-in-loop-k.is in

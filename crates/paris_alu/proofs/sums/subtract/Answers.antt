@@ -1,10 +1,26 @@
 use Rattle.std.proofs.Common.{◌≡◌, ◌-◌, ℕ, ◌∙◌, ap, arith, length, List, Bool, [], false, refl, replicate, sym}
-use Rattle.std.proofs.lemmas.List.{get_or_read}
+use Rattle.std.proofs.lemmas.List.{get_or_read, length-replicate}
 use Rattle.paris_field.specs.Numbers.{field_of, plane_at}
 use Rattle.paris_alu.specs.Alu.{operand}
-use Rattle.paris_alu.proofs.Places.{Holds, held}
+use Rattle.paris_alu.proofs.Places.{Holds, held, last_long}
 use Rattle.paris_alu.proofs.Totals.{Taken, taken, difference_carry, difference_field, difference_overflow}
 use Rattle.paris_alu.proofs.sums.subtract.Goals as goal
+
+pub overflow-requires-clause-x : goal.overflow-requires-clause-x
+overflow-requires-clause-x c =
+    let n : ℕ = length c.args.x.now.numbers in
+    let none : c.in_ok-borrow.borrow ≡ replicate n false = c.in_ok-borrow.ensures ∙ ap (λ (m : ℕ). replicate m false) c.len-vps.ensures in
+    last_long c.args.len c.in_ok-planes.planes.items c.index.result.now c.requires.some (c.in_ok-planes.ensures.count ∙ c.low-xs.ensures.count) c.in_ok-planes.ensures.planes c.index.ensures
+    ∙ ap length none ∙ length-replicate n false
+    ∙ sym (last_long c.args.len c.low-xs.result.now c.index-xs-top.result c.requires.some c.low-xs.ensures.count c.low-xs.ensures.long c.index-xs-top.is)
+
+pub overflow-requires-clause-y : goal.overflow-requires-clause-y
+overflow-requires-clause-y c =
+    let n : ℕ = length c.args.x.now.numbers in
+    let none : c.in_ok-borrow.borrow ≡ replicate n false = c.in_ok-borrow.ensures ∙ ap (λ (m : ℕ). replicate m false) c.len-vps.ensures in
+    last_long c.args.len c.in_ok-planes.planes.items c.index.result.now c.requires.some (c.in_ok-planes.ensures.count ∙ c.low-xs.ensures.count) c.in_ok-planes.ensures.planes c.index.ensures
+    ∙ ap length none ∙ length-replicate n false ∙ c.requires.same
+    ∙ sym (last_long c.args.len c.low-ys.result.now c.index-ys-top.result c.requires.some c.low-ys.ensures.count c.low-ys.ensures.long c.index-ys-top.is)
 
 pub returns : goal.returns
 returns c =

@@ -1,10 +1,20 @@
-use Rattle.std.proofs.Common.{arith}
+use Rattle.std.proofs.Common.{◌<◌, rules, arith}
+use Rattle.paris_book.specs.Machine.{unsettled_rows}
 use Rattle.paris_book.proofs.Rounding.{settled_now}
 use Rattle.paris_book.proofs.book.Book.settle_par.Goals as goal
 
 pub returns-then-unsettled_count-eq0-clause-settled : goal.returns-then-unsettled_count-eq0-clause-settled
 returns-then-unsettled_count-eq0-clause-settled g c =
     settled_now c.args.self.now c.loop-round.self c.loop-round.invariant.0 (omega (arith, c.unsettled_count.ensures, c.if-unsettled_count-eq0.true))
+
+pub returns-then-is_err-clause-left : goal.returns-then-is_err-clause-left
+returns-then-is_err-clause-left g c =
+    omega (arith, c.unsettled_count-count.ensures, c.unsettled_count-then-is_err.ensures, c.run_round.ensures.advances.fewer, c.loop-round.invariant.0.fewer)
+
+pub returns-then-is_err-clause-short : goal.returns-then-is_err-clause-short
+returns-then-is_err-clause-short g c =
+    let some : 0 < unsettled_rows c.run_round.new.self.rows = search rules in
+    omega (arith, c.unsettled_count-count.ensures, c.unsettled_count-then-is_err.ensures, c.run_round.ensures.advances.fewer, c.loop-round.invariant.0.fewer, some)
 
 pub returns-clause-settled : goal.returns-clause-settled
 returns-clause-settled g c =
