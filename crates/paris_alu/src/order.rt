@@ -11,7 +11,7 @@ use crate::planes::{below, unlike};
 use paris_field::{FieldValue, copy_planes, merge_planes};
 use paris_model::{Comparison, Sign};
 use paris_plane::Plane;
-use paris_plane::kernel::Borrow;
+use paris_plane::Borrow;
 use std::alloc::{AllocError, Global};
 
 /// Which of two numbers is taken.

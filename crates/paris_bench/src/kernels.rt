@@ -6,7 +6,7 @@ ghost use Rattle.paris_field.specs.Numbers.{AllOf};
 use crate::random::{checksum_of, checksum_with_plane, random_value};
 use crate::timing::{self, Size, Work};
 use paris_field::{FieldValue, add_planes, copy_planes, merge_planes};
-use paris_plane::kernel::Borrow;
+use paris_plane::Borrow;
 use paris_plane::{Plane, subtract_step};
 use std::alloc::{AllocError, Global};
 use std::io;

@@ -8,6 +8,7 @@ use Rattle.paris_names.specs.declared.keys.Key.{Key}
 use Rattle.paris_names.specs.declared.keys.Key.TheVariants.{Field, Flag}
 use Rattle.paris_names.specs.declared.names.KeyName.{KeyName}
 use Rattle.paris_geometry.specs.Geometry.{processor_count}
+use Rattle.paris_names.specs.declared.limits.TheConstants.{MAX_FIELDS, MAX_SETS, MAX_WIDTH}
 
 pub record DeclaredSet : Type 0 where
   pub name : List ℕ
@@ -71,7 +72,7 @@ count_of b k = processor_count (axes_of b (set_of_key b k))
 abbrev pub set_fault : Board → List ℕ → Option Fault
 set_fault b name =
     if is_taken b name then Some NameTaken
-    else if nat_le 8 (length b.sets) then Some SetsFull
+    else if nat_le MAX_SETS (length b.sets) then Some SetsFull
     else None
 
 -- why a field of this name and width can't be declared in the set of that name, if it can't
@@ -79,8 +80,8 @@ abbrev pub field_fault : Board → List ℕ → List ℕ → ℕ → Option Faul
 field_fault b name set width =
     if is_none (set_named b set) then Some NoSet
     else if is_taken b name then Some NameTaken
-    else if nat_le 64 (length b.fields) then Some FieldsFull
-    else if (width == 0) || nat_lt 64 width then Some BadWidth
+    else if nat_le MAX_FIELDS (length b.fields) then Some FieldsFull
+    else if (width == 0) || nat_lt MAX_WIDTH width then Some BadWidth
     else None
 
 abbrev pub with_set : Board → List ℕ → List ℕ → Board
@@ -92,7 +93,7 @@ with_field b name set_no width = record b { fields = b.fields ++ record { name =
 -- each field is of a declared set, and 1 to 64 bits wide
 abbrev pub AreFields : ℕ → List DeclaredField → Type 0
 AreFields sets [] = Unit {0}
-AreFields sets (f ∷ fs) = (f.set_no < sets) × (0 < f.width) × (f.width ≤ 64) × AreFields sets fs
+AreFields sets (f ∷ fs) = (f.set_no < sets) × (0 < f.width) × (f.width ≤ MAX_WIDTH) × AreFields sets fs
 
 abbrev pub IsBoard : Board → Type 0
 IsBoard b = AreFields (length b.sets) b.fields

@@ -4,6 +4,7 @@ ghost use Rattle.std.specs.Prelude.{◌≡◌, ℕ, ◌<◌, ◌≤◌, length, 
 ghost use Rattle.paris_names.specs.declared.faults.Fault.TheVariants as Fault;
 ghost use Rattle.paris_names.specs.Faults.{IsFaultOf};
 ghost use Rattle.paris_board.specs.Board.{empty_board, set_named, field_named, key_named, is_taken, axes_of, is_declared, field_at, set_of_key, width_of, set_fault, field_fault, with_set, with_field, IsBoard};
+ghost use Rattle.paris_names.specs.declared.limits.TheConstants.{MAX_FIELDS, MAX_SETS, MAX_WIDTH};
 
 use indexmap::IndexMap;
 use paris_geometry::Geometry;
@@ -171,7 +172,7 @@ impl Board {
     /// How many sets are declared.
     pub fn sets(&self) -> usize
         ensures value { result ≡ length self.now.sets }
-        ensures few { result ≤ 8 }
+        ensures few { result ≤ MAX_SETS }
         ensures sound { IsBoard self.now }
     {
         self.sets.len()
@@ -180,7 +181,7 @@ impl Board {
     /// How many fields are declared.
     pub fn fields(&self) -> usize
         ensures value { result ≡ length self.now.fields }
-        ensures few { result ≤ 64 }
+        ensures few { result ≤ MAX_FIELDS }
     {
         self.fields.len()
     }
@@ -199,7 +200,7 @@ impl Board {
         ensures declared { result.set < length self.now.sets }
         ensures width { result.width ≡ (field_at self.now field).width }
         ensures positive { 0 < result.width }
-        ensures small { result.width ≤ 64 }
+        ensures small { result.width ≤ MAX_WIDTH }
     {
         self.fields[field.number() as usize]
     }
@@ -209,7 +210,7 @@ impl Board {
         requires { is_declared self.now key ≡ true }
         ensures value { result ≡ width_of self.now key }
         ensures positive { 0 < result }
-        ensures small { result ≤ 64 }
+        ensures small { result ≤ MAX_WIDTH }
     {
         match key {
             Key::Field(field) => self.declaration(field).width,

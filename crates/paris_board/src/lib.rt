@@ -1,6 +1,6 @@
 //! The board: the declared sets and fields, each in the order of its declaration.
 #![tactic(auto)]
 
-pub mod declarations;
+mod declarations;
 
 pub use declarations::Board;

@@ -13,7 +13,9 @@ use Rattle.paris_instr.specs.PlanEq.{plan_eq}
 use Rattle.paris_field.specs.Fields.{field_eq}
 use Rattle.paris_exec.specs.Tasks.{Task, field_of}
 use Rattle.paris_events.specs.Rows.{is_settled}
-use Rattle.paris_book.specs.Machine.{Row, Inputs, State, inputs_now, find_id, find_row, is_present, verdict_at, verdict_on, verdict_of, brought_on, after_bring}
+use Rattle.paris_machine.specs.State.{Row, Inputs, State, find_id, find_row}
+use Rattle.paris_machine.specs.Orders.{inputs_now}
+use Rattle.paris_machine.specs.Results.{is_present, verdict_at, verdict_on, verdict_of, brought_on, after_bring}
 use Rattle.paris_book.specs.Kept.{row_of}
 use Rattle.paris_program.specs.Program.{place_of}
 use Rattle.paris_book.specs.Entries.{Entry, entries_of}

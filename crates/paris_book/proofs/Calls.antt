@@ -8,30 +8,35 @@ use Rattle.paris_names.specs.declared.keys.Key.{Key}
 use Rattle.paris_board.specs.Board.{Board, is_declared, width_of, count_of}
 use Rattle.paris_model.specs.Instructions.{Plan}
 use Rattle.paris_events.specs.Rows.{is_settled}
-use Rattle.paris_book.specs.Machine.{Row, Inputs, State, find_id, input_of, show_at, show_from, known, input_changed, input_set}
+use Rattle.paris_machine.specs.State.{Row, Inputs, State, find_id, input_of}
+use Rattle.paris_machine.specs.Show.{show_at, show_from}
+use Rattle.paris_machine.specs.Edits.{known, input_changed, input_set}
 use Rattle.paris_book.specs.Kept.{row_of}
 use Rattle.paris_book.specs.Whole.{shape_of, Shaped, Fitted}
 use Rattle.paris_program.specs.Program.{place_of}
 use Rattle.paris_book.specs.Entries.{Entry, entries_of}
 use Rattle.paris_book.specs.declared.rows.RowData.{RowData}
 use Rattle.paris_book.proofs.Entering.{find_is}
-use Rattle.paris_book.specs.declared.inputs.Input.{Input}
+use Rattle.paris_machine.specs.declared.inputs.Input.{Input}
 use Rattle.paris_book.specs.Among.{look_among}
 use Rattle.std.specs.Prelude.{position, nat_le, nat_lt, ◌^◌}
 use Rattle.std.proofs.lemmas.Bool.Decides.{nat_tests}
 use Rattle.std.proofs.lemmas.List.{length-drop, length-take-le}
 use Rattle.std.specs.Option.{ok_or}
-use Rattle.paris_names.specs.declared.keys.RowId.{RowId}
-use Rattle.paris_names.specs.declared.keys.Spot.{Spot}
-use Rattle.paris_names.specs.declared.keys.Spot.TheVariants.{After}
+use Rattle.paris_names.specs.declared.ids.RowId.{RowId}
+use Rattle.paris_names.specs.declared.ids.Spot.{Spot}
+use Rattle.paris_names.specs.declared.ids.Spot.TheVariants.{After}
 use Rattle.paris_names.specs.declared.names.KeyName.{KeyName}
 use Rattle.paris_names.specs.declared.faults.Fault.{Fault}
 use Rattle.paris_names.specs.declared.faults.Fault.TheVariants.{NoField, WrongCount, TooWide, NoRow}
 use Rattle.paris_board.specs.Board.{key_named}
 use Rattle.paris_instr.specs.Resolve.{IsFittedTo}
 use Rattle.paris_field.specs.Fields.{overwritten}
-use Rattle.paris_book.specs.declared.events.Shown.{Shown as AnyShown}
-use Rattle.paris_book.specs.Machine.{fault_of_values, input_fault, show_reply, show_key, place_of_spot, unsettled_rows}
+use Rattle.paris_machine.specs.declared.events.Shown.{Shown as AnyShown}
+use Rattle.paris_machine.specs.State.{place_of_spot}
+use Rattle.paris_machine.specs.Show.{show_reply, show_key}
+use Rattle.paris_machine.specs.Edits.{fault_of_values, input_fault}
+use Rattle.paris_machine.specs.Settling.{unsettled_rows}
 use Rattle.paris_book.proofs.Inserts.{state_of}
 use Rattle.paris_book.proofs.Shows.{show_is}
 

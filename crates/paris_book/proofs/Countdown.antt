@@ -5,7 +5,10 @@ use Rattle.std.specs.List.{list_all}
 use Rattle.paris_board.specs.Board.{Board}
 use Rattle.paris_model.specs.Instructions.{reads}
 use Rattle.paris_events.specs.Rows.{is_settled, is_waiting}
-use Rattle.paris_book.specs.Machine.{Row, Inputs, State, is_firm, is_ready, origin_at, next_ready, taken, after_take, recalled_status, recalled_row, after_release, unsettled_rows, settled_row, all_settled, after_run, ran_orders}
+use Rattle.paris_machine.specs.State.{Row, Inputs, State}
+use Rattle.paris_machine.specs.Show.{origin_at}
+use Rattle.paris_machine.specs.Orders.{is_firm, is_ready, next_ready, taken, after_take, recalled_status, recalled_row, after_release}
+use Rattle.paris_machine.specs.Settling.{unsettled_rows, settled_row, all_settled, after_run, ran_orders}
 use Rattle.paris_book.specs.Kept.{row_of}
 use Rattle.paris_book.specs.Whole.{IdsApart, ids_of, IsWhole}
 use Rattle.paris_book.specs.Entries.{Entry}

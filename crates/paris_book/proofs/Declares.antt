@@ -16,15 +16,16 @@ use Rattle.paris_geometry.specs.Geometry.{processor_count}
 use Rattle.paris_board.specs.Board.{Board, DeclaredField, DeclaredSet, is_declared, width_of, count_of, axes_of, field_at, with_set, with_field, AreFields, IsBoard}
 use Rattle.paris_model.specs.Instructions.{Plan, reads, writes, key_width}
 use Rattle.paris_model.specs.Recipe.{same}
-use Rattle.paris_book.specs.Machine.{Row, Inputs, flag_input, input_of, numbers_in, number_in, start_world, start_recipe, declared_input, declared_flags, known_rows, edited, set_added, field_added}
+use Rattle.paris_machine.specs.State.{Row, Inputs, flag_input, input_of, numbers_in, number_in, start_world, start_recipe, declared_input, declared_flags}
+use Rattle.paris_machine.specs.Edits.{known_rows, edited, set_added, field_added}
 use Rattle.paris_book.specs.Kept.{row_of, Sound}
 use Rattle.paris_depends.specs.Changes.{Differ}
 use Rattle.paris_depends.specs.Sweeps.{touches, spread}
 use Rattle.paris_book.proofs.Swept.{stale, swept_entries}
 use Rattle.paris_book.specs.Whole.{shape_on, shape_of, shape_in, Shaped, InputsBelow, Fitted, AllFitted, IsWhole}
 use Rattle.paris_book.specs.Entries.{Entry}
-use Rattle.paris_book.specs.declared.inputs.Input.{Input}
-use Rattle.paris_book.specs.declared.inputs.FlagInputs.{FlagInputs}
+use Rattle.paris_machine.specs.declared.inputs.Input.{Input}
+use Rattle.paris_machine.specs.declared.inputs.FlagInputs.{FlagInputs}
 use Rattle.std.specs.Prelude.{nat_lt}
 use Rattle.std.proofs.lemmas.Bool.Decides.{nat_tests}
 use Rattle.std.proofs.lemmas.List.{length-replicate}

@@ -8,7 +8,8 @@ use Rattle.paris_names.specs.Keys.{has_key}
 use Rattle.paris_model.specs.Instructions.{Plan, reads, writes}
 use Rattle.paris_model.specs.Recipe.{Recipe, chain, past, same}
 use Rattle.paris_model.specs.Recipe.Recipe.{Start, Made, End, And}
-use Rattle.paris_book.specs.Machine.{Row, Known, row_recipe, past_row, known, unsettled, judged, set_first}
+use Rattle.paris_machine.specs.State.{Row}
+use Rattle.paris_machine.specs.Edits.{Known, row_recipe, past_row, known, unsettled, judged, set_first}
 use Rattle.paris_book.specs.Kept.{row_of}
 use Rattle.paris_depends.specs.Changes.{Differ}
 use Rattle.paris_book.proofs.Swept.{swept}

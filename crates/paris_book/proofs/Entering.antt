@@ -11,7 +11,7 @@ use Rattle.paris_model.specs.Recipe.{origin}
 use Rattle.paris_program.specs.Program.{place_of, id_at, with_row, row_of as data_of}
 use Rattle.paris_program.proofs.CallerLemmas.{place_of-first}
 use Rattle.paris_depends.proofs.OriginLemmas.{origin-found}
-use Rattle.paris_book.specs.Machine.{Row, find_id}
+use Rattle.paris_machine.specs.State.{Row, find_id}
 use Rattle.paris_book.specs.Kept.{row_of, plan_of}
 use Rattle.paris_book.specs.Entries.{Entry, entry_of, entries_of}
 use Rattle.paris_exec.specs.Tasks.{Task}

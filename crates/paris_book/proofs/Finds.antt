@@ -5,7 +5,7 @@ use Rattle.std.proofs.lemmas.Bool.Decides.{Decides-eqb}
 use Rattle.std.proofs.lemmas.Option.{slice_get-map}
 use Rattle.std.specs.Option.{option_map, unwrap_or}
 use Rattle.std.specs.List.{find, enumerate_from}
-use Rattle.paris_book.specs.Machine.{Row, find_id}
+use Rattle.paris_machine.specs.State.{Row, find_id}
 use Rattle.paris_book.specs.Kept.{row_of}
 use Rattle.paris_book.specs.Entries.{Entry}
 

@@ -12,7 +12,8 @@ use Rattle.paris_model.specs.Instructions.{Plan, writes, one, key_width}
 use Rattle.paris_model.specs.Run.{run}
 use Rattle.paris_model.proofs.Worlds.{one_is}
 use Rattle.paris_events.specs.Rows.{is_settled}
-use Rattle.paris_book.specs.Machine.{Row, Inputs, State, input_of, number_in, start_world, start_recipe, new_row, row_inserted}
+use Rattle.paris_machine.specs.State.{Row, Inputs, State, input_of, number_in, start_world, start_recipe}
+use Rattle.paris_machine.specs.Edits.{new_row, row_inserted}
 use Rattle.paris_book.specs.Kept.{row_of, plan_of, ripen, Right, Sound}
 use Rattle.paris_depends.specs.Sweeps.{touches, spread}
 use Rattle.paris_book.proofs.Swept.{swept, stale, swept_entries}

@@ -8,7 +8,8 @@ use Rattle.paris_board.specs.Board.{Board}
 use Rattle.paris_model.specs.declared.actions.Refusal.{Refusal}
 use Rattle.paris_model.specs.Frame.{World}
 use Rattle.paris_model.specs.Instructions.{one}
-use Rattle.paris_book.specs.Machine.{Inputs, State, start_world, listed_in, list_of}
+use Rattle.paris_machine.specs.State.{Inputs, State, start_world}
+use Rattle.paris_machine.specs.Lists.{listed_in, list_of}
 use Rattle.paris_book.specs.Kept.{row_of, ripen, Sound}
 use Rattle.paris_book.specs.Whole.{IsWhole}
 use Rattle.paris_book.specs.Among.{listed_entry, looks_kept}

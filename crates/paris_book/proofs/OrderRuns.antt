@@ -9,7 +9,7 @@ use Rattle.std.specs.Option.{option_or, option_map}
 use Rattle.std.specs.List.{list_any, list_all, find, enumerate_from}
 use Rattle.std.specs.Cmp.Lexicographic.{pointwise}
 use Rattle.paris_names.specs.declared.keys.Key.{Key}
-use Rattle.paris_names.specs.declared.keys.RowId.{RowId}
+use Rattle.paris_names.specs.declared.ids.RowId.{RowId}
 use Rattle.paris_names.specs.Keys.{has_key}
 use Rattle.paris_model.specs.Instructions.{reads, writes}
 use Rattle.paris_model.specs.Run.{run}
@@ -17,7 +17,10 @@ use Rattle.paris_model.specs.Recipe.{origin}
 use Rattle.paris_field.specs.Fields.{FieldNumbers, field_eq}
 use Rattle.paris_exec.specs.Tasks.{Task, field_of}
 use Rattle.paris_events.specs.Rows.{is_settled, is_waiting}
-use Rattle.paris_book.specs.Machine.{Row, State, start_world, row_plan, is_firm, is_ready, next_ready, inputs_now, order_of, with_status, taken, find_row, verdict_at, verdict_on, verdict_of, brought_on, settled_row, brought_back, after_run}
+use Rattle.paris_machine.specs.State.{Row, State, start_world, row_plan, with_status, find_row}
+use Rattle.paris_machine.specs.Orders.{is_firm, is_ready, next_ready, inputs_now, order_of, taken}
+use Rattle.paris_machine.specs.Results.{verdict_at, verdict_on, verdict_of, brought_on}
+use Rattle.paris_machine.specs.Settling.{settled_row, brought_back, after_run}
 use Rattle.paris_book.specs.Whole.{IdsApart}
 use Rattle.paris_events.specs.declared.rows.Status.{Status}
 use Rattle.paris_events.specs.declared.rows.Status.TheVariants.{Waiting, Out, Settled}

@@ -13,7 +13,8 @@ use Rattle.paris_field.specs.Fields.{FieldNumbers}
 use Rattle.paris_exec.specs.Tasks.{Task, numbers_of, told}
 use Rattle.paris_exec.specs.declared.orders.Outcome.TheVariants.{Values, Refused}
 use Rattle.paris_events.specs.Rows.{is_settled}
-use Rattle.paris_book.specs.Machine.{Inputs, State, start_world, cause_in, fault_by, faults_in, faults_of}
+use Rattle.paris_machine.specs.State.{Inputs, State, start_world}
+use Rattle.paris_machine.specs.Lists.{cause_in, fault_by, faults_in, faults_of}
 use Rattle.paris_book.specs.Kept.{row_of, last_kept, ripen, Right, Sound}
 use Rattle.paris_book.specs.Whole.{IsWhole}
 use Rattle.paris_book.specs.Among.{cause_told, cause_kept, faults_kept}

@@ -6,7 +6,8 @@ use Rattle.paris_board.specs.Board.{Board}
 use Rattle.paris_model.specs.Frame.{World}
 use Rattle.paris_model.specs.Instructions.{writes, one}
 use Rattle.paris_events.specs.Rows.{is_settled}
-use Rattle.paris_book.specs.Machine.{Row, Inputs, State, start_world, recalled_status, recalled_row, after_release}
+use Rattle.paris_machine.specs.State.{Row, Inputs, State, start_world}
+use Rattle.paris_machine.specs.Orders.{recalled_status, recalled_row, after_release}
 use Rattle.paris_book.specs.Kept.{row_of, ripen, Sound}
 use Rattle.paris_book.specs.Whole.{RowsBelow, ids_of, AllFitted, IsWhole}
 use Rattle.paris_book.specs.Among.{recalled_entry}

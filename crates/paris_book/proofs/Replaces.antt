@@ -7,7 +7,8 @@ use Rattle.paris_board.specs.Board.{Board}
 use Rattle.paris_model.specs.Frame.{World}
 use Rattle.paris_model.specs.Instructions.{Plan, writes, one}
 use Rattle.paris_model.specs.Run.{run}
-use Rattle.paris_book.specs.Machine.{Row, Inputs, State, start_world, start_recipe, row_replaced}
+use Rattle.paris_machine.specs.State.{Row, Inputs, State, start_world, start_recipe}
+use Rattle.paris_machine.specs.Edits.{row_replaced}
 use Rattle.paris_book.specs.Kept.{row_of, plan_of, ripen, Sound}
 use Rattle.paris_book.proofs.Swept.{swept, swept_entries}
 use Rattle.paris_book.specs.Whole.{RowsBelow, ids_of, Fitted, AllFitted, IsWhole}

@@ -11,7 +11,10 @@ use Rattle.paris_model.specs.Instructions.{reads}
 use Rattle.paris_model.specs.Run.{run}
 use Rattle.paris_exec.specs.Tasks.{Task, field_of}
 use Rattle.paris_events.specs.Rows.{is_settled, is_waiting}
-use Rattle.paris_book.specs.Machine.{Row, State, start_world, row_plan, next_ready, order_of, take_reply, with_status, taken, after_take, is_present, find_id, find_row, verdict_on, verdict_of, brought_on, after_bring, recalled_status, recalled_row, after_release, unsettled_rows, settled_row, all_settled, brought_back}
+use Rattle.paris_machine.specs.State.{Row, State, start_world, row_plan, with_status, find_id, find_row}
+use Rattle.paris_machine.specs.Orders.{next_ready, order_of, take_reply, taken, after_take, recalled_status, recalled_row, after_release}
+use Rattle.paris_machine.specs.Results.{is_present, verdict_on, verdict_of, brought_on, after_bring}
+use Rattle.paris_machine.specs.Settling.{unsettled_rows, settled_row, all_settled, brought_back}
 use Rattle.paris_book.specs.Rounds.{StaySettled, Advances, HasRun, has_result, first_order, after_slots}
 use Rattle.paris_book.specs.Whole.{IdsApart}
 use Rattle.paris_book.specs.declared.rounds.Slot.{Slot}

@@ -1,8 +1,8 @@
 -- A list of events, one after another.
 use Rattle.std.proofs.Common.{◌≡◌, ℕ, ◌+◌, List, [], ◌∷◌, ◌++◌, refl, sym, ap, ◌∙◌, take, drop, zero, suc, add-one}
-use Rattle.paris_book.specs.Machine.{State}
-use Rattle.paris_book.specs.Events.{reply_to, after, replies_to, after_all}
-use Rattle.paris_book.specs.declared.events.Event.{Event}
+use Rattle.paris_machine.specs.State.{State}
+use Rattle.paris_machine.specs.Events.{reply_to, after, replies_to, after_all}
+use Rattle.paris_machine.specs.declared.events.Event.{Event}
 
 pub replies-append : (s : State) (xs ys : List Event) → replies_to s (xs ++ ys) ≡ replies_to s xs ++ replies_to (after_all s xs) ys
 replies-append s [] ys = refl

@@ -7,7 +7,7 @@ use Rattle.std.specs.Option.{option_map}
 use Rattle.std.specs.List.{list_all}
 use Rattle.std.specs.Cmp.Lexicographic.{pointwise}
 use Rattle.paris_names.specs.declared.keys.Key.{Key}
-use Rattle.paris_names.specs.declared.keys.RowId.{RowId}
+use Rattle.paris_names.specs.declared.ids.RowId.{RowId}
 use Rattle.paris_names.specs.Keys.{has_key}
 use Rattle.paris_board.specs.Board.{Board}
 use Rattle.paris_model.specs.Frame.{World}
@@ -17,7 +17,8 @@ use Rattle.paris_instr.specs.PlanEq.{plan_eq}
 use Rattle.paris_field.specs.Fields.{FieldNumbers, field_eq}
 use Rattle.paris_exec.specs.Tasks.{Task, numbers_of, field_of}
 use Rattle.paris_events.specs.Rows.{is_settled}
-use Rattle.paris_book.specs.Machine.{Inputs, start_world, is_firm}
+use Rattle.paris_machine.specs.State.{Inputs, start_world}
+use Rattle.paris_machine.specs.Orders.{is_firm}
 use Rattle.paris_book.specs.Kept.{row_of, plan_of, ripen, Sound, present}
 use Rattle.paris_book.specs.Whole.{RowsBelow, ids_of, Fitted, AllFitted, IsWhole}
 use Rattle.paris_book.specs.Entries.{Entry}

@@ -7,7 +7,7 @@ use Rattle.std.specs.Prelude.{◌&&◌, ◌||◌, IsSome}
 use Rattle.std.specs.Option.{option_or, option_map, unwrap_or}
 use Rattle.std.specs.List.{list_all}
 use Rattle.paris_names.specs.declared.keys.Key.{Key}
-use Rattle.paris_names.specs.declared.keys.RowId.{RowId}
+use Rattle.paris_names.specs.declared.ids.RowId.{RowId}
 use Rattle.paris_names.specs.Keys.{has_key, key_eq}
 use Rattle.paris_names.proofs.KeyLists.{key_eq-is}
 use Rattle.paris_geometry.specs.Geometry.{processor_count}
@@ -18,17 +18,19 @@ use Rattle.paris_model.specs.Recipe.{origin, same}
 use Rattle.paris_field.specs.Fields.{FieldNumbers}
 use Rattle.paris_exec.specs.Tasks.{Task, numbers_of, field_of, fits_key, fits_keys, task_value}
 use Rattle.paris_events.specs.Rows.{is_settled}
-use Rattle.paris_book.specs.Machine.{Row, Inputs, input_of, numbers_in, start_world, row_plan, now, origin_at, shown_of, show_at, is_firm}
+use Rattle.paris_machine.specs.State.{Row, Inputs, input_of, numbers_in, start_world, row_plan}
+use Rattle.paris_machine.specs.Show.{now, origin_at, shown_of, show_at}
+use Rattle.paris_machine.specs.Orders.{is_firm}
 use Rattle.paris_book.specs.Kept.{row_of, plan_of, last_kept, Sound, present}
 use Rattle.paris_book.specs.Whole.{shape_on, shape_of, shape_in, Shaped, Fitted, AllFitted}
 use Rattle.paris_book.specs.Entries.{Entry}
-use Rattle.paris_book.specs.declared.inputs.Input.{Input}
-use Rattle.paris_book.specs.declared.events.Shown.TheVariants.{Settled as ShownSettled, Pending}
+use Rattle.paris_machine.specs.declared.inputs.Input.{Input}
+use Rattle.paris_machine.specs.declared.events.Shown.TheVariants.{Settled as ShownSettled, Pending}
 use Rattle.paris_book.specs.Among.{origin_among, width_in_shape, value_among, look_among, look_shown, LookFits, firm_among}
 use Rattle.paris_book.proofs.Origins.{origin-map, sound-take, Tells, origin_tells}
 use Rattle.paris_book.specs.Verdicts.{KeptFor, LooksAt}
-use Rattle.paris_book.specs.declared.events.Look.{Look}
-use Rattle.paris_book.specs.declared.events.Look.TheVariants.{Settled as LookSettled, Pending as LookPending}
+use Rattle.paris_book.specs.declared.look.Look.{Look}
+use Rattle.paris_book.specs.declared.look.Look.TheVariants.{Settled as LookSettled, Pending as LookPending}
 use Rattle.paris_book.proofs.Inserts.{state_of}
 
 map-row : (es : List Entry) → map row_plan (map row_of es) ≡ map plan_of es

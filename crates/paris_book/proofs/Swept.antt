@@ -3,7 +3,8 @@ use Rattle.std.specs.Prelude.{ℕ, List, [], ◌∷◌, Bool, if◌then◌else�
 use Rattle.paris_names.specs.declared.keys.Key.{Key}
 use Rattle.paris_depends.specs.Sweeps.{touches, spread}
 use Rattle.paris_book.specs.Entries.{Entry}
-use Rattle.paris_book.specs.Machine.{Row, unsettled}
+use Rattle.paris_machine.specs.State.{Row}
+use Rattle.paris_machine.specs.Edits.{unsettled}
 use Rattle.paris_events.specs.declared.rows.Status.TheVariants.{Waiting}
 
 -- the rows after a sweep from changed keys

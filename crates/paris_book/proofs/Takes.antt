@@ -11,7 +11,8 @@ use Rattle.paris_model.specs.Frame.{World}
 use Rattle.paris_model.specs.Instructions.{reads}
 use Rattle.paris_exec.specs.Tasks.{field_of}
 use Rattle.paris_events.specs.Rows.{is_settled, is_waiting}
-use Rattle.paris_book.specs.Machine.{Row, Inputs, State, next_ready, order_of, take_reply, taken, after_take}
+use Rattle.paris_machine.specs.State.{Row, Inputs, State}
+use Rattle.paris_machine.specs.Orders.{next_ready, order_of, take_reply, taken, after_take}
 use Rattle.paris_book.specs.Kept.{row_of}
 use Rattle.paris_book.specs.Entries.{Entry}
 use Rattle.paris_events.specs.declared.rows.Status.{Status}

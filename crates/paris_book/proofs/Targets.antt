@@ -6,7 +6,7 @@ use Rattle.std.specs.Option.{option_map, unwrap_or}
 use Rattle.paris_board.specs.Board.{Board}
 use Rattle.paris_program.specs.Program.{place_of, place_in, row_of as data_of}
 use Rattle.paris_program.proofs.CallerLemmas.{row_there}
-use Rattle.paris_book.specs.Machine.{Row, Inputs, State, find_id}
+use Rattle.paris_machine.specs.State.{Row, Inputs, State, find_id}
 use Rattle.paris_book.specs.Kept.{row_of}
 use Rattle.paris_book.specs.Entries.{Entry, entry_of, entries_of}
 use Rattle.paris_book.specs.declared.rows.RowData.{RowData}

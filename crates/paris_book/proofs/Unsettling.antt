@@ -8,7 +8,7 @@ use Rattle.std.specs.Prelude.{position, Result, Ok, Err, IfOk}
 use Rattle.std.specs.List.{list_any, IsDistinct}
 use Rattle.std.specs.Map.{keys_of}
 use Rattle.paris_names.specs.declared.keys.Key.{Key}
-use Rattle.paris_names.specs.declared.keys.RowId.{RowId}
+use Rattle.paris_names.specs.declared.ids.RowId.{RowId}
 use Rattle.paris_names.specs.Keys.{has_key}
 use Rattle.paris_model.specs.Instructions.{Plan, writes}
 use Rattle.paris_program.specs.Program.{place_of, id_at, with_row}

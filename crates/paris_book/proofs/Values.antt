@@ -8,7 +8,7 @@ use Rattle.paris_model.specs.Frame.{World}
 use Rattle.paris_model.specs.Instructions.{Plan, reads, writes, one, given}
 use Rattle.paris_model.proofs.Worlds.{one_is}
 use Rattle.paris_events.specs.Rows.{is_settled}
-use Rattle.paris_book.specs.Machine.{unsettled}
+use Rattle.paris_machine.specs.Edits.{unsettled}
 use Rattle.paris_book.specs.Kept.{row_of, ripen, Right, Sound}
 use Rattle.paris_depends.specs.Sweeps.{touches, spread}
 use Rattle.paris_book.proofs.Swept.{swept, stale, swept_entries}

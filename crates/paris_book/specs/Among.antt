@@ -10,17 +10,20 @@ use Rattle.paris_field.specs.Fields.{FieldNumbers}
 use Rattle.paris_exec.specs.Tasks.{Task, field_of, numbers_of}
 use Rattle.paris_book.specs.Kept.{row_of, plan_of, present}
 use Rattle.paris_events.specs.Rows.{is_waiting, is_settled}
-use Rattle.paris_book.specs.Machine.{Inputs, Row, is_firm, shown_of, recalled_status, fault_by}
+use Rattle.paris_machine.specs.State.{Inputs, Row}
+use Rattle.paris_machine.specs.Show.{shown_of}
+use Rattle.paris_machine.specs.Orders.{is_firm, recalled_status}
+use Rattle.paris_machine.specs.Lists.{fault_by}
 use Rattle.paris_book.specs.Whole.{shape_in}
 use Rattle.paris_book.specs.declared.inputs.InputData.{InputData}
 use Rattle.paris_book.specs.Entries.{Entry}
 use Rattle.paris_events.specs.declared.rows.Status.TheVariants.{Out, Settled}
-use Rattle.paris_book.specs.declared.events.Look.{Look}
-use Rattle.paris_book.specs.declared.events.Look.TheVariants.{Settled as LookSettled, Pending as LookPending}
+use Rattle.paris_book.specs.declared.look.Look.{Look}
+use Rattle.paris_book.specs.declared.look.Look.TheVariants.{Settled as LookSettled, Pending as LookPending}
 use Rattle.paris_events.specs.declared.rows.RowFault.{RowFault}
 use Rattle.paris_events.specs.declared.rows.RowLook.{RowLook}
-use Rattle.paris_book.specs.declared.events.Shown.{Shown}
-use Rattle.paris_book.specs.declared.events.Shown.TheVariants.{Settled as ShownSettled, Pending}
+use Rattle.paris_machine.specs.declared.events.Shown.{Shown}
+use Rattle.paris_machine.specs.declared.events.Shown.TheVariants.{Settled as ShownSettled, Pending}
 
 abbrev pub inputs_of : InputData → Inputs
 inputs_of d = record { fields = d.fields.items; flags = d.flags.items }

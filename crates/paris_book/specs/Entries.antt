@@ -1,7 +1,7 @@
 -- The rows as the book keeps them, each with its id.
 use Rattle.std.specs.Prelude.{ℕ, List, map, Option}
-use Rattle.paris_names.specs.declared.keys.RowId.{RowId}
-use Rattle.paris_names.specs.declared.keys.Edition.{Edition}
+use Rattle.paris_names.specs.declared.ids.RowId.{RowId}
+use Rattle.paris_names.specs.declared.ids.Edition.{Edition}
 use Rattle.paris_model.specs.Instructions.{Plan}
 use Rattle.paris_program.specs.Program.{Program}
 use Rattle.paris_exec.specs.Tasks.{Task}

@@ -9,7 +9,7 @@ use Rattle.paris_model.specs.Instructions.{Plan, reads, writes, one}
 use Rattle.paris_model.specs.Run.{run}
 use Rattle.paris_exec.specs.Tasks.{Task, numbers_of}
 use Rattle.paris_events.specs.Rows.{is_settled}
-use Rattle.paris_book.specs.Machine.{Row, Inputs, start_world}
+use Rattle.paris_machine.specs.State.{Row, Inputs, start_world}
 use Rattle.paris_book.specs.Entries.{Entry}
 
 -- what others see of a row

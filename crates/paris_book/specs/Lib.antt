@@ -1,8 +1,6 @@
 pub mod Among
 pub mod Entries
-pub mod Events
 pub mod Kept
-pub mod Machine
 pub mod Marks
 pub mod Rounds
 pub mod Verdicts

@@ -3,10 +3,10 @@ use Rattle.std.specs.Prelude.{ℕ, List, map, Some, None, Bool, ◌||◌}
 use Rattle.paris_names.specs.declared.keys.Key.{Key}
 use Rattle.paris_names.specs.Keys.{has_key}
 use Rattle.paris_model.specs.Instructions.{Plan, writes}
-use Rattle.paris_names.specs.declared.keys.RowId.{RowId}
+use Rattle.paris_names.specs.declared.ids.RowId.{RowId}
 use Rattle.paris_depends.specs.Sweeps.{by_ids}
 use Rattle.paris_exec.specs.Tasks.{Task}
-use Rattle.paris_book.specs.Machine.{recalled_status}
+use Rattle.paris_machine.specs.Orders.{recalled_status}
 use Rattle.paris_book.specs.declared.rows.RowData.{RowData}
 use Rattle.paris_events.specs.declared.rows.Status.TheVariants.{Waiting, Out, Settled}
 

@@ -2,7 +2,8 @@
 use Rattle.std.specs.Prelude.{◌≡◌, ℕ, ◌≤◌, List, [], ◌∷◌, Bool, true, Option, Some, None, is_some, slice_get}
 use Rattle.paris_exec.specs.Tasks.{Task}
 use Rattle.paris_events.specs.Rows.{is_settled}
-use Rattle.paris_book.specs.Machine.{Row, State, all_settled, unsettled_rows, brought_back}
+use Rattle.paris_machine.specs.State.{Row, State}
+use Rattle.paris_machine.specs.Settling.{all_settled, unsettled_rows, brought_back}
 use Rattle.paris_book.specs.declared.rounds.Slot.{Slot}
 
 -- every row that was settled stands there as it was

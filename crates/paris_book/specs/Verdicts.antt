@@ -12,11 +12,11 @@ use Rattle.paris_instr.specs.PlanEq.{plan_eq}
 use Rattle.paris_field.specs.Fields.{field_eq}
 use Rattle.paris_exec.specs.Tasks.{Task, task_value}
 use Rattle.paris_events.specs.Rows.{is_settled}
-use Rattle.paris_book.specs.Machine.{Inputs}
+use Rattle.paris_machine.specs.State.{Inputs}
 use Rattle.paris_book.specs.Among.{firm_among, inputs_among}
 use Rattle.paris_book.specs.Entries.{Entry}
-use Rattle.paris_book.specs.declared.events.Look.{Look}
-use Rattle.paris_book.specs.declared.events.Look.TheVariants.{Settled, Pending}
+use Rattle.paris_book.specs.declared.look.Look.{Look}
+use Rattle.paris_book.specs.declared.look.Look.TheVariants.{Settled, Pending}
 use Rattle.paris_events.specs.declared.verdicts.Verdict.{Verdict}
 use Rattle.paris_events.specs.declared.verdicts.Verdict.TheVariants.{Stale, Repeated, Foreign, Kept}
 

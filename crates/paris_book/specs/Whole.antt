@@ -7,9 +7,10 @@ use Rattle.paris_geometry.specs.Geometry.{processor_count}
 use Rattle.paris_board.specs.Board.{Board, is_declared, width_of, count_of}
 use Rattle.paris_model.specs.Instructions.{Plan, reads, writes, key_width}
 use Rattle.paris_book.specs.Kept.{Sound}
-use Rattle.paris_book.specs.Machine.{Inputs, input_of, number_in, start_world}
-use Rattle.paris_book.specs.declared.inputs.Input.{Input}
+use Rattle.paris_machine.specs.State.{Inputs, input_of, number_in, start_world}
+use Rattle.paris_machine.specs.declared.inputs.Input.{Input}
 use Rattle.paris_book.specs.Entries.{Entry}
+use Rattle.paris_names.specs.declared.limits.TheConstants.{MAX_EDITS}
 
 -- the width of a key and how many numbers it has, if it is declared
 abbrev pub shape_on : Board → Key → Option (ℕ × ℕ)
@@ -52,7 +53,7 @@ AllFitted inputs (e ∷ es) = Fitted inputs e.plan × AllFitted inputs es
 
 pub record IsWhole (board : Board) (edits next : ℕ) (inputs : Inputs) (rows : List Entry) : Type 0 where
   pub next_few : next ≤ edits + 1
-  pub edits_few : edits < 9223372036854775808
+  pub edits_few : edits ≤ MAX_EDITS
   pub as_many_fields : length inputs.fields ≡ length board.fields
   pub as_many_flags : length inputs.flags ≡ length board.sets
   pub shaped : Shaped board inputs

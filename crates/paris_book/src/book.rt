@@ -5,16 +5,23 @@ ghost use Rattle.std.specs.Option.{option_map};
 ghost use Rattle.paris_names.specs.Faults.{IsFaultOf};
 ghost use Rattle.paris_names.specs.declared.faults.Fault.TheVariants as FaultCase;
 ghost use Rattle.paris_program.specs.Program.{place_of};
-ghost use Rattle.paris_book.specs.Machine.{empty_state, edit_fault, edit_answer, accepted, place_of_spot, show_reply, take_reply, after_take, verdict_of, after_bring, unsettled_rows};
-ghost use Rattle.paris_book.specs.declared.events.Event.TheVariants as EventCase;
+ghost use Rattle.paris_machine.specs.State.{empty_state, place_of_spot};
+ghost use Rattle.paris_machine.specs.Show.{show_reply};
+ghost use Rattle.paris_machine.specs.Orders.{take_reply, after_take};
+ghost use Rattle.paris_machine.specs.Results.{verdict_of, after_bring};
+ghost use Rattle.paris_machine.specs.Edits.{edit_fault, edit_answer, accepted};
+ghost use Rattle.paris_machine.specs.Settling.{unsettled_rows};
+ghost use Rattle.paris_machine.specs.declared.events.Event.TheVariants as EventCase;
 ghost use Rattle.paris_book.specs.Kept.{row_of};
 ghost use Rattle.paris_book.specs.Verdicts.{is_no_memory};
-ghost use Rattle.paris_book.specs.Events.{reply_to, after, replies_to, after_all};
+ghost use Rattle.paris_machine.specs.Events.{reply_to, after, replies_to, after_all};
 ghost use Rattle.paris_book.specs.Among.{look_shown};
 ghost use Rattle.paris_book.specs.Entries.{entries};
 ghost use Rattle.paris_book.specs.Marks.{out_data, kept_data};
+ghost use Rattle.paris_names.specs.declared.limits.TheConstants.{MAX_EDITS};
 
-use crate::events::{Event, Look, Reply, Shown};
+use crate::look::Look;
+use paris_machine::{Event, Reply, Shown};
 use crate::inputs::InputData;
 use crate::looks::{first_ready, judge, look_at, order_at};
 use crate::rows::RowData;
@@ -39,7 +46,7 @@ pub struct Book {
 
 impl Model for Book {
     ghost use Rattle.std.specs.Prelude.{map};
-    ghost use Rattle.paris_book.specs.Machine.{State};
+    ghost use Rattle.paris_machine.specs.State.{State};
 
     ghost Value = { State };
 
@@ -63,7 +70,7 @@ impl Book {
 
     /// A book with nothing in it, of which that many edits count as made.
     pub fn starting_at(alloc: Global, count: u64) -> Book
-        requires { count < 9223372036854775808 }
+        requires { count ≤ MAX_EDITS }
         ensures { result ≡ empty_state count }
     {
         Book {

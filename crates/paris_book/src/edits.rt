@@ -4,11 +4,12 @@ ghost use Rattle.std.specs.Prelude.{◌≡◌, ◌<◌, ◌≤◌, length, Ok, S
 ghost use Rattle.std.specs.Option.{option_or};
 ghost use Rattle.paris_names.specs.Faults.{IsFaultOf};
 ghost use Rattle.paris_names.specs.declared.faults.Fault.TheVariants as FaultCase;
-ghost use Rattle.paris_names.specs.declared.keys.Spot.TheVariants as SpotCase;
+ghost use Rattle.paris_names.specs.declared.ids.Spot.TheVariants as SpotCase;
 ghost use Rattle.paris_geometry.specs.Geometry.{is_geometry};
 ghost use Rattle.paris_board.specs.Board.{set_fault, field_fault, key_named, set_named};
 ghost use Rattle.paris_instr.specs.Resolve.{IsFittedTo};
-ghost use Rattle.paris_book.specs.Machine.{edit_fault, edit_answer, content_fault, accepted, input_fault, set_added, field_added, input_set, row_inserted, replaced_from, find_row, place_of_spot};
+ghost use Rattle.paris_machine.specs.State.{find_row, place_of_spot};
+ghost use Rattle.paris_machine.specs.Edits.{edit_fault, edit_answer, content_fault, accepted, input_fault, set_added, field_added, input_set, row_inserted, replaced_from};
 ghost use Rattle.paris_events.specs.declared.edits.Edit.TheVariants as EditCase;
 ghost use Rattle.paris_book.specs.Marks.{fresh_data};
 
@@ -20,7 +21,8 @@ use crate::marks::{unsettle_all, unsettled_by_replace, unsettled_from};
 use crate::rows::RowData;
 use paris_events::{Edit, EditReply, Status};
 use paris_geometry::Geometry;
-use paris_instr::{Instr, Plan, resolve};
+use paris_instr::{Plan, resolve};
+use paris_model::Instr;
 use paris_names::limits::{MAX_EDITS, MAX_ROWS};
 use paris_names::{Edition, Fault, KeyName, Name, RowId, Spot};
 
@@ -40,7 +42,7 @@ fn fresh_row(plan: Plan, number: u64) -> RowData
 impl Book {
     /// Declares a set, if there are edits left.
     fn add_set(&mut self, name: Name, axes: &[u64]) -> Result<(), Fault>
-        requires left { self.old.edits < 9223372036854775807 }
+        requires left { HasEditsLeft self.old }
         ensures ok { OnOk result ((option_or (set_fault self.old.board name) (if is_geometry axes.now then None else Some FaultCase.BadAxes) ≡ None)
             × (self.new ≡ set_added self.old name axes.now)) }
         ensures err { IfErr result (λ fault. (self.new ≡ self.old)
@@ -51,12 +53,8 @@ impl Book {
         }
         let geometry = Geometry::new(axes)?;
         let number = self.edits + 1;
-        let Ok(flags) = declare_flags(self.alloc, number, geometry.vps()) else {
-            return Err(Fault::NoMemory);
-        };
-        let Ok(()) = self.inputs.flags.reserve(1) else {
-            return Err(Fault::NoMemory);
-        };
+        let flags = declare_flags(self.alloc, number, geometry.vps())?;
+        self.inputs.flags.reserve(1)?;
         self.board.add_set(name, geometry)?;
         push_flags(&mut self.inputs.flags, flags);
         self.edits = number;
@@ -65,7 +63,7 @@ impl Book {
 
     /// Declares a field, if there are edits left.
     fn add_field(&mut self, name: Name, set: Name, width: u64) -> Result<(), Fault>
-        requires left { self.old.edits < 9223372036854775807 }
+        requires left { HasEditsLeft self.old }
         ensures ok { OnOk result ((field_fault self.old.board name set width ≡ None)
             × (self.new ≡ field_added self.old name (set_named self.old.board set) width)) }
         ensures err { IfErr result (λ fault. (self.new ≡ self.old)
@@ -76,12 +74,8 @@ impl Book {
         }
         let count = self.board.geometry(self.board.set_of(set)?).vps();
         let number = self.edits + 1;
-        let Ok(input) = declare_input(self.alloc, number, width, count, 0) else {
-            return Err(Fault::NoMemory);
-        };
-        let Ok(()) = self.inputs.fields.reserve(1) else {
-            return Err(Fault::NoMemory);
-        };
+        let input = declare_input(self.alloc, number, width, count, 0)?;
+        self.inputs.fields.reserve(1)?;
         self.board.add_field(name, set, width)?;
         push_field(&mut self.inputs.fields, input);
         self.edits = number;
@@ -90,7 +84,7 @@ impl Book {
 
     /// Gives a key values from a processor on, if there are edits left.
     fn set_input(&mut self, name: KeyName, from: u64, values: &[u128]) -> Result<(), Fault>
-        requires left { self.old.edits < 9223372036854775807 }
+        requires left { HasEditsLeft self.old }
         ensures ok { OnOk result ((input_fault self.old from values.now (key_named self.old.board name) ≡ None)
             × (self.new ≡ input_set self.old (key_named self.old.board name) from values.now)) }
         ensures err { IfErr result (λ fault. (self.new ≡ self.old)
@@ -111,7 +105,7 @@ impl Book {
 
     /// Puts an instruction into the program, if there are edits left.
     fn insert(&mut self, spot: Spot, instr: Instr) -> Result<RowId, Fault>
-        requires left { self.old.edits < 9223372036854775807 }
+        requires left { HasEditsLeft self.old }
         ensures ok { IfOk result (λ id. (content_fault self.old (EditCase.Insert spot instr) ≡ None)
             × (id ≡ record { 0 = self.old.next })
             × (self.new ≡ accepted self.old (EditCase.Insert spot instr))) }
@@ -128,7 +122,7 @@ impl Book {
 
     /// Puts a row of a plan that fits at a place, if there are edits left.
     fn insert_plan(&mut self, place: usize, plan: Plan) -> Result<RowId, Fault>
-        requires left { self.old.edits < 9223372036854775807 }
+        requires left { HasEditsLeft self.old }
         requires within { place ≤ length self.old.rows }
         requires fitted { IsFittedTo self.old.board plan }
         ensures ok { IfOk result (λ id. (id ≡ record { 0 = self.old.next }) × (self.new ≡ row_inserted self.old place plan)) }
@@ -146,7 +140,7 @@ impl Book {
 
     /// Takes a row out of the program, if there are edits left.
     fn delete(&mut self, id: RowId) -> Result<(), Fault>
-        requires left { self.old.edits < 9223372036854775807 }
+        requires left { HasEditsLeft self.old }
         ensures ok { OnOk result ((content_fault self.old (EditCase.Delete id) ≡ None)
             × (self.new ≡ accepted self.old (EditCase.Delete id))) }
         ensures err { IfErr result (λ fault. (self.new ≡ self.old)
@@ -166,7 +160,7 @@ impl Book {
 
     /// Gives a row another instruction, if there are edits left.
     fn replace(&mut self, id: RowId, instr: Instr) -> Result<(), Fault>
-        requires left { self.old.edits < 9223372036854775807 }
+        requires left { HasEditsLeft self.old }
         ensures ok { OnOk result ((content_fault self.old (EditCase.Replace id instr) ≡ None)
             × (self.new ≡ accepted self.old (EditCase.Replace id instr))) }
         ensures err { IfErr result (λ fault. (self.new ≡ self.old)
@@ -179,7 +173,7 @@ impl Book {
 
     /// Gives the row with an id another plan that fits, if there are edits left. The place is that just after the row.
     fn replace_plan(&mut self, id: RowId, below: usize, plan: Plan) -> Result<(), Fault>
-        requires left { self.old.edits < 9223372036854775807 }
+        requires left { HasEditsLeft self.old }
         requires there { place_of_spot self.old (SpotCase.After id) ≡ Some below }
         requires fitted { IsFittedTo self.old.board plan }
         ensures ok { OnOk result (self.new ≡ replaced_from self.old (find_row self.old id) (Ok plan)) }

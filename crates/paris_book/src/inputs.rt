@@ -4,60 +4,21 @@ ghost use Rattle.std.specs.Prelude.{◌≡◌, ◌<◌, ◌≤◌, ◌+◌, ◌^
 ghost use Rattle.paris_names.specs.Faults.{IsFaultOf};
 ghost use Rattle.paris_field.specs.Fields.{AllFit, overwritten};
 ghost use Rattle.std.specs.Option.{option_copied};
-ghost use Rattle.paris_book.specs.Machine.{fault_of_values, flag_input, with_flag_input, input_of, with_input, declared_input, declared_flags};
+ghost use Rattle.paris_machine.specs.State.{input_of, with_input, declared_input, declared_flags};
+ghost use Rattle.paris_machine.specs.Edits.{fault_of_values};
 ghost use Rattle.paris_book.specs.Among.{inputs_of};
+ghost use Rattle.paris_names.specs.declared.limits.TheConstants.{MAX_WIDTH};
 
 use paris_field::FieldValue;
-use paris_names::{Fault, FlagName, Key};
+use paris_machine::{FlagInputs, Input};
+use paris_names::{Fault, Key};
 use std::alloc::{AllocError, Global};
-
-/// A key's value at the start of the program, and the number of the edit that last gave or declared it.
-#[derive(Debug, Drop)]
-pub struct Input {
-    pub value: FieldValue,
-    pub number: u64,
-}
-
-/// The input data of a set's flags.
-#[derive(Debug, Drop)]
-pub struct FlagInputs {
-    pub context: Input,
-    pub test: Input,
-    pub carry: Input,
-    pub overflow: Input,
-}
 
 /// The input data of all fields, and of the flags of all sets, in the order of their declaration.
 #[derive(Debug, Drop)]
 pub(crate) struct InputData {
     pub(crate) fields: Vec<Input>,
     pub(crate) flags: Vec<FlagInputs>,
-}
-
-impl FlagInputs {
-    /// The input data of a flag.
-    pub fn flag(&self, flag: FlagName) -> &Input
-        ensures { result.now ≡ flag_input self.now flag }
-    {
-        match flag {
-            FlagName::Context => &self.context,
-            FlagName::Test => &self.test,
-            FlagName::Carry => &self.carry,
-            FlagName::Overflow => &self.overflow,
-        }
-    }
-
-    /// Gives a flag other input data.
-    fn set_flag(&mut self, flag: FlagName, input: Input)
-        ensures { self.new ≡ with_flag_input self.old flag input }
-    {
-        match flag {
-            FlagName::Context => self.context = input,
-            FlagName::Test => self.test = input,
-            FlagName::Carry => self.carry = input,
-            FlagName::Overflow => self.overflow = input,
-        }
-    }
 }
 
 /// The input data of a key.
@@ -134,10 +95,8 @@ pub(crate) fn given_input(
     if let Some(fault) = values_fault(&input.value, from, values) {
         return Err(fault);
     }
-    match input.value.with_numbers(from as usize, values) {
-        Ok(value) => Ok(Input { value, number }),
-        Err(_) => Err(Fault::NoMemory),
-    }
+    let value = input.value.with_numbers(from as usize, values)?;
+    Ok(Input { value, number })
 }
 
 /// The same number for each processor.
@@ -155,7 +114,7 @@ pub(crate) fn declare_input(
     count: usize,
     start: u128,
 ) -> Result<Input, AllocError>
-    requires narrow { width ≤ 64 }
+    requires narrow { width ≤ MAX_WIDTH }
     requires wide { 0 < width }
     requires bit { start ≤ 1 }
     ensures { IfOk result (λ input. input ≡ declared_input number width count start) }

@@ -1,19 +1,18 @@
 //! The book: a program that is edited, its input data, and the results that are settled.
 #![tactic(auto)]
 
-pub mod book;
+mod book;
 mod edits;
-pub mod events;
-pub mod inputs;
+mod inputs;
 mod listing;
+mod look;
 mod looks;
 mod marks;
 mod refusals;
 mod rounds;
-pub mod rows;
-pub mod settlement;
+mod rows;
+mod settlement;
 
 pub use book::Book;
-pub use events::{Event, Look, Reply, Shown};
-pub use paris_events::{Edit, EditReply, RowFault, RowLook, Status, Verdict};
+pub use look::Look;
 pub use settlement::SettleFault;

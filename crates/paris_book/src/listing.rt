@@ -1,7 +1,7 @@
 //! The list of rows, with their states.
 
 ghost use Rattle.std.specs.Prelude.{◌≡◌, IfOk};
-ghost use Rattle.paris_book.specs.Machine.{list_of};
+ghost use Rattle.paris_machine.specs.Lists.{list_of};
 ghost use Rattle.paris_book.specs.Among.{listed_entry, looks_kept};
 ghost use Rattle.paris_book.specs.Entries.{entry_of, entries};
 

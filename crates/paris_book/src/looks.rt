@@ -7,14 +7,15 @@ ghost use Rattle.std.specs.Cmp.Lexicographic.{pointwise};
 ghost use Rattle.paris_model.specs.Instructions.{reads};
 ghost use Rattle.paris_field.specs.Fields.{field_eq};
 ghost use Rattle.paris_exec.specs.Tasks.{fits};
-ghost use Rattle.paris_book.specs.Machine.{input_of, start_world, shown_of};
+ghost use Rattle.paris_machine.specs.State.{input_of, start_world};
+ghost use Rattle.paris_machine.specs.Show.{shown_of};
 ghost use Rattle.paris_book.specs.Kept.{Sound, row_of, present};
 ghost use Rattle.paris_book.specs.Whole.{AllFitted, Fitted, shape_in};
 ghost use Rattle.paris_book.specs.Among.{inputs_of, look_among, look_shown, LookFits, firm_among, ready_among, next_among, inputs_among, order_among};
 ghost use Rattle.paris_book.specs.Verdicts.{KeptFor, LooksAt, verdict_among};
 ghost use Rattle.paris_book.specs.Entries.{Entry, entry_of, entries};
 
-use crate::events::Look;
+use crate::look::Look;
 use crate::inputs::{InputData, input_at};
 use crate::rows::RowData;
 use paris_depends::origin;

@@ -1,7 +1,6 @@
 //! Rows that an edit makes unsettled.
 
-ghost use Rattle.std.specs.Prelude.{◌≡◌, ◌≤◌, length, drop, map, Some, IsSome, IfOk, IfErr};
-ghost use Rattle.paris_names.specs.declared.faults.Fault.TheVariants as FaultCase;
+ghost use Rattle.std.specs.Prelude.{◌≡◌, ◌≤◌, length, drop, map, Some, IsSome, IfOk};
 ghost use Rattle.paris_names.specs.declared.keys.Key.{Key as AnyKey};
 ghost use Rattle.paris_names.specs.Keys.{has_key};
 ghost use Rattle.paris_program.specs.Program.{IsProgram, place_of, row_of};
@@ -13,8 +12,7 @@ use crate::rows::RowData;
 use paris_depends::affected;
 use paris_events::Status;
 use paris_instr::Plan;
-use paris_names::keys::has_key;
-use paris_names::{Edition, Fault, Key, RowId};
+use paris_names::{Edition, Key, RowId, has_key};
 use paris_program::Program;
 use std::alloc::{AllocError, Global};
 
@@ -55,43 +53,34 @@ fn written_by_either(alloc: Global, old: &Plan, new: &Plan) -> Result<Vec<Key>, 
     Ok(keys)
 }
 
-/// The ids of the rows from a place on that become unsettled where just these keys get new recipes at that place. `NoMemory` where
-/// memory for the list was refused.
+/// The ids of the rows from a place on that become unsettled where just these keys get new recipes at that place.
 pub(crate) fn unsettled_from(
     alloc: Global,
     rows: &Program<RowData>,
     place: usize,
     keys: &[Key],
-) -> Result<Vec<RowId>, Fault>
+) -> Result<Vec<RowId>, AllocError>
     requires { place ≤ length rows.now.rows }
-    ensures ok { IfOk result (λ ids. ids_in ids.items ≡ touched data_plan (has_key keys.now) (drop place rows.now.rows)) }
-    ensures err { IfErr result (λ fault. fault ≡ FaultCase.NoMemory) }
+    ensures { IfOk result (λ ids. ids_in ids.items ≡ touched data_plan (has_key keys.now) (drop place rows.now.rows)) }
 {
-    match affected(alloc, rows, place, keys) {
-        Ok(ids) => Ok(ids),
-        Err(_) => Err(Fault::NoMemory),
-    }
+    affected(alloc, rows, place, keys)
 }
 
-/// The ids of the rows from a place on that become unsettled where the row just before it gets another plan. `NoMemory` where memory
-/// for the list was refused.
+/// The ids of the rows from a place on that become unsettled where the row just before it gets another plan.
 pub(crate) fn unsettled_by_replace(
     alloc: Global,
     rows: &Program<RowData>,
     id: RowId,
     below: usize,
     plan: &Plan,
-) -> Result<Vec<RowId>, Fault>
+) -> Result<Vec<RowId>, AllocError>
     requires within { below ≤ length rows.now.rows }
     requires there { IsSome (place_of rows.now.rows id.0) }
-    ensures ok { IfOk result (λ ids. (row : RowShape) → row_of rows.now.rows id.0 ≡ Some row → ids_in ids.items ≡ touched data_plan (writes_either row.plan plan.now) (drop below rows.now.rows)) }
-    ensures err { IfErr result (λ fault. fault ≡ FaultCase.NoMemory) }
+    ensures { IfOk result (λ ids. (row : RowShape) → row_of rows.now.rows id.0 ≡ Some row → ids_in ids.items ≡ touched data_plan (writes_either row.plan plan.now) (drop below rows.now.rows)) }
 {
     match rows.row(id) {
         Some(row) => {
-            let Ok(keys) = written_by_either(alloc, &row.plan, plan) else {
-                return Err(Fault::NoMemory);
-            };
+            let keys = written_by_either(alloc, &row.plan, plan)?;
             unsettled_from(alloc, rows, below, keys.as_slice())
         }
         None => unreachable!(),

@@ -1,7 +1,7 @@
 //! The settled rows whose instructions are refused.
 
 ghost use Rattle.std.specs.Prelude.{◌≡◌, IfOk};
-ghost use Rattle.paris_book.specs.Machine.{faults_of};
+ghost use Rattle.paris_machine.specs.Lists.{faults_of};
 ghost use Rattle.paris_book.specs.Among.{cause_kept, faults_kept};
 ghost use Rattle.paris_book.specs.Entries.{entry_of, entries};
 

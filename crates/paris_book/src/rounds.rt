@@ -2,9 +2,11 @@
 
 ghost use Rattle.std.specs.Prelude.{◌≡◌, ℕ, ◌<◌, ◌≤◌, ◌+◌, true, false, length, slice_index_or, OnOk, OnErr, IfOk, IfErr, IfSome};
 ghost use Rattle.std.specs.List.{list_all};
-ghost use Rattle.paris_book.specs.Machine.{after_release, take_reply, all_settled, unsettled_rows, brought_back};
+ghost use Rattle.paris_machine.specs.Orders.{after_release, take_reply};
+ghost use Rattle.paris_machine.specs.Settling.{all_settled, unsettled_rows, brought_back};
 ghost use Rattle.paris_book.specs.Rounds.{Advances, StaySettled, HasRun, has_result, first_order, after_slots};
 ghost use Rattle.paris_book.specs.declared.rounds.Slot.{Slot as SlotShape};
+ghost use Rattle.paris_names.specs.declared.limits.TheConstants.{MAX_WORKERS};
 
 use crate::book::Book;
 use crate::settlement::SettleFault;
@@ -148,7 +150,7 @@ impl Book {
         workers: usize,
         gate: &G,
     ) -> Result<u64, SettleFault>
-        requires workers { (1 ≤ workers) × (workers ≤ 16) }
+        requires workers { (1 ≤ workers) × (workers ≤ MAX_WORKERS) }
         ensures count { IfOk result (λ ran. ran ≡ unsettled_rows self.old.rows) }
         ensures settled { OnOk result (self.new ≡ all_settled self.old) }
         ensures same { OnErr result (all_settled self.new ≡ all_settled self.old) }

@@ -1,7 +1,9 @@
 //! Settling a book: orders that are out are given up, and orders are run until every row is settled.
 
 ghost use Rattle.std.specs.Prelude.{◌≡◌, ◌<◌, ◌+◌, ◌⊎◌, map, OnOk, OnErr, IfOk, IfErr};
-ghost use Rattle.paris_book.specs.Machine.{after_release, after_take, after_bring, after_run, ran_orders, all_settled, unsettled_rows};
+ghost use Rattle.paris_machine.specs.Orders.{after_release, after_take};
+ghost use Rattle.paris_machine.specs.Results.{after_bring};
+ghost use Rattle.paris_machine.specs.Settling.{after_run, ran_orders, all_settled, unsettled_rows};
 ghost use Rattle.paris_book.specs.Marks.{recalled_data, recalled_pair};
 
 use crate::book::{Book, count_unsettled};

@@ -1,7 +1,7 @@
 //! Worked rows on single instructions, through the book. The set is `s`, and its flags are keys as its fields are.
 
 use crate::programs::{Given, Row, hold};
-use paris_book::RowFault;
+use paris_events::RowFault;
 use paris_model::Refusal;
 use paris_names::RowId;
 use std::test::*;

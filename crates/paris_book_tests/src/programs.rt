@@ -1,7 +1,8 @@
 //! Programs of a few instructions in a book of the set `s`, run to their end.
 
 use crate::spellings::*;
-use paris_book::{Book, Edit, EditReply, Look, RowFault};
+use paris_book::{Book, Look};
+use paris_events::{Edit, EditReply, RowFault};
 use paris_names::{Items, RowId, Spot};
 use std::alloc::{AllocError, Global};
 use std::process::Abort;

@@ -1,6 +1,6 @@
 //! Names, keys and instructions by their texts, as tables have them.
 
-use paris_instr::Instr;
+use paris_model::Instr;
 use paris_names::{KeyName, Name};
 use paris_text::read_instr;
 use paris_text::words::key_of_word;

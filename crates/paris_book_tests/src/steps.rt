@@ -2,7 +2,9 @@
 
 use crate::programs;
 use crate::spellings::*;
-use paris_book::{Book, Edit, EditReply, Event, Look, Reply, Verdict};
+use paris_book::{Book, Look};
+use paris_events::{Edit, EditReply, Verdict};
+use paris_machine::{Event, Reply};
 use paris_exec::{Done, Order, execute};
 use paris_names::{Edition, Fault, Items, RowId, Spot};
 use std::alloc::{AllocError, Global};

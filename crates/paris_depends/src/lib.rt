@@ -1,9 +1,9 @@
 //! What depends on what: the row that a key's value comes from, and the rows whose recipes change with keys.
 #![tactic(auto)]
 
-pub mod origins;
-pub mod plans;
-pub mod sweeps;
+mod origins;
+mod plans;
+mod sweeps;
 
 pub use origins::origin;
 pub use plans::HasPlan;

@@ -1,9 +1,10 @@
 //! Edits of a book that are accepted or refused, and results of its orders.
 
 use crate::spellings::*;
-use paris_book::{Book, Edit, EditReply};
+use paris_book::Book;
+use paris_events::{Edit, EditReply};
 use paris_exec::{Done, Order, execute};
-use paris_instr::Instr;
+use paris_model::Instr;
 use paris_names::{Fault, Items, RowId, Spot};
 use std::alloc::{AllocError, Global};
 use std::process::Abort;

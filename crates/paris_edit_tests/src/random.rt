@@ -9,7 +9,8 @@ use crate::operations::{
     CONTEXT, Dice, KEYS, Operation, any_operation, any_place, any_values, key_name, reads, spelled,
     throw, twin_operation, twin_values,
 };
-use paris_book::{Book, Edit, Look, RowLook, Status, Verdict};
+use paris_book::{Book, Look};
+use paris_events::{Edit, RowLook, Status, Verdict};
 use paris_exec::{Done, Order};
 use paris_field::FieldValue;
 use paris_names::{Edition, Fault, Items, RowId, Spot};

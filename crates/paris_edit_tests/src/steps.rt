@@ -2,9 +2,10 @@
 
 use crate::books::{accept, declare, insert, refuse, run, set};
 use crate::spellings::*;
-use paris_book::{Book, Edit, Look, RowLook, Status, Verdict};
+use paris_book::{Book, Look};
+use paris_events::{Edit, RowLook, Status, Verdict};
 use paris_exec::Done;
-use paris_instr::Instr;
+use paris_model::Instr;
 use paris_model::{Action, BinaryOperator, Refusal, UnaryOperator, Unconditional};
 use paris_names::{Edition, Fault, FlagName, Items, KeyName, RowId, Spot};
 use std::alloc::{AllocError, Global};

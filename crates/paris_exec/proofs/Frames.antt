@@ -1,12 +1,30 @@
--- An executed order gives in any world what its result holds.
-use Rattle.std.proofs.Common.{refl, ap, ◌∙◌}
-use Rattle.paris_model.specs.Instructions.{given}
-use Rattle.paris_model.proofs.Worlds.{one_is}
-use Rattle.paris_exec.specs.Tasks.{Task}
-use Rattle.paris_exec.specs.Frames.{GivesInAnyWorld}
+-- An executed order gives in any world what its result holds, and is refused there as its result says.
+use Rattle.std.proofs.Common.{◌≡◌, ℕ, List, Option, Some, None, refl, sym, ap, ◌∙◌, map}
+use Rattle.paris_model.specs.declared.actions.Refusal.{Refusal}
+use Rattle.paris_model.specs.Frame.{World}
+use Rattle.paris_model.specs.Instructions.{Plan, reads, value_at, outcome, outcome_in, refusal, given}
+use Rattle.paris_model.proofs.Worlds.{one_is, value_at-map}
+use Rattle.paris_model.proofs.Direct.{refusal_depends}
+use Rattle.paris_exec.specs.Tasks.{Task, told, task_outcome, numbers_of}
+use Rattle.paris_exec.specs.Frames.{GivesInAnyWorld, RefusedInAnyWorld, refusal_told}
 
 pub gives : (t : Task) → GivesInAnyWorld t
 gives t w same k = (
   λ written. one_is t.plan w k ∙ rw written (ap (λ xs. given t.plan xs k) same),
   λ other. one_is t.plan w k ∙ rw other refl,
 )
+
+-- what is told of an outcome is the refusal that it was made of
+told_refusal : (p : Plan) (w : World) (o : Option Refusal) → refusal_told (told p (outcome_in p w o)) ≡ o
+told_refusal p w None = refl
+told_refusal p w (Some cause) = refl
+
+outcome_told : (p : Plan) (inputs : List (List ℕ)) → refusal_told (told p (outcome p inputs)) ≡ refusal p (value_at (reads p) inputs)
+unfolding outcome
+outcome_told p inputs = told_refusal p (value_at (reads p) inputs) (refusal p (value_at (reads p) inputs))
+
+pub refused : (t : Task) → RefusedInAnyWorld t
+refused t w same =
+    refusal_depends t.plan w (value_at (reads t.plan) (map w (reads t.plan))) (λ k read. sym (value_at-map w (reads t.plan) k read))
+    ∙ ap (λ xs. refusal t.plan (value_at (reads t.plan) xs)) same
+    ∙ sym (outcome_told t.plan (numbers_of t.inputs))

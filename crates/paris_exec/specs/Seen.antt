@@ -5,6 +5,7 @@ use Rattle.paris_model.specs.Instructions.{Plan, reads, key_width}
 use Rattle.paris_plain.specs.Plain.{Seen}
 use Rattle.paris_field.specs.Fields.{FieldNumbers, AllFit}
 use Rattle.paris_exec.specs.Tasks.{numbers_of}
+use Rattle.paris_names.specs.declared.limits.TheConstants.{MAX_WIDTH}
 
 -- the numbers of these values at the keys that the plan reads
 abbrev pub seen_by : Plan → List FieldNumbers → Seen
@@ -14,4 +15,4 @@ seen_by p inputs = record { set_no = p.set_no; axes = p.axes; keys = reads p; va
 abbrev pub FitKeys : Plan → List Key → List (List ℕ) → Type 0
 FitKeys p [] lists = Unit {0}
 FitKeys p (k ∷ ks) [] = Unit {0}
-FitKeys p (k ∷ ks) (x ∷ xs) = (key_width p k ≤ 64) × AllFit (key_width p k) x × FitKeys p ks xs
+FitKeys p (k ∷ ks) (x ∷ xs) = (key_width p k ≤ MAX_WIDTH) × AllFit (key_width p k) x × FitKeys p ks xs

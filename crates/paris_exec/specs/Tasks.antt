@@ -1,7 +1,7 @@
 -- Field values, orders, and what an executed order holds.
 use Rattle.std.specs.Prelude.{ℕ, ◌==◌, Bool, true, false, ◌&&◌, List, [], ◌∷◌, map, length, slice_index, Option, Some, None, Result, Ok, Err, if◌then◌else◌}
-use Rattle.paris_names.specs.declared.keys.RowId.{RowId}
-use Rattle.paris_names.specs.declared.keys.Edition.{Edition}
+use Rattle.paris_names.specs.declared.ids.RowId.{RowId}
+use Rattle.paris_names.specs.declared.ids.Edition.{Edition}
 use Rattle.paris_names.specs.declared.keys.Key.{Key}
 use Rattle.paris_names.specs.Keys.{key_eq}
 use Rattle.paris_geometry.specs.Geometry.{processor_count}

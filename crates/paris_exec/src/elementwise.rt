@@ -13,6 +13,7 @@ ghost use Rattle.paris_alu.specs.Alu.{binary_field, carry_plane, overflow_plane}
 ghost use Rattle.paris_field.specs.Fields.{AllFit};
 ghost use Rattle.paris_exec.specs.Planes.{AreRead, is_sum, is_flagless, is_plane_operator, is_from_planes, is_own, is_of_test, is_plane_conditional};
 ghost use Rattle.paris_exec.specs.Tasks.{left_values, put_value, seen_at};
+ghost use Rattle.paris_names.specs.declared.limits.TheConstants.{MAX_WIDTH};
 
 use crate::orders::Order;
 use crate::planes::{flag_plane, put_field, put_flag_alone, put_overflowing, put_sum};
@@ -210,7 +211,7 @@ fn coordinates(
     len: u64,
 ) -> Result<Vec<u128>, AllocError>
     requires axis { axis < length geometry }
-    requires narrow { len ≤ 64 }
+    requires narrow { len ≤ MAX_WIDTH }
     ensures { IfOk result (λ numbers. numbers.items ≡ everywhere (processor_count geometry) (λ v. low len (coordinate geometry axis v))) }
 {
     let bound = 1u128 << len;
@@ -221,7 +222,7 @@ fn coordinates(
 
 /// The low bits of the send addresses of all processors.
 fn addresses(alloc: Global, geometry: Geometry, len: u64) -> Result<Vec<u128>, AllocError>
-    requires { len ≤ 64 }
+    requires { len ≤ MAX_WIDTH }
     ensures { IfOk result (λ numbers. numbers.items ≡ everywhere (processor_count geometry) (low len)) }
 {
     let bound = 1u128 << len;

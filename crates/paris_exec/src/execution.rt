@@ -4,7 +4,7 @@ ghost use Rattle.std.specs.Prelude.{◌≡◌, All, length, slice_index, IfOk, I
 ghost use Rattle.paris_model.specs.Instructions.{reads, refusal};
 ghost use Rattle.paris_field.specs.Fields.{FieldNumbers, AllFit};
 ghost use Rattle.paris_exec.specs.Tasks.{fields_of, fits, left_values, numbers_of, seen_at, task_outcome};
-ghost use Rattle.paris_exec.specs.Frames.{GivesInAnyWorld};
+ghost use Rattle.paris_exec.specs.Frames.{GivesInAnyWorld, RefusedInAnyWorld};
 ghost use Rattle.paris_exec.specs.Planes.{is_on_planes};
 ghost use Rattle.paris_exec.specs.Seen.{FitKeys, seen_by};
 
@@ -105,6 +105,7 @@ pub fn execute(alloc: Global, order: Order) -> Result<Done, (Order, AllocError)>
     ensures ok { IfOk result (λ done. done ≡ order) }
     ensures err { IfErr result (λ e. e.0 ≡ order) }
     ensures frame { GivesInAnyWorld order }
+    ensures refused { RefusedInAnyWorld order }
 {
     match outcome_by_kernels(alloc, &order) {
         Ok(outcome) => Ok(Done::new(order, outcome)),

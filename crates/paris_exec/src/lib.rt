@@ -3,9 +3,9 @@
 
 mod contexts;
 mod elementwise;
-pub mod execution;
-pub mod gate;
-pub mod orders;
+mod execution;
+mod gate;
+mod orders;
 mod planes;
 
 pub use execution::execute;

@@ -1,9 +1,9 @@
 //! The flags that an action sets and reads, as sets, and the steps of the context and test flags of all processors.
 #![tactic(auto)]
 
-pub mod access;
-pub mod sets;
-pub mod steps;
+mod access;
+mod sets;
+mod steps;
 
 pub use access::{read_flags, written_flags};
 pub use sets::{FlagNames, FlagSet};

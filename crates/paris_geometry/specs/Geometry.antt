@@ -3,6 +3,7 @@ use Rattle.std.specs.Prelude.{ℕ, ◌+◌, ◌-◌, ◌*◌, ◌/◌, ◌%◌, 
 use Rattle.std.specs.List.{range_with_len, list_any, list_all}
 use Rattle.paris_geometry.specs.declared.direction.Direction.{Direction}
 use Rattle.paris_geometry.specs.declared.direction.Direction.TheVariants.{Upward, Downward}
+use Rattle.paris_names.specs.declared.limits.TheConstants.{MAX_AXES, MAX_PROCESSORS}
 
 -- the numbers below n, in order
 abbrev pub numbers_below : ℕ → List ℕ
@@ -21,7 +22,7 @@ is_power_of_two n = list_any (λ k. n == 2 ^ k) (numbers_below 17)
 
 -- whether the lengths make a geometry: 1 to 4 axes, each a power of two, and at most 65,536 processors
 abbrev pub is_geometry : List ℕ → Bool
-is_geometry axes = nat_lt 0 (length axes) && nat_le (length axes) 4 && list_all is_power_of_two axes && nat_le (processor_count axes) 65536
+is_geometry axes = nat_lt 0 (length axes) && nat_le (length axes) MAX_AXES && list_all is_power_of_two axes && nat_le (processor_count axes) MAX_PROCESSORS
 
 -- how far apart two neighbours along axis a are
 abbrev pub stride : List ℕ → ℕ → ℕ

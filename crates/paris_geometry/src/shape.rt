@@ -4,26 +4,23 @@ ghost use Rattle.std.specs.Prelude.{◌≡◌, ◌<◌, ◌≤◌, length, slice
 ghost use Rattle.std.specs.List.{list_all};
 ghost use Rattle.paris_names.specs.declared.faults.Fault.TheVariants.{BadAxes};
 ghost use Rattle.paris_geometry.specs.Geometry.{is_geometry, is_power_of_two, processor_count, product, stride, axis_length, coordinate, at_coordinate, neighbour_coordinate, neighbour, address, AreCoordinates};
+ghost use Rattle.paris_names.specs.declared.limits.TheConstants.{MAX_AXES, MAX_PROCESSORS};
 
 use crate::direction::Direction;
 use paris_names::Fault;
+use paris_names::limits::{MAX_AXES, MAX_PROCESSORS};
 use std::marker::Model;
-
-/// The most axes of a geometry.
-const MAX_AXES: usize = 4;
-
-/// The most processors of a set.
-const MAX_PROCESSORS: u128 = 65_536;
 
 /// The lengths of the axes of a set of virtual processors, axis 0 first: 1 to 4 powers of two, whose product, the number
 /// of processors, is at most 65,536. A clause sees the list of the lengths.
 #[derive(Clone, Copy, PartialEq, Eq, Debug)]
 pub struct Geometry {
-    lengths: [u64; 4],
+    lengths: [u64; MAX_AXES],
     count: usize,
 }
 
 impl Model for Geometry {
+    ghost use Rattle.paris_names.specs.declared.limits.TheConstants.{MAX_AXES};
     ghost use Rattle.std.specs.Prelude.{◌≡◌, ℕ, ◌≤◌, List, length, take, true};
     ghost use Rattle.paris_geometry.specs.Geometry.{is_geometry};
     ghost use Rattle.paris_geometry.specs.Buffer.{padded};
@@ -32,7 +29,7 @@ impl Model for Geometry {
 
     ghost view = { λ g. take g.count g.lengths };
 
-    ghost invariant = { λ g. (g.count ≤ 4) × (g.lengths ≡ padded (take g.count g.lengths)) × (is_geometry (take g.count g.lengths) ≡ true) };
+    ghost invariant = { λ g. (g.count ≤ MAX_AXES) × (g.lengths ≡ padded (take g.count g.lengths)) × (is_geometry (take g.count g.lengths) ≡ true) };
 
     ghost inverse = { λ axes. record { lengths = padded axes; count = length axes } };
 
@@ -43,12 +40,12 @@ impl Model for Geometry {
 
 fn is_geometry(lengths: &[u64]) -> bool
     ensures value { result ≡ is_geometry lengths.now }
-    ensures few { result ≡ true → length lengths.now ≤ 4 }
+    ensures few { result ≡ true → length lengths.now ≤ MAX_AXES }
 {
     if lengths.is_empty() || lengths.len() > MAX_AXES || !are_powers_of_two(lengths) {
         return false;
     }
-    processor_count(lengths) <= MAX_PROCESSORS
+    processor_count(lengths) <= u128::from(MAX_PROCESSORS)
 }
 
 fn are_powers_of_two(lengths: &[u64]) -> bool
@@ -84,7 +81,7 @@ fn is_power_of_two(length: u64) -> bool
 
 /// The product of at most four powers of two.
 fn processor_count(lengths: &[u64]) -> u128
-    requires few { length lengths.now ≤ 4 }
+    requires few { length lengths.now ≤ MAX_AXES }
     requires powers { list_all is_power_of_two lengths.now ≡ true }
     ensures { result ≡ processor_count lengths.now }
 {
@@ -105,7 +102,7 @@ impl Geometry {
         if !is_geometry(lengths) {
             return Err(Fault::BadAxes);
         }
-        let mut buffer = [0u64; 4];
+        let mut buffer = [0u64; MAX_AXES];
         buffer[..lengths.len()].copy_from_slice(lengths);
         Ok(Geometry {
             lengths: buffer,
@@ -124,7 +121,7 @@ impl Geometry {
     /// How many axes there are, from 1 to 4.
     pub fn axes(self) -> usize
         ensures value { result ≡ length self }
-        ensures few { result ≤ 4 }
+        ensures few { result ≤ MAX_AXES }
         ensures sound { is_geometry self ≡ true }
     {
         self.count
@@ -133,7 +130,7 @@ impl Geometry {
     /// How many virtual processors there are, from 1 to 65,536.
     pub fn vps(self) -> usize
         ensures value { result ≡ processor_count self }
-        ensures few { result ≤ 65536 }
+        ensures few { result ≤ MAX_PROCESSORS }
         ensures sound { is_geometry self ≡ true }
     {
         processor_count(&self.lengths[..self.count]) as usize
@@ -210,7 +207,7 @@ impl Geometry {
 /// The next coordinate in a direction on an axis of this length.
 fn next_coordinate(direction: Direction, length: u64, own: u64) -> u64
     requires small { own < length }
-    requires short { length ≤ 65536 }
+    requires short { length ≤ MAX_PROCESSORS }
     ensures value { result ≡ neighbour_coordinate direction length own }
     ensures small { result < length }
 {

@@ -21,6 +21,7 @@ use Rattle.paris_model.specs.declared.actions.Action.{Action}
 use Rattle.paris_model.specs.declared.actions.Action.TheVariants.{OnSelected, OnAll, ByNews, AlongLine, ByMail}
 use Rattle.paris_model.specs.Instructions.{Plan, operands, reads, writes, key_width}
 use Rattle.paris_model.specs.Fits.{has_bad_axis, has_bad_length, has_bad_operand, has_overlap}
+use Rattle.paris_names.specs.declared.limits.TheConstants.{MAX_WIDTH}
 
 -- a declared field as an operand
 abbrev pub operand_of : Board → ℕ → Operand
@@ -179,7 +180,7 @@ fault_in (Err fault) = Some fault
 
 -- an operand is a declared field, with its width, which is 1 to 64 bits
 abbrev pub IsOperandOf : Board → Operand → Type 0
-IsOperandOf b o = (is_declared b (Field o.field) ≡ true) × (o ≡ operand_of b o.field) × (0 < o.width) × (o.width ≤ 64)
+IsOperandOf b o = (is_declared b (Field o.field) ≡ true) × (o ≡ operand_of b o.field) × (0 < o.width) × (o.width ≤ MAX_WIDTH)
 
 -- so are all of a list
 abbrev pub AreOperandsOf : Board → List Operand → Type 0

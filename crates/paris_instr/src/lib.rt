@@ -5,9 +5,8 @@ mod fits;
 mod key_lists;
 mod naming;
 mod operands;
-pub mod plans;
-pub mod resolving;
+mod plans;
+mod resolving;
 
-pub use paris_model::Instr;
 pub use plans::Plan;
 pub use resolving::resolve;

@@ -121,8 +121,6 @@ pub fn resolve(alloc: Global, board: &Board, instr: Instr) -> Result<Plan, Fault
     if has_overlap(&action) {
         return Err(Fault::Overlap);
     }
-    let Ok(plan) = Plan::new(alloc, instr, set, geometry, action) else {
-        return Err(Fault::NoMemory);
-    };
+    let plan = Plan::new(alloc, instr, set, geometry, action)?;
     Ok(plan)
 }

@@ -14,6 +14,7 @@ use Rattle.paris_model.specs.declared.actions.Mail.{Mail}
 use Rattle.paris_model.specs.declared.actions.Action.{Action}
 use Rattle.paris_model.specs.declared.actions.Action.TheVariants.{OnSelected, OnAll, ByNews, AlongLine, ByMail}
 use Rattle.paris_model.specs.Instructions.{operands}
+use Rattle.paris_names.specs.declared.limits.TheConstants.{MAX_WIDTH}
 
 -- there is no axis of this number
 abbrev pub is_bad_axis : List ℕ → ℕ → Bool
@@ -143,7 +144,7 @@ has_overlap _ = false
 
 -- each operand is as wide as a field may be, 1 to 64 bits
 abbrev pub have_field_widths : Action Operand ℕ → Bool
-have_field_widths i = list_all (λ (o : Operand). nat_lt 0 o.width && nat_le o.width 64) (operands i)
+have_field_widths i = list_all (λ (o : Operand). nat_lt 0 o.width && nat_le o.width MAX_WIDTH) (operands i)
 
 -- what holds of the action of each plan
 pub record IsFit (axes : List ℕ) (i : Action Operand ℕ) : Type 0 where

@@ -1,5 +1,5 @@
 -- The number of each fault.
-use Rattle.std.specs.Prelude.{◌≡◌, ℕ, Option, Some, None}
+use Rattle.std.specs.Prelude.{◌≡◌, ℕ, Bool, true, false, Option, Some, None}
 use Rattle.paris_names.specs.declared.faults.Fault.{Fault}
 use Rattle.paris_names.specs.declared.faults.Fault.TheVariants.{SetsFull, BadAxes, NameTaken, NoSet, FieldsFull, BadWidth, NoField, WrongCount, TooWide, NoRow, RowsFull, BadLength, WrongSet, BadAxis, BadOperand, Overlap, EditionsSpent, HistoryFull, NoMemory, Syntax, StrangeSeat, NoOrder, NoEntry}
 
@@ -27,6 +27,11 @@ number_of (Syntax a) = 20
 number_of (StrangeSeat a b) = 21
 number_of NoOrder = 22
 number_of NoEntry = 23
+
+-- whether a fault is want of memory
+abbrev pub is_no_memory : Fault → Bool
+is_no_memory NoMemory = true
+is_no_memory _ = false
 
 -- what a refusal answers: the fault that is due, or want of memory where none is
 abbrev pub IsFaultOf : Option Fault → Fault → Type 0

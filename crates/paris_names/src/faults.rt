@@ -1,8 +1,9 @@
 //! Why a call is refused.
 
 ghost use Rattle.std.specs.Prelude.{◌≡◌};
-ghost use Rattle.paris_names.specs.Faults.{number_of};
+ghost use Rattle.paris_names.specs.Faults.{number_of, is_no_memory};
 
+use std::alloc::AllocError;
 use thiserror::Error;
 
 /// Why a call is refused. Each fault has a number, by which scripts name it.
@@ -56,7 +57,24 @@ pub enum Fault {
     NoEntry,
 }
 
+impl From<AllocError> for Fault {
+    ghost use Rattle.paris_names.specs.declared.faults.Fault.TheVariants as FaultCase;
+
+    ghost from_gives = { λ error fault. fault ≡ FaultCase.NoMemory };
+
+    fn from(_error: AllocError) -> Fault {
+        Fault::NoMemory
+    }
+}
+
 impl Fault {
+    /// Whether this is want of memory.
+    pub fn is_no_memory(self) -> bool
+        ensures { result ≡ is_no_memory self }
+    {
+        self == Fault::NoMemory
+    }
+
     /// The number by which scripts name the fault, from 1 to 23.
     pub fn number(self) -> u64
         ensures { result ≡ number_of self }

@@ -1,7 +1,8 @@
-//! The numbers of sets, fields and rows, and the keys of a machine's state.
+//! The numbers of sets and fields, and the keys of a machine's state.
 
 ghost use Rattle.std.specs.Prelude.{◌≡◌, ◌<◌, ◌↔◌, IsTrue};
 ghost use Rattle.paris_names.specs.Keys.{flag_place, key_before, key_eq, key_slot, has_key};
+ghost use Rattle.paris_names.specs.declared.limits.TheConstants.{MAX_FIELDS, MAX_SETS};
 
 use crate::limits::{MAX_FIELDS, MAX_SETS};
 use std::marker::Model;
@@ -13,13 +14,14 @@ pub struct SetNo {
 }
 
 impl Model for SetNo {
+    ghost use Rattle.paris_names.specs.declared.limits.TheConstants.{MAX_SETS};
     ghost use Rattle.std.specs.Prelude.{ℕ, ◌<◌};
 
     ghost Value = { ℕ };
 
     ghost view = { λ s. s.number };
 
-    ghost invariant = { λ s. s.number < 8 };
+    ghost invariant = { λ s. s.number < MAX_SETS };
 
     ghost inverse = { λ n. record { number = n } };
 }
@@ -27,7 +29,7 @@ impl Model for SetNo {
 impl SetNo {
     /// The set at a place among the declared sets.
     pub fn new(number: u64) -> SetNo
-        requires { number < 8 }
+        requires { number < MAX_SETS }
         ensures { result ≡ number }
     {
         SetNo { number }
@@ -36,7 +38,7 @@ impl SetNo {
     /// The place among the declared sets.
     pub fn number(self) -> u64
         ensures value { result ≡ self }
-        ensures small { result < 8 }
+        ensures small { result < MAX_SETS }
     {
         self.number
     }
@@ -49,13 +51,14 @@ pub struct FieldNo {
 }
 
 impl Model for FieldNo {
+    ghost use Rattle.paris_names.specs.declared.limits.TheConstants.{MAX_FIELDS};
     ghost use Rattle.std.specs.Prelude.{ℕ, ◌<◌};
 
     ghost Value = { ℕ };
 
     ghost view = { λ f. f.number };
 
-    ghost invariant = { λ f. f.number < 64 };
+    ghost invariant = { λ f. f.number < MAX_FIELDS };
 
     ghost inverse = { λ n. record { number = n } };
 }
@@ -63,7 +66,7 @@ impl Model for FieldNo {
 impl FieldNo {
     /// The field at a place among the declared fields.
     pub fn new(number: u64) -> FieldNo
-        requires { number < 64 }
+        requires { number < MAX_FIELDS }
         ensures { result ≡ number }
     {
         FieldNo { number }
@@ -72,7 +75,7 @@ impl FieldNo {
     /// The place among the declared fields.
     pub fn number(self) -> u64
         ensures value { result ≡ self }
-        ensures small { result < 64 }
+        ensures small { result < MAX_FIELDS }
     {
         self.number
     }
@@ -151,23 +154,4 @@ pub fn has_key(keys: &[Key], key: Key) -> bool
     ensures { result ≡ has_key keys.now key }
 {
     keys.iter().any(|k| key.is_same(*k))
-}
-
-/// The id of a row of the program. Ids rise from 1, and none is used again.
-#[derive(Clone, Copy, PartialEq, Eq, PartialOrd, Ord, Hash, Debug)]
-pub struct RowId(pub u64);
-
-/// The edition of a row: the edit counter just after the edit that last made the row unsettled.
-#[derive(Clone, Copy, PartialEq, Eq, PartialOrd, Ord, Hash, Debug)]
-pub struct Edition(pub u64);
-
-/// A place in the program.
-#[derive(Clone, Copy, PartialEq, Eq, Debug)]
-pub enum Spot {
-    /// Before the first row.
-    Start,
-    /// Just after the row with this id.
-    After(RowId),
-    /// After the last row.
-    End,
 }

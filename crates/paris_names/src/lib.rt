@@ -1,13 +1,15 @@
 //! What things are called: names, keys, rows and editions, the faults with their numbers, and the limits.
 #![tactic(auto)]
 
-pub mod faults;
-pub mod items;
-pub mod keys;
+mod faults;
+mod ids;
+mod items;
+mod keys;
 pub mod limits;
-pub mod names;
+mod names;
 
 pub use faults::Fault;
+pub use ids::{Edition, RowId, Spot};
 pub use items::Items;
-pub use keys::{Edition, FieldNo, FlagName, Key, RowId, SetNo, Spot};
+pub use keys::{FieldNo, FlagName, Key, SetNo, has_key};
 pub use names::{KeyName, Name};

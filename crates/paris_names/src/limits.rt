@@ -1,4 +1,10 @@
-//! The limits of sets, fields, programs, names and scripts.
+//! The limits of sets, fields, programs, names, scripts and workers. Definitions and contracts cite them by their names.
+
+/// The most axes of a set.
+pub const MAX_AXES: usize = 4;
+
+/// The most virtual processors of a set.
+pub const MAX_PROCESSORS: u32 = 65_536;
 
 /// The most sets that a board declares.
 pub const MAX_SETS: usize = 8;
@@ -23,3 +29,6 @@ pub const MAX_LINE: usize = 65_536;
 
 /// The most read calls of one run of a script.
 pub const MAX_READS: u64 = 1_073_741_824;
+
+/// The most workers that execute orders side by side.
+pub const MAX_WORKERS: usize = 16;

@@ -5,6 +5,7 @@ ghost use Rattle.std.specs.Option.{SomeIff};
 ghost use Rattle.std.specs.List.{list_all};
 ghost use Rattle.std.specs.Str.{bytes_eq};
 ghost use Rattle.paris_names.specs.Names.{is_name, is_letter, is_name_byte};
+ghost use Rattle.paris_names.specs.declared.limits.TheConstants.{MAX_NAME};
 
 use crate::keys::FlagName;
 use crate::limits::MAX_NAME;
@@ -14,11 +15,12 @@ use std::marker::Model;
 /// A clause sees its bytes.
 #[derive(Clone, Copy, PartialEq, Eq, Hash, Debug)]
 pub struct Name {
-    buffer: [u8; 16],
+    buffer: [u8; MAX_NAME],
     len: usize,
 }
 
 impl Model for Name {
+    ghost use Rattle.paris_names.specs.declared.limits.TheConstants.{MAX_NAME};
     ghost use Rattle.std.specs.Prelude.{◌≡◌, ℕ, ◌≤◌, List, length, take, true};
     ghost use Rattle.paris_names.specs.Names.{is_name, padded};
 
@@ -26,7 +28,7 @@ impl Model for Name {
 
     ghost view = { λ n. take n.len n.buffer };
 
-    ghost invariant = { λ n. (n.len ≤ 16) × (n.buffer ≡ padded (take n.len n.buffer)) × (is_name (take n.len n.buffer) ≡ true) };
+    ghost invariant = { λ n. (n.len ≤ MAX_NAME) × (n.buffer ≡ padded (take n.len n.buffer)) × (is_name (take n.len n.buffer) ≡ true) };
 
     ghost inverse = { λ bs. record { buffer = padded bs; len = length bs } };
 
@@ -38,7 +40,7 @@ impl Model for Name {
 #[tactic(auto, unfolding(crate::specs::Names::is_name))]
 fn is_name(bytes: &[u8]) -> bool
     ensures value { result ≡ is_name bytes.now }
-    ensures fits { result ≡ true → length bytes.now ≤ 16 }
+    ensures fits { result ≡ true → length bytes.now ≤ MAX_NAME }
 {
     if bytes.is_empty() {
         return false;

@@ -9,6 +9,7 @@ ghost use Rattle.paris_model.specs.Frame.{field_at, low_at, flag_at, put_selecte
 ghost use Rattle.paris_model.specs.Conditional.{conditional_field, conditional_flag, conditional_after};
 ghost use Rattle.paris_model.specs.Fits.{IsFit, is_bad_axis};
 ghost use Rattle.paris_plain.specs.Plain.{frame_of_seen};
+ghost use Rattle.paris_names.specs.declared.limits.TheConstants.{MAX_WIDTH};
 
 use crate::bits::bit;
 use crate::elementwise::{
@@ -32,7 +33,7 @@ fn binary_stored(
     length: u64,
 ) -> Result<Vec<u128>, AllocError>
     requires some { 0 < length }
-    requires short { length ≤ 64 }
+    requires short { length ≤ MAX_WIDTH }
     ensures { IfOk result (λ numbers. numbers.items ≡ put_selected (frame_of_seen inputs.now) key.now length
         (λ v. binary_result operator length (low_at (frame_of_seen inputs.now) left length v) (low_at (frame_of_seen inputs.now) right length v) (flag_at (frame_of_seen inputs.now) Carry v) (field_at (frame_of_seen inputs.now) to v))) }
 {
@@ -57,7 +58,7 @@ fn carry_stored(
     right: Operand,
     length: u64,
 ) -> Result<Vec<u128>, AllocError>
-    requires { length ≤ 64 }
+    requires { length ≤ MAX_WIDTH }
     ensures { IfOk result (λ numbers. numbers.items ≡ put_selected (frame_of_seen inputs.now) key.now 1
         (λ v. bit (binary_carry operator length (low_at (frame_of_seen inputs.now) left length v) (low_at (frame_of_seen inputs.now) right length v) (flag_at (frame_of_seen inputs.now) Carry v)))) }
 {
@@ -83,7 +84,7 @@ fn overflow_stored(
     length: u64,
 ) -> Result<Vec<u128>, AllocError>
     requires some { 0 < length }
-    requires short { length ≤ 64 }
+    requires short { length ≤ MAX_WIDTH }
     ensures { IfOk result (λ numbers. numbers.items ≡ put_selected (frame_of_seen inputs.now) key.now 1
         (λ v. bit (binary_overflow operator length (low_at (frame_of_seen inputs.now) left length v) (low_at (frame_of_seen inputs.now) right length v) (flag_at (frame_of_seen inputs.now) Carry v)))) }
 {
@@ -107,7 +108,7 @@ fn unary_stored(
     from: Operand,
     length: u64,
 ) -> Result<Vec<u128>, AllocError>
-    requires { length ≤ 64 }
+    requires { length ≤ MAX_WIDTH }
     ensures { IfOk result (λ numbers. numbers.items ≡ put_selected (frame_of_seen inputs.now) key.now length (λ v. unary_result operator length (low_at (frame_of_seen inputs.now) from length v))) }
 {
     (0..inputs.vps())
@@ -128,7 +129,7 @@ fn unary_overflow_stored(
     length: u64,
 ) -> Result<Vec<u128>, AllocError>
     requires some { 0 < length }
-    requires short { length ≤ 64 }
+    requires short { length ≤ MAX_WIDTH }
     ensures { IfOk result (λ numbers. numbers.items ≡ put_selected (frame_of_seen inputs.now) key.now 1 (λ v. bit (unary_overflow operator length (low_at (frame_of_seen inputs.now) from length v)))) }
 {
     (0..inputs.vps())
@@ -147,7 +148,7 @@ fn constant_stored(
     number: u128,
     length: u64,
 ) -> Result<Vec<u128>, AllocError>
-    requires { length ≤ 64 }
+    requires { length ≤ MAX_WIDTH }
     ensures { IfOk result (λ numbers. numbers.items ≡ put_selected (frame_of_seen inputs.now) key.now length (λ v. number)) }
 {
     (0..inputs.vps())
@@ -193,9 +194,9 @@ fn resized_stored(
     length: u64,
     from_length: u64,
 ) -> Result<Vec<u128>, AllocError>
-    requires short { length ≤ 64 }
+    requires short { length ≤ MAX_WIDTH }
     requires from_some { 0 < from_length }
-    requires from_short { from_length ≤ 64 }
+    requires from_short { from_length ≤ MAX_WIDTH }
     ensures { IfOk result (λ numbers. numbers.items ≡ put_selected (frame_of_seen inputs.now) key.now length (λ v. resize_result sign length from_length (low_at (frame_of_seen inputs.now) from from_length v))) }
 {
     (0..inputs.vps())
@@ -217,9 +218,9 @@ fn resize_overflow_stored(
     from_length: u64,
 ) -> Result<Vec<u128>, AllocError>
     requires some { 0 < length }
-    requires short { length ≤ 64 }
+    requires short { length ≤ MAX_WIDTH }
     requires from_some { 0 < from_length }
-    requires from_short { from_length ≤ 64 }
+    requires from_short { from_length ≤ MAX_WIDTH }
     ensures { IfOk result (λ numbers. numbers.items ≡ put_selected (frame_of_seen inputs.now) key.now 1 (λ v. bit (resize_overflow sign length from_length (low_at (frame_of_seen inputs.now) from from_length v)))) }
 {
     (0..inputs.vps())
@@ -242,7 +243,7 @@ fn comparison_stored(
     length: u64,
 ) -> Result<Vec<u128>, AllocError>
     requires some { 0 < length }
-    requires short { length ≤ 64 }
+    requires short { length ≤ MAX_WIDTH }
     ensures { IfOk result (λ numbers. numbers.items ≡ put_selected (frame_of_seen inputs.now) key.now 1
         (λ v. bit (compares comparison length (low_at (frame_of_seen inputs.now) left length v) (low_at (frame_of_seen inputs.now) right length v)))) }
 {
@@ -265,7 +266,7 @@ fn coordinate_stored(
     length: u64,
 ) -> Result<Vec<u128>, AllocError>
     requires there { is_bad_axis inputs.now.axes axis ≡ false }
-    requires short { length ≤ 64 }
+    requires short { length ≤ MAX_WIDTH }
     ensures { IfOk result (λ numbers. numbers.items ≡ put_selected (frame_of_seen inputs.now) key.now length (coordinate inputs.now.axes axis)) }
 {
     let geometry = inputs.geometry();
@@ -284,7 +285,7 @@ fn address_stored(
     key: &Key,
     length: u64,
 ) -> Result<Vec<u128>, AllocError>
-    requires { length ≤ 64 }
+    requires { length ≤ MAX_WIDTH }
     ensures { IfOk result (λ numbers. numbers.items ≡ put_selected (frame_of_seen inputs.now) key.now length (λ v. v)) }
 {
     (0..inputs.vps())

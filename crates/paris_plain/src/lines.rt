@@ -7,6 +7,7 @@ ghost use Rattle.paris_model.specs.Frame.{is_selected, low_at, put_where};
 ghost use Rattle.paris_model.specs.Store.{bit};
 ghost use Rattle.paris_model.specs.Lines.{begins_segment, combined_values, from_last, is_inclusive, line_after, line_length, line_result, line_values, result_of, scan_values, stores_on_line, sum_overflows, values_where};
 ghost use Rattle.paris_plain.specs.Plain.{frame_of_seen};
+ghost use Rattle.paris_names.specs.declared.limits.TheConstants.{MAX_WIDTH};
 
 use crate::bits::bit;
 use crate::combine::{combined, sum_overflows, unit};
@@ -59,7 +60,7 @@ fn path_values(
     length: u64,
     v: u32,
 ) -> Result<Vec<u128>, AllocError>
-    requires { length ≤ 64 }
+    requires { length ≤ MAX_WIDTH }
     ensures { IfOk result (λ values. values.items ≡ values_where (λ u. is_selected (frame_of_seen inputs.now) u && (is_inclusive inclusion || not (u == v))) (low_at (frame_of_seen inputs.now) from length) path.now) }
 {
     path.iter()
@@ -81,7 +82,7 @@ fn scan_values(
     v: u32,
 ) -> Result<Vec<u128>, AllocError>
     requires there { is_bad_axis inputs.now.axes axis ≡ false }
-    requires short { length ≤ 64 }
+    requires short { length ≤ MAX_WIDTH }
     requires processor { v < processor_count inputs.now.axes }
     ensures { IfOk result (λ values. values.items ≡ scan_values inputs.now.axes axis direction inclusion (begins_segment (frame_of_seen inputs.now) segments.now) (is_selected (frame_of_seen inputs.now)) (low_at (frame_of_seen inputs.now) from length) v) }
 {
@@ -100,7 +101,7 @@ fn line_values(
     v: u32,
 ) -> Result<Vec<u128>, AllocError>
     requires there { is_bad_axis inputs.now.axes axis ≡ false }
-    requires short { length ≤ 64 }
+    requires short { length ≤ MAX_WIDTH }
     requires processor { v < processor_count inputs.now.axes }
     ensures { IfOk result (λ values. values.items ≡ line_values inputs.now.axes axis (is_selected (frame_of_seen inputs.now)) (low_at (frame_of_seen inputs.now) from length) v) }
 {
@@ -123,7 +124,7 @@ fn one_value(
 ) -> Result<Vec<u128>, AllocError>
     requires there { is_bad_axis inputs.now.axes axis ≡ false }
     requires within { nat_le (axis_length inputs.now.axes axis) coordinate ≡ false }
-    requires short { length ≤ 64 }
+    requires short { length ≤ MAX_WIDTH }
     requires processor { v < processor_count inputs.now.axes }
     ensures { IfOk result (λ values. values.items ≡ low_at (frame_of_seen inputs.now) from length (at_coordinate inputs.now.axes axis v coordinate) ∷ []) }
 {
@@ -196,7 +197,7 @@ fn combined_values(
 
 /// What values combine to; a copy is the first of them.
 fn result_of(i: &Line<Operand>, values: &[u128]) -> u128
-    requires short { line_length i.now ≤ 64 }
+    requires short { line_length i.now ≤ MAX_WIDTH }
     requires fit { All (λ x. x < 2 ^ line_length i.now) values.now }
     ensures { result ≡ result_of i.now values.now }
 {

@@ -7,6 +7,7 @@ ghost use Rattle.paris_model.specs.Fits.{IsFit};
 ghost use Rattle.paris_model.specs.Frame.{field_at, is_selected, low_at, put_selected, put_where};
 ghost use Rattle.paris_model.specs.Mail.{arrivals, bad_sender_in, collision_at, delivered, first_cause, gets_mail, mail_after, mail_of, mail_refusal, notified};
 ghost use Rattle.paris_plain.specs.Plain.{frame_of_seen};
+ghost use Rattle.paris_names.specs.declared.limits.TheConstants.{MAX_PROCESSORS, MAX_WIDTH};
 
 use crate::bits::bit;
 use crate::combine::combine;
@@ -23,7 +24,7 @@ fn messages(
     from: Operand,
     length: u64,
 ) -> Result<Vec<(u128, u128)>, AllocError>
-    requires { length ≤ 64 }
+    requires { length ≤ MAX_WIDTH }
     ensures { IfOk result (λ mail. mail.items ≡ mail_of (frame_of_seen inputs.now) addresses from length) }
 {
     (0..inputs.vps())
@@ -63,7 +64,7 @@ fn combined_arrivals(
     mail: &[(u128, u128)],
     r: usize,
 ) -> u128
-    requires short { length ≤ 64 }
+    requires short { length ≤ MAX_WIDTH }
     requires own_fits { own < 2 ^ length }
     requires mail_fits { All (λ message. message.1 < 2 ^ length) mail.now }
     ensures { result ≡ combined combiner length own (arrivals mail.now r) }
@@ -80,7 +81,7 @@ fn combined_arrivals(
 /// The least selected processor that holds an address outside the set.
 fn bad_sender(inputs: &Inputs, addresses: Operand) -> Option<usize>
     ensures value { result ≡ bad_sender_in (frame_of_seen inputs.now) addresses }
-    ensures small { IfSome result (λ v. v ≤ 65536) }
+    ensures small { IfSome result (λ v. v ≤ MAX_PROCESSORS) }
 {
     let count = inputs.vps();
     (0..count).find(|v| inputs.is_selected(*v) && inputs.field_at(addresses, *v) >= count as u128)
@@ -105,8 +106,8 @@ fn notified(alloc: Global, count: usize, mail: &[(u128, u128)]) -> Result<Vec<u1
 
 /// The cause of a refusal: a bad address comes before a collision.
 fn first_cause(bad_sender: Option<usize>, collision: Option<usize>) -> Option<Refusal>
-    requires sender_small { IfSome bad_sender (λ v. v ≤ 65536) }
-    requires collision_small { IfSome collision (λ r. r ≤ 65536) }
+    requires sender_small { IfSome bad_sender (λ v. v ≤ MAX_PROCESSORS) }
+    requires collision_small { IfSome collision (λ r. r ≤ MAX_PROCESSORS) }
     ensures { result ≡ first_cause bad_sender collision }
 {
     match bad_sender {
@@ -155,7 +156,7 @@ fn got(
     from: Operand,
     length: u64,
 ) -> Result<Vec<u128>, AllocError>
-    requires { length ≤ 64 }
+    requires { length ≤ MAX_WIDTH }
     ensures { IfOk result (λ numbers. numbers.items ≡ put_selected (frame_of_seen inputs.now) key.now length (λ v. low_at (frame_of_seen inputs.now) from length (field_at (frame_of_seen inputs.now) addresses v))) }
 {
     (0..inputs.vps())
@@ -174,7 +175,7 @@ fn first_stored(
     mail: &[(u128, u128)],
     length: u64,
 ) -> Result<Vec<u128>, AllocError>
-    requires { length ≤ 64 }
+    requires { length ≤ MAX_WIDTH }
     ensures { IfOk result (λ numbers. numbers.items ≡ put_where (frame_of_seen inputs.now) (gets_mail mail.now) key.now length (λ r. slice_index (arrivals mail.now r) 0)) }
 {
     (0..inputs.vps())
@@ -195,7 +196,7 @@ fn combined_stored(
     to: Operand,
     length: u64,
 ) -> Result<Vec<u128>, AllocError>
-    requires short { length ≤ 64 }
+    requires short { length ≤ MAX_WIDTH }
     requires mail_fits { All (λ message. message.1 < 2 ^ length) mail.now }
     ensures { IfOk result (λ numbers. numbers.items ≡ put_where (frame_of_seen inputs.now) (gets_mail mail.now) key.now length (λ r. combined combiner length (low_at (frame_of_seen inputs.now) to length r) (arrivals mail.now r))) }
 {
@@ -218,7 +219,7 @@ fn send_after(
     to: Operand,
     length: u64,
 ) -> Result<Vec<u128>, AllocError>
-    requires { length ≤ 64 }
+    requires { length ≤ MAX_WIDTH }
     ensures { IfOk result (λ numbers. numbers.items ≡ delivered (frame_of_seen inputs.now) mail.now to length (λ r. slice_index (arrivals mail.now r) 0) field) }
 {
     if field.number() == to.field.number() {
@@ -238,7 +239,7 @@ fn combining_send_after(
     to: Operand,
     length: u64,
 ) -> Result<Vec<u128>, AllocError>
-    requires short { length ≤ 64 }
+    requires short { length ≤ MAX_WIDTH }
     requires mail_fits { All (λ message. message.1 < 2 ^ length) mail.now }
     ensures { IfOk result (λ numbers. numbers.items ≡ delivered (frame_of_seen inputs.now) mail.now to length (λ r. combined combiner length (low_at (frame_of_seen inputs.now) to length r) (arrivals mail.now r)) field) }
 {

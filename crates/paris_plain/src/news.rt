@@ -6,6 +6,7 @@ ghost use Rattle.paris_model.specs.Fits.{IsFit, is_bad_axis};
 ghost use Rattle.paris_model.specs.Frame.{is_selected, low_at, put_selected, put_where};
 ghost use Rattle.paris_model.specs.News.{news_after, news_sender};
 ghost use Rattle.paris_plain.specs.Plain.{frame_of_seen};
+ghost use Rattle.paris_names.specs.declared.limits.TheConstants.{MAX_WIDTH};
 
 use crate::coordinates::opposite;
 use crate::inputs::Inputs;
@@ -25,7 +26,7 @@ fn got(
     length: u64,
 ) -> Result<Vec<u128>, AllocError>
     requires there { is_bad_axis inputs.now.axes axis ≡ false }
-    requires short { length ≤ 64 }
+    requires short { length ≤ MAX_WIDTH }
     ensures { IfOk result (λ numbers. numbers.items ≡ put_selected (frame_of_seen inputs.now) key.now length (λ v. low_at (frame_of_seen inputs.now) from length (neighbour inputs.now.axes axis direction v))) }
 {
     let geometry = inputs.geometry();
@@ -48,7 +49,7 @@ fn sent(
     length: u64,
 ) -> Result<Vec<u128>, AllocError>
     requires there { is_bad_axis inputs.now.axes axis ≡ false }
-    requires short { length ≤ 64 }
+    requires short { length ≤ MAX_WIDTH }
     ensures { IfOk result (λ numbers. numbers.items ≡ put_where (frame_of_seen inputs.now) (λ r. is_selected (frame_of_seen inputs.now) (news_sender inputs.now.axes axis direction r)) key.now length
         (λ r. low_at (frame_of_seen inputs.now) from length (news_sender inputs.now.axes axis direction r))) }
 {

@@ -4,6 +4,7 @@ ghost use Rattle.std.specs.Prelude.{◌≡◌, ◌≤◌, IfOk};
 ghost use Rattle.paris_model.specs.Fits.{IsFit};
 ghost use Rattle.paris_model.specs.Unconditional.{unconditional_length, unconditional_value, unconditional_after};
 ghost use Rattle.paris_plain.specs.Plain.{frame_of_seen};
+ghost use Rattle.paris_names.specs.declared.limits.TheConstants.{MAX_WIDTH};
 
 use crate::inputs::Inputs;
 use paris_model::{Action, Operand, Unconditional};
@@ -14,7 +15,7 @@ use std::alloc::{AllocError, Global};
 fn stored_length(inputs: &Inputs, i: &Unconditional<Operand, SetNo>) -> u64
     requires { IsFit inputs.now.axes (Action.OnAll i.now) }
     ensures value { result ≡ unconditional_length i.now }
-    ensures short { result ≤ 64 }
+    ensures short { result ≤ MAX_WIDTH }
 {
     match *i {
         Unconditional::MoveAlways { length, .. } => length,

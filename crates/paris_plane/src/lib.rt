@@ -1,8 +1,8 @@
 //! Planes: one bit for each virtual processor, kept in words of 64 and worked on by lanes of four words.
 #![tactic(auto)]
 
-pub mod kernel;
+mod kernel;
 mod plane;
 
-pub use kernel::{TripleOp, WordOp};
+pub use kernel::{And, Borrow, Or, Select, TripleOp, WordOp, Xor};
 pub use plane::{Plane, add_step, subtract_step};

@@ -8,7 +8,7 @@ use crate::cases::{Sample, everywhere, plane, put_bits};
 use paris_field::FieldValue;
 use paris_model::{Action, BinaryOperator, Operand, UnaryOperator};
 use paris_names::{FlagName, SetNo};
-use paris_plane::kernel::{And, Or, Select, Xor};
+use paris_plane::{And, Or, Select, Xor};
 use paris_plane::{Plane, add_step, subtract_step};
 use std::alloc::{AllocError, Global};
 use std::process::Abort;

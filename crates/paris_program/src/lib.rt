@@ -1,6 +1,6 @@
 //! The program: rows in order, each under an id of its own.
 #![tactic(auto)]
 
-pub mod rows;
+mod rows;
 
 pub use rows::Program;

@@ -4,8 +4,8 @@ use Rattle.std.specs.Fmt.{decimal}
 use Rattle.paris_names.specs.declared.faults.Fault.{Fault}
 use Rattle.paris_names.specs.declared.faults.Fault.TheVariants.{TooWide, Syntax}
 use Rattle.paris_names.specs.Faults.{number_of}
-use Rattle.paris_names.specs.declared.keys.RowId.{RowId}
-use Rattle.paris_names.specs.declared.keys.Edition.{Edition}
+use Rattle.paris_names.specs.declared.ids.RowId.{RowId}
+use Rattle.paris_names.specs.declared.ids.Edition.{Edition}
 use Rattle.paris_model.specs.declared.actions.Refusal.{Refusal}
 use Rattle.paris_model.specs.declared.actions.Refusal.TheVariants.{Collision, BadAddress}
 use Rattle.paris_events.specs.declared.edits.EditReply.{EditReply}

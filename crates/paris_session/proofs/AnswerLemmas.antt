@@ -6,17 +6,23 @@ use Rattle.paris_text.specs.declared.commands.Command.{Command}
 use Rattle.paris_text.specs.declared.commands.Command.TheVariants as command
 use Rattle.paris_names.specs.declared.faults.Fault.{Fault}
 use Rattle.paris_names.specs.declared.faults.Fault.TheVariants.{NoMemory, NoOrder, Syntax}
-use Rattle.paris_names.specs.declared.keys.Spot.{Spot}
+use Rattle.paris_names.specs.declared.ids.Spot.{Spot}
 use Rattle.paris_names.specs.declared.names.KeyName.{KeyName}
 use Rattle.paris_names.specs.Faults.{IsFaultOf}
 use Rattle.paris_exec.specs.Tasks.{Task}
-use Rattle.paris_book.specs.Machine.{State, edit_fault, edit_answer, accepted, take_reply, after_take, verdict_of, after_bring, after_release, show_reply, list_of, faults_of, all_settled, unsettled_rows}
+use Rattle.paris_machine.specs.State.{State}
+use Rattle.paris_machine.specs.Show.{show_reply}
+use Rattle.paris_machine.specs.Orders.{take_reply, after_take, after_release}
+use Rattle.paris_machine.specs.Results.{verdict_of, after_bring}
+use Rattle.paris_machine.specs.Edits.{edit_fault, edit_answer, accepted}
+use Rattle.paris_machine.specs.Settling.{all_settled, unsettled_rows}
+use Rattle.paris_machine.specs.Lists.{list_of, faults_of}
 use Rattle.paris_events.specs.declared.edits.Edit.{Edit}
 use Rattle.paris_events.specs.declared.edits.EditReply.{EditReply}
 use Rattle.paris_events.specs.declared.rows.RowLook.{RowLook}
 use Rattle.paris_events.specs.declared.rows.RowFault.{RowFault}
 use Rattle.paris_events.specs.declared.verdicts.Verdict.{Verdict}
-use Rattle.paris_book.specs.declared.events.Shown.{Shown}
+use Rattle.paris_machine.specs.declared.events.Shown.{Shown}
 use Rattle.paris_replies.specs.Replies.{ok_text, edit_text, order_text, nothing_text, verdict_text, list_text, faults_text, settled_text}
 use Rattle.paris_session.specs.Transcript.{Sitting, moved, refused, edited, edited_by, taken, taken_by, brought, brought_by, released, listed, faulted, settled, shown_text, shown, shown_by, order_at, commanded_by, longest_line, answer}
 

@@ -3,18 +3,25 @@ use Rattle.std.specs.Prelude.{ℕ, ◌+◌, ◌-◌, ◌==◌, nat_eq, List, [],
 use Rattle.std.specs.List.{slice_split}
 use Rattle.paris_names.specs.declared.faults.Fault.{Fault}
 use Rattle.paris_names.specs.declared.faults.Fault.TheVariants.{Syntax, NoOrder}
-use Rattle.paris_names.specs.declared.keys.Spot.{Spot}
+use Rattle.paris_names.specs.declared.ids.Spot.{Spot}
 use Rattle.paris_names.specs.declared.names.KeyName.{KeyName}
 use Rattle.paris_exec.specs.Tasks.{Task}
-use Rattle.paris_book.specs.Machine.{State, empty_state, edit_fault, edit_answer, accepted, take_reply, after_take, verdict_of, after_bring, after_release, show_reply, list_of, faults_of, all_settled, unsettled_rows}
+use Rattle.paris_machine.specs.State.{State, empty_state}
+use Rattle.paris_machine.specs.Show.{show_reply}
+use Rattle.paris_machine.specs.Orders.{take_reply, after_take, after_release}
+use Rattle.paris_machine.specs.Results.{verdict_of, after_bring}
+use Rattle.paris_machine.specs.Edits.{edit_fault, edit_answer, accepted}
+use Rattle.paris_machine.specs.Settling.{all_settled, unsettled_rows}
+use Rattle.paris_machine.specs.Lists.{list_of, faults_of}
 use Rattle.paris_events.specs.declared.edits.Edit.{Edit}
 use Rattle.paris_events.specs.declared.edits.Edit.TheVariants.{AddSet, AddField, Input, Insert, Delete, Replace}
-use Rattle.paris_book.specs.declared.events.Shown.{Shown}
-use Rattle.paris_book.specs.declared.events.Shown.TheVariants.{Settled, Pending}
+use Rattle.paris_machine.specs.declared.events.Shown.{Shown}
+use Rattle.paris_machine.specs.declared.events.Shown.TheVariants.{Settled, Pending}
 use Rattle.paris_text.specs.declared.commands.Command.{Command}
 use Rattle.paris_text.specs.declared.commands.Command.TheVariants as command
 use Rattle.paris_text.specs.CommandReading.{command_of}
 use Rattle.paris_replies.specs.Replies.{ok_text, edit_text, order_text, nothing_text, verdict_text, values_text, pending_text, list_text, faults_text, settled_text, refusal_text}
+use Rattle.paris_names.specs.declared.limits.TheConstants.{MAX_LINE}
 
 -- a session: the state of its book, the orders that it took, and how many commands it answered and refused
 pub record Sitting : Type 0 where
@@ -109,7 +116,7 @@ commanded_by s (Err column) = refused s (Syntax column)
 
 -- the longest line that is read
 abbrev pub longest_line : ℕ
-longest_line = 65536
+longest_line = MAX_LINE
 
 -- the session after a line, and what is written for it: an empty line and one that begins with `#` are skipped, and one that is too
 -- long is refused from its first byte past the longest line

@@ -4,8 +4,10 @@ ghost use Rattle.std.specs.Prelude.{◌≡◌, ℕ, ◌+◌, ◌^◌, ◌<◌, �
 ghost use Rattle.paris_text.specs.CommandReading.{command_of};
 ghost use Rattle.paris_book.specs.Among.{look_shown};
 ghost use Rattle.paris_session.specs.Transcript.{longest_line, shown_text, start, refused, edited, taken, brought, released, shown, listed, faulted, settled, order_at, commanded, commanded_by, answer};
+ghost use Rattle.paris_names.specs.declared.limits.TheConstants.{MAX_WORKERS};
 
-use paris_book::{Book, Edit, Look};
+use paris_book::{Book, Look};
+use paris_events::Edit;
 use paris_exec::{OpenGate, Order, execute};
 use paris_names::limits::MAX_LINE;
 use paris_names::{Fault, KeyName, Spot};
@@ -53,6 +55,7 @@ pub struct Session {
 }
 
 impl Model for Session {
+    ghost use Rattle.paris_names.specs.declared.limits.TheConstants.{MAX_WORKERS};
     ghost use Rattle.std.specs.Prelude.{◌≤◌, length};
     ghost use Rattle.paris_session.specs.Transcript.{Sitting};
 
@@ -60,13 +63,13 @@ impl Model for Session {
 
     ghost view = { λ s. record { state = s.book; tray = s.orders.items; commands = s.answered; refusals = s.declined } };
 
-    ghost invariant = { λ s. (s.declined ≤ s.answered) × (length s.orders.items ≤ s.answered) × (1 ≤ s.workers) × (s.workers ≤ 16) };
+    ghost invariant = { λ s. (s.declined ≤ s.answered) × (length s.orders.items ≤ s.answered) × (1 ≤ s.workers) × (s.workers ≤ MAX_WORKERS) };
 }
 
 impl Session {
     /// A session with an empty book and no orders.
     pub fn new(alloc: Global, workers: usize) -> Session
-        requires { (1 ≤ workers) × (workers ≤ 16) }
+        requires { (1 ≤ workers) × (workers ≤ MAX_WORKERS) }
         ensures { result ≡ start }
     {
         Session {

@@ -7,6 +7,7 @@ ghost use Rattle.paris_calls.specs.Texts.{WritesFront};
 ghost use Rattle.paris_session.specs.Transcript.{answer, start};
 ghost use Rattle.paris_session.specs.Progress.{open_line, said, sitting_at};
 ghost use Rattle.paris_session.specs.Run.{IsWriteFault, IsFaultOf, EndsWell, StopsShort};
+ghost use Rattle.paris_names.specs.declared.limits.TheConstants.{MAX_WORKERS};
 
 use crate::answers::{Session, Summary};
 use paris_calls::{Given, Tally, read_once, write_out};
@@ -56,7 +57,7 @@ struct Script {
 
 impl Script {
     fn new(alloc: Global, workers: usize) -> Script
-        requires { (1 ≤ workers) × (workers ≤ 16) }
+        requires { (1 ≤ workers) × (workers ≤ MAX_WORKERS) }
         ensures session { result.session ≡ start }
         ensures line { result.line.items ≡ [] }
     {
@@ -172,7 +173,7 @@ pub fn run_counted<H: Threads + Wait + Sync, R: Read, W: Write>(
     bound: u64,
     tally: &mut Tally,
 ) -> Result<Summary, RunFault>
-    requires workers { (1 ≤ workers) × (workers ≤ 16) }
+    requires workers { (1 ≤ workers) × (workers ≤ MAX_WORKERS) }
     requires bound { bound ≤ 2 ^ 30 }
     requires fresh { tally.old ≡ no_marks }
     ensures ended { OnOk result (tally.new.ended ≡ true) }
@@ -203,7 +204,7 @@ pub fn run_script<H: Threads + Wait + Sync, R: Read, W: Write>(
     writer: &mut W,
     workers: usize,
 ) -> Result<Summary, RunFault>
-    requires { (1 ≤ workers) × (workers ≤ 16) }
+    requires { (1 ≤ workers) × (workers ≤ MAX_WORKERS) }
     ensures ok { IfOk result (λ summary. EndsWell (R.remaining reader.old) (R.remaining reader.new)
         (W.contents writer.old) (W.contents writer.new) summary) }
     ensures short { IfErr result (λ fault. StopsShort (R.remaining reader.old) (R.remaining reader.new)

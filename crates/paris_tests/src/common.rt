@@ -2,7 +2,8 @@
 
 use paris_board::Board;
 use paris_geometry::Geometry;
-use paris_instr::{Instr, Plan, resolve};
+use paris_instr::{Plan, resolve};
+use paris_model::Instr;
 use paris_names::{Fault, FieldNo, FlagName, Key, Name, SetNo};
 use paris_text::read_instr;
 use std::alloc::Global;

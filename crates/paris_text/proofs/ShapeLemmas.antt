@@ -7,8 +7,8 @@ use Rattle.std.specs.Fmt.{decimal}
 use Rattle.std.proofs.lemmas.Slice.Eq.{bytes_eq-Decides}
 use Rattle.std.proofs.lemmas.Result.{MatchResult-weaker}
 use Rattle.std.proofs.lemmas.List.Folds.{list_all-append}
-use Rattle.paris_names.specs.declared.keys.Spot.{Spot}
-use Rattle.paris_names.specs.declared.keys.Spot.TheVariants.{Start, After, End}
+use Rattle.paris_names.specs.declared.ids.Spot.{Spot}
+use Rattle.paris_names.specs.declared.ids.Spot.TheVariants.{Start, After, End}
 use Rattle.paris_text.specs.Kinds.{Kind, Meaning, meaning, spelled, Fits}
 use Rattle.paris_text.specs.Kinds.Kind.{NumberWord}
 use Rattle.paris_text.specs.Columns.{width, IsColumn}

@@ -3,8 +3,8 @@ use Rattle.std.specs.Prelude.{◌≡◌, ℕ, ◌+◌, List, [], ◌∷◌, leng
 use Rattle.std.specs.Str.{bytes_eq}
 use Rattle.paris_names.specs.declared.faults.Fault.{Fault}
 use Rattle.paris_names.specs.declared.faults.Fault.TheVariants.{NoMemory, Syntax}
-use Rattle.paris_names.specs.declared.keys.Spot.{Spot}
-use Rattle.paris_names.specs.declared.keys.Spot.TheVariants.{Start, After, End}
+use Rattle.paris_names.specs.declared.ids.Spot.{Spot}
+use Rattle.paris_names.specs.declared.ids.Spot.TheVariants.{Start, After, End}
 use Rattle.paris_text.specs.declared.verbs.Verb.{Verb}
 use Rattle.paris_text.specs.declared.verbs.Verb.TheVariants as verb
 use Rattle.paris_text.specs.declared.commands.Command.{Command}

@@ -5,7 +5,7 @@ use Rattle.std.proofs.lemmas.Option.{slice_get_within, get_or_from_slice_get}
 use Rattle.paris_book.specs.Entries.{entry_of, entries}
 use Rattle.paris_book.specs.Kept.{row_of}
 use Rattle.paris_events.specs.Rows.{is_settled}
-use Rattle.paris_book.specs.Machine.{unsettled_rows}
+use Rattle.paris_machine.specs.Settling.{unsettled_rows}
 use Rattle.paris_book.proofs.Calls.{unsettled_few, unsettled_more}
 use Rattle.paris_book.proofs.Entering.{entry_place}
 use Rattle.paris_book.proofs.book.count_unsettled.Goals as goal

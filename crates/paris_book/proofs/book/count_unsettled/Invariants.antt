@@ -1,6 +1,6 @@
 use Rattle.std.proofs.Common.{◌≡◌, map, take}
 use Rattle.paris_book.specs.Entries.{entries}
-use Rattle.paris_book.specs.Machine.{unsettled_rows}
+use Rattle.paris_machine.specs.Settling.{unsettled_rows}
 use Rattle.paris_book.specs.Kept.{row_of}
 use Rattle.paris_book.proofs.book.count_unsettled.Given as goal
 

@@ -1,5 +1,5 @@
 use Rattle.std.proofs.Common.{◌≡◌, List, sym, ap, ◌∙◌, subst}
-use Rattle.paris_names.specs.declared.keys.RowId.{RowId}
+use Rattle.paris_names.specs.declared.ids.RowId.{RowId}
 use Rattle.paris_exec.specs.Tasks.{Task}
 use Rattle.paris_book.specs.Entries.{Entry, entries}
 use Rattle.paris_book.specs.Whole.{IsWhole}

@@ -2,7 +2,8 @@ use Rattle.std.proofs.Common.{◌≡◌, ◌+◌, ◌++◌, sym, ap, ◌∙◌, 
 use Rattle.paris_names.specs.Keys.{has_key}
 use Rattle.paris_model.specs.Instructions.{writes}
 use Rattle.paris_depends.specs.Sweeps.{touched}
-use Rattle.paris_book.specs.Machine.{find_row, delete_fault, deleted_from}
+use Rattle.paris_machine.specs.State.{find_row}
+use Rattle.paris_machine.specs.Edits.{delete_fault, deleted_from}
 use Rattle.paris_book.specs.Among.{inputs_of}
 use Rattle.paris_book.specs.Entries.{entry_of, entries}
 use Rattle.paris_book.specs.Marks.{data_plan, unsettled_by_ids, ids_in}

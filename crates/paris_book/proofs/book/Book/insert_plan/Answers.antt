@@ -2,7 +2,7 @@ use Rattle.std.proofs.Common.{◌≡◌, ◌+◌, sym, ap, ◌∙◌, subst, dro
 use Rattle.paris_names.specs.Keys.{has_key}
 use Rattle.paris_depends.specs.Sweeps.{touched}
 use Rattle.paris_instr.specs.Resolve.{IsFittedTo}
-use Rattle.paris_book.specs.Machine.{State}
+use Rattle.paris_machine.specs.State.{State}
 use Rattle.paris_book.specs.Among.{inputs_of}
 use Rattle.paris_book.specs.Entries.{entries}
 use Rattle.paris_book.specs.Marks.{data_plan, unsettled_by_ids, ids_in}

@@ -2,7 +2,8 @@ use Rattle.std.proofs.Common.{◌≡◌, ◌+◌, ◌++◌, ◌∷◌, Ok, sym, 
 use Rattle.paris_depends.specs.Sweeps.{touched}
 use Rattle.paris_instr.specs.Resolve.{IsFittedTo}
 use Rattle.paris_program.specs.Program.{Program, with_row}
-use Rattle.paris_book.specs.Machine.{State, find_row, replaced_from}
+use Rattle.paris_machine.specs.State.{State, find_row}
+use Rattle.paris_machine.specs.Edits.{replaced_from}
 use Rattle.paris_book.specs.Among.{inputs_of}
 use Rattle.paris_book.specs.Entries.{entry_of, entries}
 use Rattle.paris_book.specs.Marks.{data_plan, writes_either, unsettled_by_ids, ids_in}

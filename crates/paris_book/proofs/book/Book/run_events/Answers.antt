@@ -2,8 +2,8 @@ use Rattle.std.proofs.Common.{◌≡◌, ◌≤◌, ◌+◌, [], ◌∷◌, ◌+
 use Rattle.std.proofs.Math.Path.{ap₂}
 use Rattle.std.specs.Prelude.{vec_capacity}
 use Rattle.std.specs.Vec.Iter.{into_iter_items}
-use Rattle.paris_book.specs.Machine.{State}
-use Rattle.paris_book.specs.Events.{reply_to, after, replies_to, after_all}
+use Rattle.paris_machine.specs.State.{State}
+use Rattle.paris_machine.specs.Events.{reply_to, after, replies_to, after_all}
 use Rattle.paris_book.proofs.Runs.{replies-append, after-append, drop_more}
 use Rattle.paris_book.proofs.book.Book.run_events.Goals as goal
 

@@ -3,7 +3,9 @@ use Rattle.std.specs.List.{list_all}
 use Rattle.std.proofs.lemmas.Result.{on_ok_weaker, IfErr-weaker}
 use Rattle.paris_book.specs.Among.{inputs_of}
 use Rattle.paris_book.specs.Entries.{entries}
-use Rattle.paris_book.specs.Machine.{State, after_release, take_reply, unsettled_rows}
+use Rattle.paris_machine.specs.State.{State}
+use Rattle.paris_machine.specs.Orders.{after_release, take_reply}
+use Rattle.paris_machine.specs.Settling.{unsettled_rows}
 use Rattle.paris_book.specs.Rounds.{Advances, has_result, first_order, after_slots}
 use Rattle.paris_book.proofs.Countdown.{rows_apart, count_recalled}
 use Rattle.paris_book.proofs.Rounding.{recalled_since, left_recalled, recalled_advances, advances_more, slots_advance, slots_leave, Executed, written_back, round_settles}

@@ -2,12 +2,12 @@ use Rattle.std.proofs.Common.{◌≡◌, ◌+◌, [], ◌∷◌, Some, refl, sym
 use Rattle.std.proofs.Math.Path.{ap₂}
 use Rattle.paris_names.specs.Keys.{has_key}
 use Rattle.paris_field.specs.Fields.{overwritten}
-use Rattle.paris_book.specs.Machine.{Inputs, input_of, with_input}
+use Rattle.paris_machine.specs.State.{Inputs, input_of, with_input}
 use Rattle.paris_book.specs.Among.{inputs_of}
 use Rattle.paris_book.specs.Entries.{entries}
 use Rattle.paris_book.specs.Marks.{unsettled_by_ids, ids_in}
 use Rattle.paris_book.proofs.Swept.{swept_entries}
-use Rattle.paris_book.specs.declared.inputs.Input.{Input}
+use Rattle.paris_machine.specs.declared.inputs.Input.{Input}
 use Rattle.paris_book.proofs.Inserts.{state_of}
 use Rattle.paris_book.proofs.Unsettling.{input_rows}
 use Rattle.paris_book.proofs.InputEdits.{input_whole, input_view}

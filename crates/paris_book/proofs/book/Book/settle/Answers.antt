@@ -1,5 +1,7 @@
 use Rattle.std.proofs.Common.{◌≡◌, ◌+◌, ◌≤◌, inl, inr, ap, ◌∙◌, arith}
-use Rattle.paris_book.specs.Machine.{State, after_release, ran_orders, unsettled_rows}
+use Rattle.paris_machine.specs.State.{State}
+use Rattle.paris_machine.specs.Orders.{after_release}
+use Rattle.paris_machine.specs.Settling.{ran_orders, unsettled_rows}
 use Rattle.paris_book.specs.Among.{inputs_of}
 use Rattle.paris_book.proofs.Countdown.{rows_apart, ran_all, ran_left, take_left}
 use Rattle.paris_book.specs.Entries.{entries}

@@ -1,5 +1,5 @@
 use Rattle.std.proofs.Common.{◌<◌, rules, arith}
-use Rattle.paris_book.specs.Machine.{unsettled_rows}
+use Rattle.paris_machine.specs.Settling.{unsettled_rows}
 use Rattle.paris_book.proofs.Rounding.{settled_now}
 use Rattle.paris_book.proofs.book.Book.settle_par.Goals as goal
 

@@ -1,6 +1,6 @@
 -- Each round left a row fewer unsettled, and all else as it was.
 use Rattle.std.proofs.Common.{◌+◌, ◌≤◌}
-use Rattle.paris_book.specs.Machine.{unsettled_rows}
+use Rattle.paris_machine.specs.Settling.{unsettled_rows}
 use Rattle.paris_book.specs.Rounds.{Advances}
 use Rattle.paris_book.proofs.book.Book.settle_par.Given as goal
 

@@ -1,5 +1,5 @@
 use Rattle.std.proofs.Common.{◌≡◌, ◌+◌, ◌++◌, [], ◌∷◌, sym, ap, ◌∙◌, length, length-append}
-use Rattle.paris_book.specs.Machine.{take_reply, after_release}
+use Rattle.paris_machine.specs.Orders.{take_reply, after_release}
 use Rattle.paris_book.specs.declared.rounds.Slot.{Slot}
 use Rattle.paris_book.proofs.Rounding.{first_of_all, first_more, take_recalled}
 use Rattle.paris_book.proofs.book.Book.take_ready.Goals as goal

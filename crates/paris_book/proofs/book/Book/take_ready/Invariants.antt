@@ -1,6 +1,6 @@
 -- So many orders were taken, of which the first is the one that a take gives first; a release undoes it.
 use Rattle.std.proofs.Common.{◌≡◌, length}
-use Rattle.paris_book.specs.Machine.{after_release, take_reply}
+use Rattle.paris_machine.specs.Orders.{after_release, take_reply}
 use Rattle.paris_book.proofs.Rounding.{first_of_all}
 use Rattle.paris_book.proofs.book.Book.take_ready.Given as goal
 

@@ -1,7 +1,7 @@
 use Rattle.std.proofs.Common.{◌≡◌, rules, ap, ◌∙◌}
 use Rattle.std.proofs.lemmas.Result.{IfOk-weaker}
 use Rattle.paris_names.specs.declared.faults.Fault.TheVariants.{NoMemory}
-use Rattle.paris_book.specs.Machine.{State}
+use Rattle.paris_machine.specs.State.{State}
 use Rattle.paris_session.specs.Transcript.{Sitting, refused}
 use Rattle.paris_session.proofs.AnswerLemmas.{edit_accepted, edit_refused}
 use Rattle.paris_session.proofs.answers.Session.answer_edit.Goals as goal

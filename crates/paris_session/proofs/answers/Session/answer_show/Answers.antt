@@ -1,5 +1,5 @@
 use Rattle.std.proofs.Common.{◌≡◌, Err}
-use Rattle.paris_book.specs.Machine.{show_reply}
+use Rattle.paris_machine.specs.Show.{show_reply}
 use Rattle.std.proofs.lemmas.Result.{IfOk-weaker}
 use Rattle.paris_session.specs.Transcript.{Sitting}
 use Rattle.paris_session.proofs.AnswerLemmas.{show_accepted, show_refused}

@@ -1,6 +1,6 @@
 use Rattle.std.proofs.Common.{List, ap₂}
 use Rattle.paris_exec.specs.Tasks.{Task}
-use Rattle.paris_book.specs.Machine.{State}
+use Rattle.paris_machine.specs.State.{State}
 use Rattle.paris_session.specs.Transcript.{start}
 use Rattle.paris_session.proofs.answers.Session.new.Goals as goal
 

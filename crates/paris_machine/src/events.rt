@@ -13,14 +13,6 @@ pub enum Shown {
     Pending(RowId),
 }
 
-/// What is shown of a key, with its value lent.
-#[derive(Debug, Drop)]
-pub enum Look<'a> {
-    Settled(&'a FieldValue),
-    /// The row that has to be settled first.
-    Pending(RowId),
-}
-
 /// What is asked of a book.
 #[derive(Debug, Drop)]
 pub enum Event {

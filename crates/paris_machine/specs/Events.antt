@@ -1,10 +1,15 @@
 -- Any list of events: the machine's replies, and the state that they leave.
 use Rattle.std.specs.Prelude.{List, [], ◌∷◌}
-use Rattle.paris_book.specs.Machine.{State, edit_reply, after_edit, take_reply, after_take, verdict_of, after_bring, after_release, show_reply, list_of}
-use Rattle.paris_book.specs.declared.events.Event.{Event}
-use Rattle.paris_book.specs.declared.events.Event.TheVariants.{Edit, Take, Bring, Release, Show, List as ListRows}
-use Rattle.paris_book.specs.declared.events.Reply.{Reply}
-use Rattle.paris_book.specs.declared.events.Reply.TheVariants.{Edit as EditReply, Take as TakeReply, Bring as BringReply, Release as ReleaseReply, Show as ShowReply, List as ListReply}
+use Rattle.paris_machine.specs.State.{State}
+use Rattle.paris_machine.specs.Show.{show_reply}
+use Rattle.paris_machine.specs.Orders.{take_reply, after_take, after_release}
+use Rattle.paris_machine.specs.Results.{verdict_of, after_bring}
+use Rattle.paris_machine.specs.Edits.{edit_reply, after_edit}
+use Rattle.paris_machine.specs.Lists.{list_of}
+use Rattle.paris_machine.specs.declared.events.Event.{Event}
+use Rattle.paris_machine.specs.declared.events.Event.TheVariants.{Edit, Take, Bring, Release, Show, List as ListRows}
+use Rattle.paris_machine.specs.declared.events.Reply.{Reply}
+use Rattle.paris_machine.specs.declared.events.Reply.TheVariants.{Edit as EditReply, Take as TakeReply, Bring as BringReply, Release as ReleaseReply, Show as ShowReply, List as ListReply}
 
 -- the reply to an event
 abbrev pub reply_to : State → Event → Reply
