@@ -1,13 +1,15 @@
 -- Orders run one after another settle every row of a program of which no row is out.
-use Rattle.std.proofs.Common.{◌≡◌, ℕ, ◌+◌, ◌-◌, ◌≤◌, List, [], ◌∷◌, Bool, true, false, cond, Option, Some, None, refl, sym, ap, ◌∙◌, subst, arith, map, zero, suc, set, slice_get, add-zero}
+use Rattle.std.proofs.Common.{◌≡◌, ℕ, ◌+◌, ◌-◌, ◌<◌, ◌≤◌, ◌⊎◌, inl, inr, List, [], ◌∷◌, Bool, true, false, cond, Option, Some, None, refl, sym, ap, ◌∙◌, subst, arith, map, zero, suc, set, slice_get, add-zero}
 use Rattle.std.proofs.Math.Path.{ap₂}
+use Rattle.std.specs.Prelude.{IsSome}
+use Rattle.std.specs.Option.{option_map}
 use Rattle.std.specs.List.{list_all}
 use Rattle.paris_board.specs.Board.{Board}
 use Rattle.paris_model.specs.Instructions.{reads}
 use Rattle.paris_events.specs.Rows.{is_settled, is_waiting}
 use Rattle.paris_machine.specs.State.{Row, Inputs, State}
 use Rattle.paris_machine.specs.Show.{origin_at}
-use Rattle.paris_machine.specs.Orders.{is_firm, is_ready, next_ready, taken, after_take, recalled_status, recalled_row, after_release}
+use Rattle.paris_machine.specs.Orders.{is_firm, is_ready, next_ready, order_of, take_reply, taken, after_take, recalled_status, recalled_row, after_release}
 use Rattle.paris_machine.specs.Settling.{unsettled_rows, settled_row, all_settled, after_run, ran_orders}
 use Rattle.paris_book.specs.Kept.{row_of}
 use Rattle.paris_book.specs.Whole.{IdsApart, ids_of, IsWhole}
@@ -17,10 +19,10 @@ use Rattle.paris_events.specs.declared.rows.Status.TheVariants.{Waiting, Out, Se
 use Rattle.std.specs.List.{enumerate_from}
 use Rattle.paris_book.proofs.Finds.{find_at_place, found_passes}
 use Rattle.paris_book.proofs.Inserts.{state_of}
-use Rattle.paris_book.proofs.Settling.{and_first}
+use Rattle.paris_book.proofs.Settling.{and_first, and_second}
 use Rattle.paris_book.proofs.Takes.{waiting_unsettled}
 use Rattle.paris_book.proofs.Releases.{settled_same}
-use Rattle.paris_book.proofs.OrderRuns.{IsIdle, row_ids, first_settled, run_settles}
+use Rattle.paris_book.proofs.OrderRuns.{IsIdle, SomeFirst, are_settled, row_ids, first_of, first_settled, next_first, run_settles}
 
 -- settling the first unsettled row leaves the ids, and no row is out after it
 ids_first : (rs : List Row) → row_ids (first_settled rs) ≡ row_ids rs
@@ -168,9 +170,36 @@ next_waits s k r e =
       and_first (is_waiting r.status) (list_all (λ j. is_firm (origin_at s k j)) (reads r.plan)) ready,
     )
 
+-- and its origins are the start or settled
+pub next_firm : (s : State) (k : ℕ) (r : Row) → next_ready s ≡ Some (k, r) → list_all (λ j. is_firm (origin_at s k j)) (reads r.plan) ≡ true
+next_firm s k r e =
+    let ready : is_ready s k r ≡ true = found_passes (λ (x : ℕ × Row). is_ready s x.0 x.1) (enumerate_from 0 s.rows) (k, r) e in
+    and_second (is_waiting r.status) (list_all (λ j. is_firm (origin_at s k j)) (reads r.plan)) ready
+
 pub take_left : (s : State) → unsettled_rows (after_take s).rows ≡ unsettled_rows s.rows
 take_left s = by_next (next_ready s) refl
   where
     by_next : (o : Option (ℕ × Row)) → next_ready s ≡ o → unsettled_rows (taken s o).rows ≡ unsettled_rows s.rows
     by_next None e = refl
     by_next (Some (k, r)) e = let waits = next_waits s k r e in count_out s.rows k r waits.0 (waiting_unsettled r.status waits.1)
+
+-- where all rows are settled, none is unsettled
+pub none_unsettled : (rs : List Row) → are_settled rs ≡ true → unsettled_rows rs ≡ 0
+none_unsettled [] h = refl
+none_unsettled (r ∷ rs) h =
+    let rest = none_unsettled rs (and_second (is_settled r.status) (are_settled rs) h) in
+    rw (and_first (is_settled r.status) (are_settled rs) h) (omega (arith, rest))
+
+-- as long as a row is unsettled after a release and so many orders, there is a next order
+pub order_left : (n : ℕ) (s : State) → IdsApart (row_ids s.rows) → n < unsettled_rows s.rows → IsSome (take_reply (ran_orders n (after_release s)))
+order_left n s apart more =
+    let rows : List Row = settled_times n (map recalled_row s.rows) in
+    let u : State = record s { rows = rows } in
+    let left = ran_left n s apart (omega (arith, more)) in
+    let here : ran_orders n (after_release s) ≡ u = ran_released n s apart in
+    let some : 0 < unsettled_rows u.rows = let same : unsettled_rows (ran_orders n (after_release s)).rows ≡ unsettled_rows u.rows = ap (λ (z : State). unsettled_rows z.rows) here in omega (arith, same, left, more) in
+    subst (λ (z : State). IsSome (take_reply z)) (sym here) (by_first u (idle_times n (map recalled_row s.rows) (idle_recalled s.rows)) some (first_of rows))
+  where
+    by_first : (u : State) → IsIdle u.rows → 0 < unsettled_rows u.rows → ((are_settled u.rows ≡ true) × (first_settled u.rows ≡ u.rows)) ⊎ SomeFirst u.rows → IsSome (take_reply u)
+    by_first u idle some (inl e) = let none = none_unsettled u.rows e.0 in absurd (omega (arith, none, some))
+    by_first u idle some (inr (k, r, f)) = subst (λ o. IsSome (option_map (order_of u) o)) (sym (next_first u k r idle f)) tt

@@ -3,6 +3,7 @@ pub mod Calls
 pub mod Countdown
 pub mod Declares
 pub mod Deletes
+pub mod DueFaults
 pub mod EditLemmas
 pub mod Entering
 pub mod Finds
@@ -16,6 +17,7 @@ pub mod RefusalHere
 pub mod RefusedRows
 pub mod Releases
 pub mod Replaces
+pub mod RoundRuns
 pub mod Rounding
 pub mod Runs
 pub mod Settling

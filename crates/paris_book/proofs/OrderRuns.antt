@@ -18,6 +18,7 @@ use Rattle.paris_field.specs.Fields.{FieldNumbers, field_eq}
 use Rattle.paris_exec.specs.Tasks.{Task, field_of}
 use Rattle.paris_events.specs.Rows.{is_settled, is_waiting}
 use Rattle.paris_machine.specs.State.{Row, State, start_world, row_plan, with_status, find_row}
+use Rattle.paris_machine.specs.Show.{origin_at}
 use Rattle.paris_machine.specs.Orders.{is_firm, is_ready, next_ready, inputs_now, order_of, taken}
 use Rattle.paris_machine.specs.Results.{verdict_at, verdict_on, verdict_of, brought_on}
 use Rattle.paris_machine.specs.Settling.{settled_row, brought_back, after_run}
@@ -133,10 +134,14 @@ same_values (x ∷ xs) = ap₂ (λ a b. a && b) (same_value x) (same_values xs)
 abbrev out_row : Row → Row
 out_row r = record r { status = Out }
 
+-- where all rows before a row are settled, the origins of what it reads are
+pub firm_before : (s : State) (k : ℕ) (r : Row) → are_settled (take k s.rows) ≡ true → list_all (λ j. is_firm (origin_at s k j)) (reads r.plan) ≡ true
+firm_before s k r before = all_pass (λ j. is_firm (origin row_plan j (take k s.rows))) (λ j. firm_settled (take k s.rows) j before) (reads r.plan)
+
 -- the order that an unsettled row would give is kept, where all rows before it are settled
 pub present_kept : (s : State) (k : ℕ) (r : Row) → is_settled r.status ≡ false → are_settled (take k s.rows) ≡ true → verdict_at s (k, r) (order_of s (k, r)) ≡ Kept
 present_kept s k r unsettled before =
-    let firm : list_all (λ j. is_firm (origin row_plan j (take k s.rows))) (reads r.plan) ≡ true = all_pass (λ j. is_firm (origin row_plan j (take k s.rows))) (λ j. firm_settled (take k s.rows) j before) (reads r.plan) in
+    let firm : list_all (λ j. is_firm (origin row_plan j (take k s.rows))) (reads r.plan) ≡ true = firm_before s k r before in
     let values : pointwise field_eq (inputs_now s k r.plan) (inputs_now s k r.plan) ≡ true = same_values (inputs_now s k r.plan) in
     rw (eq-eqb r.edition.0 r.edition.0 refl, unsettled, plan_same r.plan, firm, values) refl
 

@@ -7,12 +7,16 @@ use Rattle.std.proofs.lemmas.Option.{get_or_from_slice_get, slice_get-map}
 use Rattle.std.specs.Prelude.{◌&&◌, is_some}
 use Rattle.std.specs.Option.{option_map}
 use Rattle.std.specs.List.{list_all}
+use Rattle.std.specs.Cmp.Lexicographic.{pointwise}
+use Rattle.paris_instr.specs.PlanEq.{plan_eq}
+use Rattle.paris_field.specs.Fields.{field_eq}
 use Rattle.paris_model.specs.Instructions.{reads}
 use Rattle.paris_model.specs.Run.{run}
 use Rattle.paris_exec.specs.Tasks.{Task, field_of}
 use Rattle.paris_events.specs.Rows.{is_settled, is_waiting}
 use Rattle.paris_machine.specs.State.{Row, State, start_world, row_plan, with_status, find_id, find_row}
-use Rattle.paris_machine.specs.Orders.{next_ready, order_of, take_reply, taken, after_take, recalled_status, recalled_row, after_release}
+use Rattle.paris_machine.specs.Show.{origin_at}
+use Rattle.paris_machine.specs.Orders.{is_firm, inputs_now, next_ready, order_of, take_reply, taken, after_take, recalled_status, recalled_row, after_release}
 use Rattle.paris_machine.specs.Results.{is_present, verdict_on, verdict_of, brought_on, after_bring}
 use Rattle.paris_machine.specs.Settling.{unsettled_rows, settled_row, all_settled, brought_back}
 use Rattle.paris_book.specs.Rounds.{StaySettled, Advances, HasRun, has_result, first_order, after_slots}
@@ -24,8 +28,8 @@ use Rattle.paris_events.specs.declared.verdicts.Verdict.TheVariants.{Stale, Repe
 use Rattle.paris_book.proofs.Finds.{find_at_place}
 use Rattle.paris_book.proofs.Releases.{settled_same}
 use Rattle.paris_book.proofs.Settling.{and_first, and_second}
-use Rattle.paris_book.proofs.OrderRuns.{are_settled, row_ids, first_settled, IsFirst, SomeFirst, first_of, next_first, find_put, present_kept}
-use Rattle.paris_book.proofs.Countdown.{next_waits, idle_recalled, count_recalled, settled_recalled, none_left}
+use Rattle.paris_book.proofs.OrderRuns.{are_settled, row_ids, first_settled, IsFirst, SomeFirst, first_of, next_first, find_put, present_kept, firm_before}
+use Rattle.paris_book.proofs.Countdown.{next_waits, idle_recalled, count_recalled, settled_recalled, none_left, none_unsettled}
 
 -- ---- the orders that are taken
 
@@ -123,29 +127,36 @@ found_at rs i k r e =
     let place : at.0 ≡ k = omega (arith, at.1) in
     subst (λ n. slice_get rs n ≡ Some r) place at.2
 
--- the book settles an unsettled row, and does nothing else
+-- a result that is present is of keys whose origins are settled
+present_firm : (s : State) (k : ℕ) (r : Row) (t : Task) → is_present s k r t ≡ true → list_all (λ j. is_firm (origin_at s k j)) (reads r.plan) ≡ true
+present_firm s k r t p =
+    let rest = and_second (plan_eq r.plan t.plan) (list_all (λ j. is_firm (origin_at s k j)) (reads r.plan) && pointwise field_eq (inputs_now s k r.plan) t.inputs) p in
+    and_first (list_all (λ j. is_firm (origin_at s k j)) (reads r.plan)) (pointwise field_eq (inputs_now s k r.plan) t.inputs) rest
+
+-- the book settles an unsettled row whose origins are settled, and does nothing else
 pub record Settles (s t : State) : Type 0 where
   pub place : ℕ
   pub row : Row
   pub here : slice_get s.rows place ≡ Some row
   pub unsettled : is_settled row.status ≡ false
+  pub firm : list_all (λ k. is_firm (origin_at s place k)) (reads row.plan) ≡ true
   pub gives : t ≡ with_status s (place, row) Settled
 
-bring_settles : (s : State) (t : Task) → (after_bring s t ≡ s) ⊎ Settles s (after_bring s t)
+pub bring_settles : (s : State) (t : Task) → (after_bring s t ≡ s) ⊎ Settles s (after_bring s t)
 bring_settles s t = by_row (find_row s t.id) refl
   where
     by_row : (o : Option (ℕ × Row)) → find_row s t.id ≡ o → (brought_on s (verdict_on s o t) o ≡ s) ⊎ Settles s (brought_on s (verdict_on s o t) o)
     by_row None e = inl refl
-    by_row (Some (k, r)) e = by_test (eqb r.edition.0 t.edition.0) (is_settled r.status) (is_present s k r t) refl
+    by_row (Some (k, r)) e = by_test (eqb r.edition.0 t.edition.0) (is_settled r.status) (is_present s k r t) refl refl
       where
-        by_test : (a b c : Bool) → is_settled r.status ≡ b → (brought_on s (cond a (cond b Repeated (cond c Kept Foreign)) (Stale r.edition)) (Some (k, r)) ≡ s) ⊎ Settles s (brought_on s (cond a (cond b Repeated (cond c Kept Foreign)) (Stale r.edition)) (Some (k, r)))
-        by_test false b c u = inl refl
-        by_test true true c u = inl refl
-        by_test true false false u = inl refl
-        by_test true false true u = inr (record { place = k; row = r; here = found_at s.rows t.id.0 k r e; unsettled = u; gives = refl })
+        by_test : (a b c : Bool) → is_settled r.status ≡ b → is_present s k r t ≡ c → (brought_on s (cond a (cond b Repeated (cond c Kept Foreign)) (Stale r.edition)) (Some (k, r)) ≡ s) ⊎ Settles s (brought_on s (cond a (cond b Repeated (cond c Kept Foreign)) (Stale r.edition)) (Some (k, r)))
+        by_test false b c u p = inl refl
+        by_test true true c u p = inl refl
+        by_test true false false u p = inl refl
+        by_test true false true u p = inr (record { place = k; row = r; here = found_at s.rows t.id.0 k r e; unsettled = u; firm = present_firm s k r t p; gives = refl })
 
 -- settling an unsettled row leaves one fewer
-count_settled : (rs : List Row) (k : ℕ) (r : Row) → slice_get rs k ≡ Some r → is_settled r.status ≡ false → unsettled_rows (set rs k (settled_row r)) + 1 ≡ unsettled_rows rs
+pub count_settled : (rs : List Row) (k : ℕ) (r : Row) → slice_get rs k ≡ Some r → is_settled r.status ≡ false → unsettled_rows (set rs k (settled_row r)) + 1 ≡ unsettled_rows rs
 count_settled [] k r x u = absurd (cc)
 count_settled (y ∷ rs) zero r x u =
     let same : is_settled y.status ≡ false = let z : y ≡ r = cc in ap (λ (z : Row). is_settled z.status) z ∙ u in
@@ -237,12 +248,6 @@ settled_front (suc k) (r ∷ rows) = ap₂ (λ a b. a && b) (settled_same r.stat
 order_recalled : (s : State) (k : ℕ) (r : Row) → order_of (after_release s) (k, recalled_row r) ≡ order_of s (k, r)
 order_recalled s k r = ap (λ ps. record { id = r.id; edition = r.edition; plan = r.plan; inputs = map (λ j. field_of r.plan j (run (start_world s.inputs) ps j)) (reads r.plan) }) (plans_recalled k s.rows)
 
-none_unsettled : (rs : List Row) → are_settled rs ≡ true → unsettled_rows rs ≡ 0
-none_unsettled [] h = refl
-none_unsettled (r ∷ rs) h =
-    let rest = none_unsettled rs (and_second (is_settled r.status) (are_settled rs) h) in
-    rw (and_first (is_settled r.status) (are_settled rs) h) (omega (arith, rest))
-
 -- the first order after a release is kept, and leaves one row fewer unsettled
 pub record FirstOrder (s : State) : Type 0 where
   pub order : Task
@@ -258,7 +263,7 @@ first_at s k r x apart here same f =
     let before : are_settled (take k s.rows) ≡ true = sym (settled_front k s.rows) ∙ f.before in
     let found : find_row s t.id ≡ Some (k, x) = ap (λ rows. find_id x.id.0 rows) (sym (put_back s.rows k x here)) ∙ find_put s.rows 0 k k x x (omega arith) refl here apart in
     let kept : verdict_of s t ≡ Kept = ap (λ o. verdict_on s o t) found ∙ present_kept s k x unsettled before in
-    let settles : Settles s (after_bring s t) = record { place = k; row = x; here = here; unsettled = unsettled; gives = ap₂ (λ v o. brought_on s v o) kept found } in
+    let settles : Settles s (after_bring s t) = record { place = k; row = x; here = here; unsettled = unsettled; firm = firm_before s k x before; gives = ap₂ (λ v o. brought_on s v o) kept found } in
     record { order = t; given = given; left = settles_one s (after_bring s t) settles }
 
 pub first_kept : (s : State) → IdsApart (row_ids s.rows) → 0 < unsettled_rows s.rows → FirstOrder s

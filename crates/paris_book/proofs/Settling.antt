@@ -37,7 +37,7 @@ pub and_second : (a b : Bool) → (a && b) ≡ true → b ≡ true
 and_second true b h = h
 and_second false b h = absurd (let x : false ≡ true = h in cc)
 
-all_more : (h h' : Key → Bool) → ((f : Key) → h f ≡ true → h' f ≡ true) → (fs : List Key) → list_all h fs ≡ true → list_all h' fs ≡ true
+pub all_more : (h h' : Key → Bool) → ((f : Key) → h f ≡ true → h' f ≡ true) → (fs : List Key) → list_all h fs ≡ true → list_all h' fs ≡ true
 all_more h h' m [] t = refl
 all_more h h' m (f ∷ fs) t = rw (m f (and_first (h f) (list_all h fs) t)) (all_more h h' m fs (and_second (h f) (list_all h fs) t))
 

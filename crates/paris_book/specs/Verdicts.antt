@@ -2,8 +2,6 @@
 use Rattle.std.specs.Prelude.{◌≡◌, ℕ, ◌==◌, Bool, true, false, ◌&&◌, List, length, Some, if◌then◌else◌}
 use Rattle.std.specs.List.{list_all}
 use Rattle.std.specs.Cmp.Lexicographic.{pointwise}
-use Rattle.paris_names.specs.declared.faults.Fault.{Fault}
-use Rattle.paris_names.specs.declared.faults.Fault.TheVariants.{NoMemory}
 use Rattle.paris_names.specs.declared.keys.Key.{Key}
 use Rattle.paris_names.specs.Keys.{has_key}
 use Rattle.paris_geometry.specs.Geometry.{processor_count}
@@ -38,8 +36,3 @@ verdict_among inputs es place e t =
     if e.edition.0 == t.edition.0
     then (if is_settled e.status then Repeated else (if present_among inputs es place e t then Kept else Foreign))
     else Stale e.edition
-
--- whether a fault is want of memory
-abbrev pub is_no_memory : Fault → Bool
-is_no_memory NoMemory = true
-is_no_memory _ = false

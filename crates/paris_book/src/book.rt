@@ -1,6 +1,6 @@
 //! The book: edits, orders, results and looks.
 
-ghost use Rattle.std.specs.Prelude.{◌≡◌, ◌<◌, ◌≤◌, ◌+◌, ◌++◌, ◌∷◌, [], take, length, map, vec_len, vec_capacity, Ok, Err, Some, None, IfOk, IfErr, OnOk, OnErr};
+ghost use Rattle.std.specs.Prelude.{◌≡◌, ◌<◌, ◌≤◌, ◌+◌, ◌++◌, ◌∷◌, [], take, length, map, vec_len, vec_capacity, Ok, Err, Some, None, true, IsSome, IfOk, IfErr, OnOk, OnErr};
 ghost use Rattle.std.specs.Option.{option_map};
 ghost use Rattle.paris_names.specs.Faults.{IsFaultOf};
 ghost use Rattle.paris_names.specs.declared.faults.Fault.TheVariants as FaultCase;
@@ -13,21 +13,20 @@ ghost use Rattle.paris_machine.specs.Edits.{edit_fault, edit_answer, accepted};
 ghost use Rattle.paris_machine.specs.Settling.{unsettled_rows};
 ghost use Rattle.paris_machine.specs.declared.events.Event.TheVariants as EventCase;
 ghost use Rattle.paris_book.specs.Kept.{row_of};
-ghost use Rattle.paris_book.specs.Verdicts.{is_no_memory};
-ghost use Rattle.paris_machine.specs.Events.{reply_to, after, replies_to, after_all};
+ghost use Rattle.paris_machine.specs.Events.{reply_to, after, replies_to, after_all, has_value, grows};
 ghost use Rattle.paris_book.specs.Among.{look_shown};
 ghost use Rattle.paris_book.specs.Entries.{entries};
 ghost use Rattle.paris_book.specs.Marks.{out_data, kept_data};
 ghost use Rattle.paris_names.specs.declared.limits.TheConstants.{MAX_EDITS};
 
-use crate::look::Look;
-use paris_machine::{Event, Reply, Shown};
 use crate::inputs::InputData;
+use crate::look::Look;
 use crate::looks::{first_ready, judge, look_at, order_at};
 use crate::rows::RowData;
 use paris_board::Board;
 use paris_events::{Edit, EditReply, Status, Verdict};
 use paris_exec::{Done, Order};
+use paris_machine::{Event, Reply, Shown};
 use paris_names::{Fault, Items, KeyName, RowId, Spot};
 use paris_program::Program;
 use std::alloc::{AllocError, Global};
@@ -98,11 +97,12 @@ impl Book {
     }
 
     /// An order for the first row that waits and whose keys read all have the start or a settled row as origin. `None` where there
-    /// is no such row. The error says that memory for the order was refused.
+    /// is no such row, and then it takes no memory. The error says that memory for the order was refused.
     pub fn take(&mut self) -> Result<Option<Order>, AllocError>
         ensures order { IfOk result (λ order. order ≡ take_reply self.old) }
         ensures state { OnOk result (self.new ≡ after_take self.old) }
         ensures err { OnErr result (self.new ≡ self.old) }
+        ensures ready { OnErr result (IsSome (take_reply self.old)) }
     {
         match first_ready(&self.rows) {
             None => Ok(None),
@@ -162,11 +162,12 @@ impl Book {
         ensures reply { IfOk result (λ reply. reply ≡ reply_to self.old (EventCase.Edit edit.now)) }
         ensures state { OnOk result (self.new ≡ after self.old (EventCase.Edit edit.now)) }
         ensures err { OnErr result (self.new ≡ self.old) }
+        ensures due { OnErr result (edit_fault self.old edit.now ≡ None) }
     {
         match self.apply(edit) {
             Ok(answer) => Ok(Reply::Edit(Ok(answer))),
             Err(fault) => {
-                if is_no_memory(&fault) {
+                if fault.is_no_memory() {
                     return Err(AllocError);
                 }
                 Ok(Reply::Edit(Err(fault)))
@@ -176,7 +177,8 @@ impl Book {
 
     /// A look as an event, whose reply holds a copy of the value.
     fn step_show(&self, name: &KeyName, spot: &Spot) -> Result<Reply, AllocError>
-        ensures { IfOk result (λ reply. reply ≡ reply_to self.now (EventCase.Show name.now spot.now)) }
+        ensures reply { IfOk result (λ reply. reply ≡ reply_to self.now (EventCase.Show name.now spot.now)) }
+        ensures value { OnErr result (has_value (show_reply self.now name.now spot.now) ≡ true) }
     {
         match self.show(*name, *spot) {
             Err(fault) => Ok(Reply::Show(Err(fault))),
@@ -185,11 +187,13 @@ impl Book {
         }
     }
 
-    /// One event. The error says that memory for it was refused, and hands the event back; the book is as it was.
+    /// One event. The error says that memory for it was refused, and hands the event back; the book is as it was. A refused edit, a
+    /// take where no row is ready, a result, a release and a look at a row that is to be settled take no memory.
     pub fn step(&mut self, event: Event) -> Result<Reply, (Event, AllocError)>
         ensures reply { IfOk result (λ reply. reply ≡ reply_to self.old event) }
         ensures state { OnOk result (self.new ≡ after self.old event) }
         ensures err { IfErr result (λ e. (e.0 ≡ event) × (self.new ≡ self.old)) }
+        ensures grows { OnErr result (grows self.old event ≡ true) }
     {
         match event {
             Event::Edit(edit) => match self.step_edit(&edit) {
@@ -226,6 +230,7 @@ impl Book {
         ensures state { OnOk result (self.new ≡ after_all self.old events.items) }
         ensures err { IfErr result (λ e. (e.0 ≡ replies_to self.old (take (length e.0) events.items))
             × (self.new ≡ after_all self.old (take (length e.0) events.items))) }
+        ensures short { IfErr result (λ e. length e.0 < length events.items) }
     {
         let mut replies = Vec::new(self.alloc);
         if let Err(refused) = replies.reserve(events.len()) {
@@ -252,16 +257,6 @@ impl Book {
         ensures { result ≡ unsettled_rows self.now.rows }
     {
         count_unsettled(&self.rows)
-    }
-}
-
-/// Whether a fault is want of memory.
-fn is_no_memory(fault: &Fault) -> bool
-    ensures { result ≡ is_no_memory fault.now }
-{
-    match fault {
-        Fault::NoMemory => true,
-        _ => false,
     }
 }
 

@@ -4,6 +4,7 @@
 mod book;
 mod edits;
 mod inputs;
+mod laws;
 mod listing;
 mod look;
 mod looks;

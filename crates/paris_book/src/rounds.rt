@@ -4,7 +4,7 @@ ghost use Rattle.std.specs.Prelude.{◌≡◌, ℕ, ◌<◌, ◌≤◌, ◌+◌,
 ghost use Rattle.std.specs.List.{list_all};
 ghost use Rattle.paris_machine.specs.Orders.{after_release, take_reply};
 ghost use Rattle.paris_machine.specs.Settling.{all_settled, unsettled_rows, brought_back};
-ghost use Rattle.paris_book.specs.Rounds.{Advances, StaySettled, HasRun, has_result, first_order, after_slots};
+ghost use Rattle.paris_book.specs.Rounds.{Advances, StaySettled, OutAreFirm, RunsTo, HasRun, has_result, first_order, after_slots};
 ghost use Rattle.paris_book.specs.declared.rounds.Slot.{Slot as SlotShape};
 ghost use Rattle.paris_names.specs.declared.limits.TheConstants.{MAX_WORKERS};
 
@@ -81,6 +81,7 @@ impl Book {
         ensures recalled { after_release self.new ≡ after_release self.old }
         ensures first { IfOk result (λ slots. first_order slots.items ≡ take_reply self.old) }
         ensures few { IfOk result (λ slots. length slots.items ≤ room) }
+        ensures out { OutAreFirm self.old → OutAreFirm self.new }
     {
         let mut slots = Vec::with_capacity(self.alloc, room)?;
         for _taken in 0..room {
@@ -134,6 +135,8 @@ impl Book {
         ensures advances { Advances self.old self.new }
         ensures ok { OnOk result (unsettled_rows self.new.rows < unsettled_rows self.old.rows) }
         ensures err { OnErr result (0 < unsettled_rows self.new.rows) }
+        ensures out { OutAreFirm self.new }
+        ensures runs { (n : ℕ) × RunsTo n (after_release self.old) (after_release self.new) }
     {
         self.release();
         let mut slots = self.take_ready(self.unsettled_count())?;
@@ -142,8 +145,9 @@ impl Book {
     }
 
     /// Settles the book as `settle` does, with at most so many orders executed at once, each inside the gate. The answer is how many
-    /// rows were unsettled. The error says that memory was refused: as many rows more are settled as it says, the others are
-    /// unsettled with their editions, those of further orders may be out, and the book can be settled again.
+    /// rows were unsettled. The error says that memory was refused: as many orders were run as it says, each of a row that was ready,
+    /// the other rows are unsettled with their editions, rows of further orders may be out, which read settled keys alone, and the
+    /// book can be settled again.
     pub fn settle_par<R: Threads + Sync, G: Gate + Sync>(
         &mut self,
         rt: &R,
@@ -157,6 +161,8 @@ impl Book {
         ensures stay { OnErr result (StaySettled self.old.rows self.new.rows) }
         ensures left { IfErr result (λ fault. unsettled_rows self.new.rows + fault.ran ≡ unsettled_rows self.old.rows) }
         ensures short { IfErr result (λ fault. fault.ran < unsettled_rows self.old.rows) }
+        ensures runs { IfErr result (λ fault. RunsTo fault.ran (after_release self.old) (after_release self.new)) }
+        ensures out { OnErr result (OutAreFirm self.new) }
     {
         let count = self.unsettled_count();
         for _round in 0..count {

@@ -82,6 +82,7 @@ impl Book {
     pub fn settle(&mut self) -> Result<u64, SettleFault>
         ensures count { IfOk result (λ ran. ran ≡ unsettled_rows self.old.rows) }
         ensures settled { OnOk result (self.new ≡ all_settled self.old) }
+        ensures ran { IfOk result (λ ran. self.new ≡ ran_orders ran (after_release self.old)) }
         ensures stopped { IfErr result (λ fault. (self.new ≡ ran_orders fault.ran (after_release self.old))
             ⊎ (self.new ≡ after_take (ran_orders fault.ran (after_release self.old)))) }
         ensures short { IfErr result (λ fault. fault.ran < unsettled_rows self.old.rows) }

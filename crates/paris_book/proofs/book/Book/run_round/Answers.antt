@@ -6,9 +6,10 @@ use Rattle.paris_book.specs.Entries.{entries}
 use Rattle.paris_machine.specs.State.{State}
 use Rattle.paris_machine.specs.Orders.{after_release, take_reply}
 use Rattle.paris_machine.specs.Settling.{unsettled_rows}
-use Rattle.paris_book.specs.Rounds.{Advances, has_result, first_order, after_slots}
+use Rattle.paris_book.specs.Rounds.{Advances, OutAreFirm, has_result, first_order, after_slots}
 use Rattle.paris_book.proofs.Countdown.{rows_apart, count_recalled}
 use Rattle.paris_book.proofs.Rounding.{recalled_since, left_recalled, recalled_advances, advances_more, slots_advance, slots_leave, Executed, written_back, round_settles}
+use Rattle.paris_book.proofs.RoundRuns.{SomeRuns, no_runs, slots_run, out_released, out_slots}
 use Rattle.paris_book.proofs.book.Book.run_round.Goals as goal
 
 pub take_ready-requires : goal.take_ready-requires
@@ -75,3 +76,27 @@ returns-clause-err g c =
     let state : unsettled_rows c.bring_slots.new.self.rows ≡ unsettled_rows (after_slots out ran).rows = ap (λ (s : State). unsettled_rows s.rows) (c.bring_slots.ensures.state ∙ ap (after_slots out) back) in
     omega (arith, leave, state, as_many, few))
     c.bring_slots.ensures.err
+
+pub returns-in_err-slots-clause-out : goal.returns-in_err-slots-clause-out
+returns-in_err-slots-clause-out g c = c.in_err-slots.ensures.out (subst OutAreFirm (sym c.release.ensures) (out_released c.args.self.now))
+
+pub returns-in_err-slots-clause-runs : goal.returns-in_err-slots-clause-runs
+returns-in_err-slots-clause-runs g c =
+    let first = c.args.self.now in
+    no_runs (after_release first) (after_release c.take_ready.new.self) (recalled_since first c.release.new.self c.take_ready.new.self c.release.ensures c.in_err-slots.ensures.recalled)
+
+pub returns-clause-out : goal.returns-clause-out
+returns-clause-out g c =
+    let out = c.take_ready.new.self in
+    let ran = c.run_slots.new.slots in
+    subst OutAreFirm (sym c.bring_slots.ensures.state)
+    (out_slots out (take c.in_ok-slots.slots.len (ran ++ drop (length ran) c.in_ok-slots.slots.items)) (c.in_ok-slots.ensures.out (subst OutAreFirm (sym c.release.ensures) (out_released c.args.self.now))))
+
+pub returns-clause-runs : goal.returns-clause-runs
+returns-clause-runs g c =
+    let first = c.args.self.now in
+    let out = c.take_ready.new.self in
+    let slots = take c.in_ok-slots.slots.len (c.run_slots.new.slots ++ drop (length c.run_slots.new.slots) c.in_ok-slots.slots.items) in
+    let recalled : after_release out ≡ after_release first = recalled_since first c.release.new.self out c.release.ensures c.in_ok-slots.ensures.recalled in
+    subst (λ (s : State). SomeRuns (after_release first) (after_release s)) (sym c.bring_slots.ensures.state)
+    (subst (λ (s : State). SomeRuns s (after_release (after_slots out slots))) recalled (slots_run out slots))

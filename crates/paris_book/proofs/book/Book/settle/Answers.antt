@@ -28,3 +28,8 @@ returns-clause-settled c =
     let ran : c.loop-ran.ran ≡ unsettled_rows first.rows = omega (arith, count, c.loop-ran-test.false, c.loop-ran.auto.ran-end) in
     let apart = rows_apart c.self.inside.board c.self.inside.edits c.self.inside.rows.next_id (inputs_of c.self.inside.inputs) (entries c.self.inside.rows) first c.self.view_is c.self.invariant in
     c.loop-ran.invariant ∙ ap (λ n. ran_orders n (after_release first)) ran ∙ ran_all first apart
+
+pub returns-clause-ran : goal.returns-clause-ran
+returns-clause-ran c =
+    let last : c.loop-ran.ran ≡ c.count_unsettled-count.result = omega (arith, c.loop-ran-test.false, c.loop-ran.auto.ran-end) in
+    c.loop-ran.invariant ∙ ap (λ n. ran_orders n (after_release c.args.self.now)) last

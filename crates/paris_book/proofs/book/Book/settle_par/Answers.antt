@@ -1,6 +1,10 @@
-use Rattle.std.proofs.Common.{◌<◌, rules, arith}
+use Rattle.std.proofs.Common.{◌≡◌, ◌<◌, ◌+◌, rules, arith, subst, refl, zero}
 use Rattle.paris_machine.specs.Settling.{unsettled_rows}
+use Rattle.paris_machine.specs.Orders.{after_release}
+use Rattle.paris_book.specs.Rounds.{RunsTo}
+use Rattle.paris_book.proofs.Countdown.{count_recalled}
 use Rattle.paris_book.proofs.Rounding.{settled_now}
+use Rattle.paris_book.proofs.RoundRuns.{then_runs, runs_counted}
 use Rattle.paris_book.proofs.book.Book.settle_par.Goals as goal
 
 pub returns-then-unsettled_count-eq0-clause-settled : goal.returns-then-unsettled_count-eq0-clause-settled
@@ -20,3 +24,15 @@ pub returns-clause-settled : goal.returns-clause-settled
 returns-clause-settled g c =
     settled_now c.args.self.now c.loop-round.self c.loop-round.invariant.0
     (omega (arith, c.unsettled_count-count.ensures, c.loop-round-test.false, c.loop-round.invariant.1))
+
+pub returns-then-is_err-clause-runs : goal.returns-then-is_err-clause-runs
+returns-then-is_err-clause-runs g c =
+    let first = c.args.self.now in
+    let last = c.run_round.new.self in
+    let all = then_runs (after_release first) (after_release c.loop-round.self) (after_release last) c.loop-round.invariant.2 c.run_round.ensures.runs in
+    let counted = runs_counted all.0 (after_release first) (after_release last) all.1 in
+    let before = count_recalled first.rows in
+    let behind = count_recalled last.rows in
+    subst (λ n. RunsTo n (after_release first) (after_release last))
+    (omega (arith, counted, before, behind, c.unsettled_count-count.ensures, c.unsettled_count-then-is_err.ensures))
+    all.1

@@ -1,4 +1,5 @@
 use Rattle.std.proofs.Common.{List, Some, sym, ap, ◌∙◌, subst}
+use Rattle.std.specs.Prelude.{IsSome}
 use Rattle.paris_book.specs.Entries.{Entry, entries}
 use Rattle.paris_book.specs.Whole.{IsWhole}
 use Rattle.paris_book.specs.Among.{inputs_of}
@@ -47,3 +48,8 @@ returns-in_ok-order-in-Some-clause-state c =
     let put = entries_out c.self.inside.rows.rows c.in-Some.place c.at_mut.result.now c.hand_out.new.row found.0 c.at_mut.ensures.value found.2 c.hand_out.ensures in
     ap (λ (es : List Entry). state_of c.self.inside.board c.self.inside.edits c.self.inside.rows.next_id (inputs_of c.self.inside.inputs) es) put
     ∙ take_state c.self.inside.board c.self.inside.edits c.self.inside.rows.next_id (inputs_of c.self.inside.inputs) (entries c.self.inside.rows) c.args.self.now c.in-Some.place found.0 c.self.view_is found.1
+
+pub returns-in_err-order-in-Some-clause-ready : goal.returns-in_err-order-in-Some-clause-ready
+returns-in_err-order-in-Some-clause-ready c =
+    let found = next_found (entries c.self.inside.rows) c.in-Some.place c.in-Some.ensures in
+    subst IsSome (take_order c.self.inside.board c.self.inside.edits c.self.inside.rows.next_id (inputs_of c.self.inside.inputs) (entries c.self.inside.rows) c.args.self.now c.in-Some.place found.0 c.self.view_is found.1) tt
