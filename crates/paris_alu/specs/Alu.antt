@@ -12,8 +12,8 @@ use Rattle.paris_model.specs.Elementwise.{binary_result, binary_carry, binary_ov
 use Rattle.paris_field.specs.Fields.{FieldNumbers}
 use Rattle.paris_alu.specs.declared.bitwise.BitOperator.{BitOperator}
 use Rattle.paris_alu.specs.declared.bitwise.BitOperator.TheVariants.{And, Or, Xor}
-use Rattle.paris_alu.specs.declared.order.Extremum.{Extremum}
-use Rattle.paris_alu.specs.declared.order.Extremum.TheVariants as extremum
+use Rattle.paris_alu.specs.declared.comparisons.Extremum.{Extremum}
+use Rattle.paris_alu.specs.declared.comparisons.Extremum.TheVariants as extremum
 
 -- one bit for each of n processors
 abbrev pub bits_everywhere : ℕ → (ℕ → Bool) → List Bool

@@ -5,13 +5,13 @@
 #![tactic(auto)]
 
 mod bitwise;
+mod comparisons;
 mod kernel;
-mod order;
 mod planes;
 mod sums;
 mod widths;
 
 pub use bitwise::{BitOperator, copy_low, invert, logic};
-pub use order::{Extremum, compare, extreme};
+pub use comparisons::{Extremum, compare, extreme};
 pub use sums::{Overflowing, Sum, add, add_carry, negate, subtract};
 pub use widths::extend;

@@ -307,7 +307,8 @@ fn place_after(rows: &Program<RowData>, id: RowId) -> Result<usize, Fault>
     ensures within { IfOk result (λ below. below ≤ length rows.now.rows) }
     ensures err { IfErr result (λ fault. (fault ≡ FaultCase.NoRow) × (place_of rows.now.rows id.0 ≡ None)) }
 {
-    let count = rows.len();
+    // The length is what says that the place just after a row is one.
+    let _len = rows.len();
     match rows.place_of(id) {
         Some(place) => Ok(place + 1),
         None => Err(Fault::NoRow),

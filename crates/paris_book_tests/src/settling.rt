@@ -1,6 +1,7 @@
 //! Settling in threads: independent orders are executed at once, and any number of workers leaves the same values.
 
 ghost use Rattle.std.specs.Prelude.{◌≤◌};
+ghost use Rattle.paris_names.specs.declared.limits.TheConstants.{MAX_WORKERS};
 
 use crate::programs::{Given, append, prepare, run, shows};
 use crate::spellings::*;
@@ -9,7 +10,7 @@ use paris_exec::{Gate, OpenGate};
 use paris_names::{Edition, RowId, Spot};
 use std::alloc::{AllocError, Global};
 use std::process::Abort;
-use std::sync::atomic::{AtomicBool, Ordering};
+use std::sync::atomic::{AtomicBool, AtomicU64, Ordering};
 use std::thread;
 use std::thread::Threads;
 use std::time::{Clock, Duration};
@@ -137,7 +138,7 @@ fn settle_by<R: Threads + Abort + Sync>(
     book: &mut Book,
     workers: usize,
 ) -> Result<(), AllocError>
-    requires { (1 ≤ workers) × (workers ≤ 16) }
+    requires { (1 ≤ workers) × (workers ≤ MAX_WORKERS) }
 {
     prepare(rt, alloc, book, &[4], FIELDS)?;
     let count = append(rt, book, PROGRAM);
@@ -153,7 +154,7 @@ fn leave_the_same<R: Threads + Abort + Sync>(
     book: &mut Book,
     workers: usize,
 ) -> Result<(), AllocError>
-    requires { (1 ≤ workers) × (workers ≤ 16) }
+    requires { (1 ≤ workers) × (workers ≤ MAX_WORKERS) }
 {
     settle_alone(rt, alloc, alone)?;
     settle_by(rt, alloc, book, workers)?;
@@ -167,7 +168,7 @@ fn workers_settle<R: Threads + Abort + Sync>(
     alloc: Global,
     workers: usize,
 ) -> Result<(), AllocError>
-    requires { (1 ≤ workers) × (workers ≤ 16) }
+    requires { (1 ≤ workers) × (workers ≤ MAX_WORKERS) }
 {
     let mut alone = Book::new(alloc);
     let mut book = Book::new(alloc);
@@ -179,4 +180,74 @@ fn any_number_of_workers_leaves_the_same(rt: HostRuntime) -> Result<(), AllocErr
     workers_settle(&rt, rt.alloc(), 1)?;
     workers_settle(&rt, rt.alloc(), 2)?;
     workers_settle(&rt, rt.alloc(), 16)
+}
+
+/// How many rows a gate of the kind below may see.
+const ROWS: usize = 8;
+
+/// A gate that knows for each row of which edition an order is being executed, or 0, and how many executions were left.
+#[derive(Drop)]
+struct Doorkeeper {
+    inside: [AtomicU64; ROWS],
+    left: AtomicU64,
+    wrong: AtomicBool,
+}
+
+impl Doorkeeper {
+    fn new() -> Doorkeeper {
+        Doorkeeper {
+            inside: [
+                AtomicU64::new(0),
+                AtomicU64::new(0),
+                AtomicU64::new(0),
+                AtomicU64::new(0),
+                AtomicU64::new(0),
+                AtomicU64::new(0),
+                AtomicU64::new(0),
+                AtomicU64::new(0),
+            ],
+            left: AtomicU64::new(0),
+            wrong: AtomicBool::new(false),
+        }
+    }
+
+    /// Puts an edition in the place of another one, which has to stand there.
+    fn exchange(&self, id: RowId, old: u64, new: u64) {
+        match self.inside.get(id.0 as usize) {
+            Some(edition) if edition.swap(new, Ordering::SeqCst) == old => {}
+            _ => self.wrong.store(true, Ordering::SeqCst),
+        }
+    }
+}
+
+impl Gate for Doorkeeper {
+    fn enter(&self, id: RowId, edition: Edition) {
+        self.exchange(id, 0, edition.0);
+    }
+
+    fn leave(&self, id: RowId, edition: Edition) {
+        self.exchange(id, edition.0, 0);
+        self.left.fetch_add(1, Ordering::SeqCst);
+    }
+}
+
+/// Each execution is entered and left once, for the row and the edition of its order.
+fn each_is_entered_and_left<R: Threads + Abort + Sync>(
+    rt: &R,
+    alloc: Global,
+    book: &mut Book,
+) -> Result<(), AllocError> {
+    let gate = Doorkeeper::new();
+    prepare(rt, alloc, book, &[4], FIELDS)?;
+    let count = append(rt, book, PROGRAM);
+    assert!(rt; book.settle_par(rt, 3, &gate) == Ok(count));
+    assert!(rt; gate.left.load(Ordering::SeqCst) == count);
+    assert!(rt; !gate.wrong.load(Ordering::SeqCst));
+    Ok(())
+}
+
+#[test]
+fn the_gate_is_entered_and_left(rt: HostRuntime) -> Result<(), AllocError> {
+    let mut book = Book::new(rt.alloc());
+    each_is_entered_and_left(&rt, rt.alloc(), &mut book)
 }

@@ -117,7 +117,7 @@ impl Session {
                 paris_replies::edit_text(self.alloc(), reply)
             }
             Err(fault) => {
-                if fault == Fault::NoMemory {
+                if fault.is_no_memory() {
                     return Err(AllocError);
                 }
                 self.refuse(fault)
@@ -281,7 +281,7 @@ impl Session {
         match read_command(self.alloc(), line) {
             Ok(command) => self.answer_command(rt, command),
             Err(fault) => {
-                if fault == Fault::NoMemory {
+                if fault.is_no_memory() {
                     return Err(AllocError);
                 }
                 self.refuse(fault)

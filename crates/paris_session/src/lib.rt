@@ -1,8 +1,8 @@
 //! A session: reads a script line by line from any reader, and writes the reply to each of its commands to any writer.
 #![tactic(auto)]
 
-pub mod answers;
-pub mod run;
+mod answers;
+mod run;
 
-pub use answers::{Session, Summary};
+pub use answers::Summary;
 pub use run::{RunFault, run_counted, run_script};

@@ -6,8 +6,8 @@ use Rattle.paris_field.specs.Numbers.{number_at}
 use Rattle.paris_alu.specs.Alu.{bits_everywhere}
 use Rattle.paris_alu.proofs.Places.{length-bits_everywhere, read_long}
 use Rattle.paris_alu.proofs.Compares.{less_signed, less_unsigned}
-use Rattle.paris_alu.proofs.order.less.Goals.{in-Unsigned, in-Signed}
-use Rattle.paris_alu.proofs.order.less.Goals as goal
+use Rattle.paris_alu.proofs.comparisons.less.Goals.{in-Unsigned, in-Signed}
+use Rattle.paris_alu.proofs.comparisons.less.Goals as goal
 
 pub put_triple-requires-clause-second : goal.put_triple-requires-clause-second
 put_triple-requires-clause-second c =

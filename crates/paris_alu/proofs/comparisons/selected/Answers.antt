@@ -2,7 +2,7 @@ use Rattle.std.proofs.Common.{◌∙◌, ℕ, ap, length}
 use Rattle.paris_plane.proofs.Bits.{written}
 use Rattle.paris_field.specs.Numbers.{field_of}
 use Rattle.paris_alu.proofs.Compares.{selected_field}
-use Rattle.paris_alu.proofs.order.selected.Goals as goal
+use Rattle.paris_alu.proofs.comparisons.selected.Goals as goal
 
 pub returns : goal.returns
 returns c =

@@ -5,7 +5,7 @@ use Rattle.paris_model.specs.Elementwise.{is_less}
 use Rattle.paris_alu.specs.Alu.{comparison_plane, operand}
 use Rattle.paris_alu.proofs.Places.{Holds, held}
 use Rattle.paris_alu.proofs.Compares.{less_mask, turned, turned_twice, unlike_plane}
-use Rattle.paris_alu.proofs.order.compare.Goals as goal
+use Rattle.paris_alu.proofs.comparisons.compare.Goals as goal
 
 pub returns-in_ok-unlike-in-Equal : goal.returns-in_ok-unlike-in-Equal
 returns-in_ok-unlike-in-Equal c =
