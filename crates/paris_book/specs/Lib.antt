@@ -2,6 +2,7 @@ pub mod Among
 pub mod Entries
 pub mod Events
 pub mod Kept
+pub mod Laws
 pub mod Machine
 pub mod Marks
 pub mod Rounds

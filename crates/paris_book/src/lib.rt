@@ -5,6 +5,7 @@ pub mod book;
 mod edits;
 pub mod events;
 pub mod inputs;
+mod laws;
 mod listing;
 mod looks;
 mod marks;
