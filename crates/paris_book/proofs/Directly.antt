@@ -1,10 +1,11 @@
 -- The input data and the rows of a book meet what the law of direct runs wants.
-use Rattle.std.proofs.Common.{◌≡◌, ℕ, ◌<◌, List, [], ◌∷◌, Option, Some, None, All, refl, sym, ap, ◌∙◌, subst, arith, map, length, take, zero, suc, slice_get}
+use Rattle.std.proofs.Common.{◌≡◌, ℕ, ◌+◌, List, [], ◌∷◌, Option, Some, None, All, refl, sym, ap, ◌∙◌, subst, arith, map, length, take, zero, suc, slice_get}
 use Rattle.std.proofs.lemmas.List.{take-map}
-use Rattle.std.proofs.lemmas.List.Elements.{All-nil, All-head, All-tail, All-take, All-get_or}
+use Rattle.std.proofs.lemmas.List.Elements.{All-nil, All-head, All-tail, All-take, All-get_or, All-more}
 use Rattle.std.proofs.lemmas.Option.{slice_get_within, get_or_from_slice_get}
 use Rattle.std.specs.Option.{option_map}
 use Rattle.paris_names.specs.declared.keys.FlagName.{FlagName}
+use Rattle.paris_names.specs.declared.keys.FlagName.TheVariants.{Context, Test, Carry, Overflow}
 use Rattle.paris_names.specs.declared.keys.Key.{Key}
 use Rattle.paris_names.specs.declared.keys.Key.TheVariants.{Field, Flag}
 use Rattle.paris_geometry.specs.Geometry.{processor_count}
@@ -46,6 +47,18 @@ pub plans_fit : (inputs : Inputs) (es : List Entry) → AllFitted inputs es → 
 plans_fit inputs [] fitted fit = tt
 plans_fit inputs (e ∷ es) fitted fit =
     (record { action = All-head ActionFits e es fit; widths = λ k t. sym (ap width_in_shape (fitted.0 k t)) }, plans_fit inputs es fitted.1 (All-tail ActionFits e es fit))
+
+-- each flag's input data fits, where that of the four does
+pub each_flag_fits : (x : FlagInputs) → InputFits x.context → InputFits x.test → InputFits x.carry → InputFits x.overflow → FlagsFit x
+each_flag_fits x context test carry overflow Context = context
+each_flag_fits x context test carry overflow Test = test
+each_flag_fits x context test carry overflow Carry = carry
+each_flag_fits x context test carry overflow Overflow = overflow
+
+-- one row further
+pub actions_more : (es : List Entry) (i : ℕ) (e : Entry) → slice_get es i ≡ Some e → ActionsFit (take i es) → ActionFits e → ActionsFit (take (i + 1) es)
+actions_more es i e at before fit =
+    All-more ActionFits es i e (slice_get_within es i e at) before (subst ActionFits (sym (get_or_from_slice_get es i e e at)) fit)
 
 -- those of a book
 pub now_direct : (b : Board) (n m : ℕ) (inputs : Inputs) (es : List Entry) (s : State) → state_of b n m inputs es ≡ s → IsWhole b n m inputs es → InputsFit inputs → ActionsFit es → RunIsDirect → NowIsDirect s
