@@ -1,6 +1,6 @@
 //! Operations on each bit by itself.
 
-ghost use Rattle.std.specs.Prelude.{◌≡◌, ◌≤◌, ◌<◌, IfOk, length, ℕ};
+ghost use Rattle.std.specs.Prelude.{◌≡◌, ◌≤◌, IfOk, length, ℕ};
 ghost use Rattle.std.specs.Simd.Lanes.{zip2};
 ghost use Rattle.paris_model.specs.declared.operators.UnaryOperator.TheVariants.{BitNot, Move};
 ghost use Rattle.paris_field.specs.Numbers.{AllOf, field_of};
@@ -45,7 +45,6 @@ pub fn logic(
     y: &FieldValue,
     len: u64,
 ) -> Result<FieldValue, AllocError>
-    requires some { 0 < len }
     requires narrow { len ≤ 128 }
     requires x_width { len ≤ x.now.width }
     requires y_width { len ≤ y.now.width }
@@ -64,7 +63,6 @@ pub fn logic(
 
 /// The low `len` bits of a field, each turned.
 pub fn invert(alloc: Global, x: &FieldValue, len: u64) -> Result<FieldValue, AllocError>
-    requires some { 0 < len }
     requires narrow { len ≤ 128 }
     requires x_width { len ≤ x.now.width }
     ensures { IfOk result (λ value. value ≡ unary_field BitNot len x.now) }
@@ -75,7 +73,6 @@ pub fn invert(alloc: Global, x: &FieldValue, len: u64) -> Result<FieldValue, All
 
 /// The low `len` bits of a field.
 pub fn copy_low(alloc: Global, x: &FieldValue, len: u64) -> Result<FieldValue, AllocError>
-    requires some { 0 < len }
     requires narrow { len ≤ 128 }
     requires x_width { len ≤ x.now.width }
     ensures { IfOk result (λ value. value ≡ unary_field Move len x.now) }

@@ -3,6 +3,7 @@ pub mod Calls
 pub mod Countdown
 pub mod Declares
 pub mod Deletes
+pub mod Directly
 pub mod DueFaults
 pub mod EditLemmas
 pub mod Entering

@@ -33,7 +33,7 @@ use Rattle.paris_book.specs.declared.look.Look.{Look}
 use Rattle.paris_book.specs.declared.look.Look.TheVariants.{Settled as LookSettled, Pending as LookPending}
 use Rattle.paris_book.proofs.Inserts.{state_of}
 
-map-row : (es : List Entry) → map row_plan (map row_of es) ≡ map plan_of es
+pub map-row : (es : List Entry) → map row_plan (map row_of es) ≡ map plan_of es
 map-row [] = refl
 map-row (e ∷ es) = ap (λ x. e.plan ∷ x) (map-row es)
 

@@ -1,6 +1,6 @@
 //! The input data: what each key holds at the start of the program.
 
-ghost use Rattle.std.specs.Prelude.{◌≡◌, ◌<◌, ◌≤◌, ◌+◌, ◌^◌, ◌++◌, ◌∷◌, [], ℕ, nat_le, length, replicate, position, None, IfOk, IfErr, IsSome, vec_len, vec_capacity};
+ghost use Rattle.std.specs.Prelude.{◌≡◌, ◌<◌, ◌≤◌, ◌+◌, ◌^◌, ◌++◌, ◌∷◌, [], ℕ, length, replicate, None, IfOk, IfErr, IsSome, vec_len, vec_capacity};
 ghost use Rattle.paris_names.specs.Faults.{IsFaultOf};
 ghost use Rattle.paris_field.specs.Fields.{AllFit, overwritten};
 ghost use Rattle.std.specs.Option.{option_copied};
@@ -51,23 +51,6 @@ pub(crate) fn set_input(inputs: &mut InputData, key: &Key, input: Input)
     }
 }
 
-/// Whether a number needs more bits than a width has.
-fn is_too_wide(width: u64, number: u128) -> bool
-    requires { width ≤ 128 }
-    ensures { result ≡ nat_le (2 ^ width) number }
-{
-    width < 128 && number >= 1u128 << width
-}
-
-/// The place of the first number that doesn't fit a width.
-fn first_too_wide(width: u64, numbers: &[u128]) -> Option<usize>
-    requires { width ≤ 128 }
-    ensures place { result ≡ position (λ x. nat_le (2 ^ width) x) numbers.now }
-    ensures fit { result ≡ None → AllFit width numbers.now }
-{
-    numbers.iter().position(|x| is_too_wide(width, *x))
-}
-
 /// Why values can't be given from a processor on in place of numbers of a key, if they can't.
 fn values_fault(value: &FieldValue, from: u64, values: &[u128]) -> Option<Fault>
     ensures fault { result ≡ fault_of_values (length value.now.numbers) value.now.width from values.now }
@@ -78,7 +61,7 @@ fn values_fault(value: &FieldValue, from: u64, values: &[u128]) -> Option<Fault>
     if values.is_empty() || from > count || values.len() as u64 > count - from {
         return Some(Fault::WrongCount);
     }
-    first_too_wide(value.width(), values).map(|i| Fault::TooWide(from + i as u64))
+    FieldValue::first_too_wide(value.width(), values).map(|i| Fault::TooWide(from + i as u64))
 }
 
 /// Input data with values in place of as many from a processor on, as an edit gives it.

@@ -1,15 +1,95 @@
-//! A law of settling. The function does nothing; what it ensures is the law.
+//! Laws of a book. A run of its program is the one in which each instruction sees the whole world: what that takes of numbers and
+//! plans their types promise, so the functions go over them and learn it. And settling is what takes and results come to.
 
-ghost use Rattle.std.specs.Prelude.{◌≡◌, ℕ, ◌<◌, IsSome};
+ghost use Rattle.std.specs.Prelude.{◌≡◌, ℕ, ◌<◌, All, IsSome};
 ghost use Rattle.paris_machine.specs.Orders.{after_release, take_reply};
 ghost use Rattle.paris_machine.specs.Settling.{all_settled, ran_orders, unsettled_rows};
+ghost use Rattle.paris_book.specs.Among.{inputs_of};
+ghost use Rattle.paris_book.specs.Entries.{entry_of, entries};
+ghost use Rattle.paris_book.specs.Laws.{InputFits, FlagsFit, InputsFit, ActionFits, ActionsFit, NowIsDirect};
 
 use crate::book::Book;
+use crate::inputs::InputData;
+use crate::rows::RowData;
+use paris_machine::{FlagInputs, Input};
+use paris_model::laws::run_is_direct;
+use paris_names::RowId;
+use paris_program::Program;
+
+/// The numbers of input data fit its width.
+fn input_fits(input: &Input)
+    ensures { InputFits input.now }
+{
+    input.value.low(0);
+}
+
+/// So do those of each flag.
+fn flags_fit(flags: &FlagInputs)
+    ensures { FlagsFit flags.now }
+{
+    input_fits(&flags.context);
+    input_fits(&flags.test);
+    input_fits(&flags.carry);
+    input_fits(&flags.overflow);
+}
+
+/// And those of each field.
+fn all_fields_fit(fields: &[Input])
+    ensures { All InputFits fields.now }
+{
+    for input in fields {
+        input_fits(input);
+    }
+}
+
+/// And those of the flags of each set.
+fn all_flags_fit(all: &[FlagInputs])
+    ensures { All FlagsFit all.now }
+{
+    for flags in all {
+        flags_fit(flags);
+    }
+}
+
+/// All input data fits.
+fn inputs_fit(inputs: &InputData)
+    ensures { InputsFit (inputs_of inputs.now) }
+{
+    all_fields_fit(inputs.fields.as_slice());
+    all_flags_fit(inputs.flags.as_slice());
+}
+
+/// The plan of a row fits its set's axes and its operands' widths.
+fn action_fits(id: RowId, row: &RowData)
+    ensures { ActionFits (entry_of (id.0, row.now)) }
+{
+    row.plan.action();
+}
+
+/// So do those of all rows.
+fn actions_fit(rows: &Program<RowData>)
+    ensures { ActionsFit (entries rows.now) }
+{
+    for place in 0..rows.len() {
+        let (id, row) = rows.at(place);
+        action_fits(id, row);
+    }
+}
 
 impl Book {
+    /// At each place, running the program once from the input data gives what the same run gives in which each instruction sees the
+    /// whole world. It changes nothing: what it ensures is the law.
+    pub fn now_is_direct(&self)
+        ensures { NowIsDirect self.now }
+    {
+        inputs_fit(&self.inputs);
+        actions_fit(&self.rows);
+        run_is_direct();
+    }
+
     /// To settle a book is to give up the orders that are out, and then to take an order and bring its result until no row is
-    /// unsettled. As many takes give an order as rows are unsettled.
-    pub fn law_orders_settle(&self)
+    /// unsettled. As many takes give an order as rows are unsettled. It changes nothing: what it ensures is the law.
+    pub fn orders_settle(&self)
         ensures settled { ran_orders (unsettled_rows self.now.rows) (after_release self.now) ≡ all_settled self.now }
         ensures orders { (n : ℕ) → n < unsettled_rows self.now.rows → IsSome (take_reply (ran_orders n (after_release self.now))) }
     {}

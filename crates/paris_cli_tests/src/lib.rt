@@ -6,6 +6,8 @@ mod cuts;
 #[cfg(test)]
 mod gallery;
 #[cfg(test)]
+mod mail_rows;
+#[cfg(test)]
 mod rows;
 #[cfg(test)]
 mod scripts;

@@ -8,7 +8,7 @@ use std::test::*;
 use std::thread::Threads;
 
 /// Runs a script by one, by two and by sixteen workers, and asserts what is written and the status.
-fn assert_row<H: Abort + Threads + Wait + Sync + AllocGlobal>(
+pub(crate) fn assert_row<H: Abort + Threads + Wait + Sync + AllocGlobal>(
     rt: &H,
     script: &[u8],
     written: &[u8],

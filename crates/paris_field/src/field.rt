@@ -1,6 +1,6 @@
 //! Values of a key: a number for each processor, whose bits lie in planes.
 
-ghost use Rattle.std.specs.Prelude.{◌≡◌, ◌↔◌, ℕ, ◌<◌, ◌≤◌, ◌+◌, ◌/◌, ◌%◌, ◌^◌, IfOk, IsTrue, false, length, map, replicate, slice_index, slice_index_or};
+ghost use Rattle.std.specs.Prelude.{◌≡◌, ◌↔◌, ℕ, ◌<◌, ◌≤◌, ◌+◌, ◌/◌, ◌%◌, ◌^◌, IfOk, IsTrue, None, false, length, map, nat_le, position, replicate, slice_index, slice_index_or};
 ghost use Rattle.paris_model.specs.Store.{bit, low, stored};
 ghost use Rattle.paris_field.specs.Fields.{AllFit, field_eq, overwritten};
 ghost use Rattle.paris_field.specs.Numbers.{AllOf, bit_in, field_of, number_at};
@@ -54,6 +54,15 @@ impl FieldValue {
         let mut planes = zero_planes(alloc, width as usize, vps)?;
         put_all(&mut planes, numbers);
         Ok(FieldValue { planes, vps })
+    }
+
+    /// The place of the first number that doesn't fit this width in bits, up to 128.
+    pub fn first_too_wide(width: u64, numbers: &[u128]) -> Option<usize>
+        requires { width ≤ 128 }
+        ensures place { result ≡ position (λ x. nat_le (2 ^ width) x) numbers.now }
+        ensures fit { result ≡ None → AllFit width numbers.now }
+    {
+        numbers.iter().position(|x| is_too_wide(width, *x))
     }
 
     /// The value whose bits are these planes, the lowest first, each with a bit for each of `vps` processors.
@@ -202,4 +211,12 @@ impl FieldValue {
     {
         merge_planes(&mut self.planes, mask, other, len as usize);
     }
+}
+
+/// Whether a number needs more bits than a width has.
+fn is_too_wide(width: u64, number: u128) -> bool
+    requires { width ≤ 128 }
+    ensures { result ≡ nat_le (2 ^ width) number }
+{
+    width < 128 && number >= 1u128 << width
 }

@@ -9,7 +9,7 @@ use paris_names::FlagName;
 
 /// Some of the four flags. A clause sees them by `flags_in`, in the order context, test, carry, overflow. Bits beside those of
 /// the four stand for nothing.
-#[derive(Clone, Copy, PartialEq, Eq, Debug)]
+#[derive(Clone, Copy, Debug)]
 pub struct FlagSet(u8);
 
 bitflag_items! {

@@ -2,6 +2,7 @@ pub mod Agreement
 pub mod Combining
 pub mod Counts
 pub mod Direct
+pub mod DirectRuns
 pub mod Meanings
 mod MovingRows
 mod Rows

@@ -258,3 +258,48 @@ and-send-start = value_at (Field 0 ∷ Field 1 ∷ Field 2 ∷ Flag 0 Context �
 send-with-and-keeps-common-bits : run and-send-start and-send-plans (Field 2) ≡ (255 ∷ 4 ∷ 255 ∷ 3 ∷ [])
 unfolding one outcome reads writes
 send-with-and-keeps-common-bits = refl
+
+-- get-1L d ad v 8 (ad 3 bits, v 8 bits, d 8 bits); the second processor isn't selected, and holds an address outside the set
+abbrev short-get-plans : List Plan
+short-get-plans = on (4 ∷ []) (ByMail (Mail.Get (wide 2 8) (wide 0 3) (wide 1 8) 8)) ∷ []
+
+abbrev unselected-outside-start : World
+unselected-outside-start = value_at (Field 0 ∷ Field 1 ∷ Field 2 ∷ Field 3 ∷ Flag 0 Context ∷ []) ((2 ∷ 7 ∷ 3 ∷ 0 ∷ []) ∷ (1 ∷ 2 ∷ 3 ∷ 4 ∷ []) ∷ (10 ∷ 20 ∷ 30 ∷ 40 ∷ []) ∷ (0 ∷ 1 ∷ 0 ∷ 0 ∷ []) ∷ (1 ∷ 0 ∷ 1 ∷ 1 ∷ []) ∷ [])
+
+get-passes-over-an-unselected-address : run unselected-outside-start short-get-plans (Field 2) ≡ (3 ∷ 20 ∷ 4 ∷ 1 ∷ [])
+unfolding one outcome reads writes
+get-passes-over-an-unselected-address = refl
+
+-- send-1L d ad v 8 n (ad 3 bits, v 8 bits, d 8 bits, n 1 bit)
+send-passes-over-an-unselected-address : run unselected-outside-start send-plans (Field 2) ≡ (4 ∷ 20 ∷ 1 ∷ 3 ∷ [])
+unfolding one outcome reads writes
+send-passes-over-an-unselected-address = refl
+
+an-unselected-address-refuses-no-send : cause unselected-outside-start send-plans 0 ≡ None
+unfolding one outcome reads writes
+an-unselected-address-refuses-no-send = refl
+
+-- send-with-u-add-1L d ad v 8 n (ad 3 bits, v 8 bits, d 8 bits, n 1 bit)
+combining-send-passes-over-an-unselected-address : run unselected-outside-start combining-send-plans (Field 2) ≡ (14 ∷ 20 ∷ 31 ∷ 43 ∷ [])
+unfolding one outcome reads writes
+combining-send-passes-over-an-unselected-address = refl
+
+combining-send-notifies-by-the-selected : run unselected-outside-start combining-send-plans (Field 3) ≡ (1 ∷ 0 ∷ 1 ∷ 1 ∷ [])
+unfolding one outcome reads writes
+combining-send-notifies-by-the-selected = refl
+
+-- the second processor isn't selected, and it, the third and the fourth hold addresses outside the set
+abbrev selected-outside-start : World
+selected-outside-start = value_at (Field 0 ∷ Field 1 ∷ Field 2 ∷ Field 3 ∷ Flag 0 Context ∷ []) ((2 ∷ 7 ∷ 5 ∷ 4 ∷ []) ∷ (1 ∷ 2 ∷ 3 ∷ 4 ∷ []) ∷ (10 ∷ 20 ∷ 30 ∷ 40 ∷ []) ∷ (0 ∷ 1 ∷ 0 ∷ 0 ∷ []) ∷ (1 ∷ 0 ∷ 1 ∷ 1 ∷ []) ∷ [])
+
+a-get-names-the-least-selected-sender : cause selected-outside-start short-get-plans 0 ≡ Some (BadAddress 2)
+unfolding one outcome reads writes
+a-get-names-the-least-selected-sender = refl
+
+a-send-names-the-least-selected-sender : cause selected-outside-start send-plans 0 ≡ Some (BadAddress 2)
+unfolding one outcome reads writes
+a-send-names-the-least-selected-sender = refl
+
+a-combining-send-names-the-least-selected-sender : cause selected-outside-start combining-send-plans 0 ≡ Some (BadAddress 2)
+unfolding one outcome reads writes
+a-combining-send-names-the-least-selected-sender = refl

@@ -1,5 +1,5 @@
 -- Laws of the definitions, in the words of the subject.
-use Rattle.std.specs.Prelude.{◌≡◌, ℕ, ◌^◌, ◌<◌, ◌==◌, ◌++◌, List, [], ◌∷◌, All, length, slice_index, Bool, false, map, take, drop, if◌then◌else◌, Some, None, Err, true}
+use Rattle.std.specs.Prelude.{◌≡◌, ℕ, ◌^◌, ◌<◌, ◌==◌, ◌++◌, List, [], ◌∷◌, All, length, slice_index, Bool, false, map, take, drop, ◌||◌, if◌then◌else◌, Some, None, Err, true}
 use Rattle.paris_names.specs.declared.keys.Key.{Key}
 use Rattle.paris_names.specs.declared.keys.Key.TheVariants.{Field}
 use Rattle.paris_names.specs.Keys.{has_key, key_eq}
@@ -21,7 +21,7 @@ use Rattle.paris_model.specs.Lines.{combined_values, stores_on_line}
 use Rattle.paris_model.specs.Mail.{gets_mail, mail_of}
 use Rattle.paris_model.specs.Fits.{IsFit}
 use Rattle.paris_model.specs.Instructions.{Plan, reads, writes, key_width, frame_of, outcome, given, one, after, refusal}
-use Rattle.paris_model.specs.Run.{run}
+use Rattle.paris_model.specs.Run.{run, direct_run}
 use Rattle.paris_model.specs.Recipe.{Recipe, past}
 use Rattle.paris_model.specs.Recipe.Recipe.{Start, Made, End, And}
 
@@ -70,6 +70,23 @@ OneIsDirect = (p : Plan) (w : World) → IsFit p.axes p.action → UnreadFit p w
 -- a plan that is refused leaves every key
 abbrev pub RefusedLeavesAll : Type 0
 RefusedLeavesAll = (p : Plan) (w : World) (cause : Refusal) → refusal p w ≡ Some cause → (k : Key) → one p w k ≡ w k
+
+-- the numbers of a world fit these widths
+abbrev pub WorldFits : (Key → ℕ) → World → Type 0
+WorldFits width w = (k : Key) → All (λ x. x < 2 ^ width k) (w k)
+
+-- a plan is fit, and the keys that it reads and writes have these widths
+pub record PlanFits (width : Key → ℕ) (p : Plan) : Type 0 where
+  pub action : IsFit p.axes p.action
+  pub widths : (k : Key) → (has_key (reads p) k || has_key (writes p) k) ≡ true → key_width p k ≡ width k
+
+abbrev pub PlansFit : (Key → ℕ) → List Plan → Type 0
+PlansFit width [] = Unit {0}
+PlansFit width (p ∷ ps) = PlanFits width p × PlansFit width ps
+
+-- where plans and the numbers at the start fit the widths of the keys, a run leaves at each key what the same run leaves in which each instruction sees the whole world
+abbrev pub RunIsDirect : Type 0
+RunIsDirect = (width : Key → ℕ) (w : World) (plans : List Plan) → WorldFits width w → PlansFit width plans → (k : Key) → run w plans k ≡ direct_run w plans k
 
 -- whether a processor stores what news brings: a get goes by its own context, and a send by that of the sender
 abbrev pub stores_by_news : Frame → News Operand → ℕ → Bool

@@ -1,6 +1,6 @@
 //! Laws of the definitions. Each function does nothing; what it ensures is the law.
 
-ghost use Rattle.paris_model.specs.Laws.{LeavesOthers, RefusedReadsWrites, SameRecipeSameValue, StaysBelow, RefusalDependsOnReads, DependsOnReads, OneIsDirect, RefusedLeavesAll, LeavesUnstored, CombinedFit, CombinersCommute, CombinersAssociate, UnitsChangeNothing, ScanIsUncut, CopyScanIsUncut};
+ghost use Rattle.paris_model.specs.Laws.{LeavesOthers, RefusedReadsWrites, SameRecipeSameValue, StaysBelow, RefusalDependsOnReads, DependsOnReads, OneIsDirect, RefusedLeavesAll, RunIsDirect, LeavesUnstored, CombinedFit, CombinersCommute, CombinersAssociate, UnitsChangeNothing, ScanIsUncut, CopyScanIsUncut};
 
 /// A plan leaves every key that it doesn't write.
 pub fn leaves_others()
@@ -32,6 +32,11 @@ pub fn depends_on_reads()
 pub fn one_is_direct()
     ensures stores { OneIsDirect }
     ensures refused { RefusedLeavesAll }
+{}
+
+/// A run is the one in which each instruction sees the whole world, where plans and the numbers at the start fit.
+pub fn run_is_direct()
+    ensures { RunIsDirect }
 {}
 
 /// A processor that doesn't store keeps its number at each key that the plan writes.
