@@ -144,7 +144,9 @@ pub fn count_axes(word: &[u8]) -> Option<usize>
 {
     let mut count = 0;
     for part in word.split(|byte| is_joint(*byte)) {
-        number_of_word(part)?;
+        let Some(_) = number_of_word(part) else {
+            return None;
+        };
         count += 1;
     }
     Some(count)
