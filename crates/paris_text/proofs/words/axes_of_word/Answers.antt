@@ -34,4 +34,4 @@ returns c =
     let end = YieldsList-end parts c.loop-part.yielded _ c.loop-part.yielded_by _ _ c.in-None.is c.next.ensures.steps in
     let all = slice_split (λ b. nat_eq b 120) c.args.word.now in
     let over : drop (length c.loop-part.yielded) all ≡ [] = drop_all (length c.loop-part.yielded) all (omega (arith, end.1)) in
-    rw (c.loop-part.invariant.2, over) (ap Some (sym (append-nil c.loop-part.axes.items)))
+    rw (c.new.ensures, c.loop-part.invariant.2, over) (ap Some (sym (append-nil c.loop-part.axes.items)))
