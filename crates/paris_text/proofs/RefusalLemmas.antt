@@ -6,7 +6,7 @@ use Rattle.std.proofs.lemmas.Result.{err_from_is_err_and}
 use Rattle.paris_names.specs.declared.faults.Fault.{Fault}
 use Rattle.paris_names.specs.declared.faults.Fault.TheVariants.{Syntax}
 use Rattle.paris_text.specs.declared.reader.Syntax as reader
-use Rattle.paris_text.specs.Reading.{Gives, Place, place, ◌>>=◌}
+use Rattle.paris_text.specs.Reading.{Gives, Place, place}
 use Rattle.paris_text.specs.CommandReading.{IsRefusal, GivesIfRoom, verb_at, rest_at, command_at, command_of}
 use Rattle.paris_text.specs.declared.verbs.Verb.{Verb}
 use Rattle.paris_text.specs.Words.{words}
@@ -17,11 +17,6 @@ pub column_given : {X Y : Type 0} (view : X → Y) (r : Result X Fault) (read : 
 column_given view r read e given stops =
     let p = err_from_is_err_and r given in
     rw (p.1, stops) p.2
-
--- what is made of what was read is refused as that is
-pub refused_on : {X Y : Type 0} (f : X → Y) (read : Result X ℕ) (fault : Fault) → IsRefusal read fault → IsRefusal (read >>= λ x. Ok (f x)) fault
-refused_on f (Ok x) fault h = h
-refused_on f (Err e) fault h = h
 
 pub given_ok : {X : Type 0} (r : Result X reader.Syntax) (read : Result X ℕ) (x : X) → Gives (λ y. y) r read → r ≡ Ok x → read ≡ Ok x
 given_ok (Ok y) read x h e = let same : y ≡ x = cc in h ∙ ap Ok same

@@ -1,11 +1,10 @@
 -- How many values are read.
-use Rattle.std.proofs.Common.{◌≡◌, ℕ, ◌+◌, List, [], ◌∷◌, length, Option, None, Some, Result, Ok, Err, refl, ap, ◌∙◌, arith, option_map}
-use Rattle.paris_names.specs.declared.faults.Fault.TheVariants.{NoMemory}
+use Rattle.std.proofs.Common.{◌≡◌, ℕ, ◌+◌, List, [], ◌∷◌, length, Option, None, Some, Result, Ok, Err, refl, ap, arith, option_map}
 use Rattle.paris_text.specs.Words.{axes_word}
 use Rattle.paris_text.specs.Kinds.Kind.{ValueWord, AxesWord}
 use Rattle.paris_text.specs.Shapes.Shape.{Done, One}
 use Rattle.paris_text.specs.Reading.{Place, place, ◌>>=◌, word_at, kind_at, end_at}
-use Rattle.paris_text.specs.CommandReading.{IsRefusal, many_at, shape_at}
+use Rattle.paris_text.specs.CommandReading.{many_at, shape_at}
 use Rattle.paris_text.specs.Room.{values_room, axes_room}
 use Rattle.paris_text.proofs.PlaceLemmas.{word_reads, word_fails}
 use Rattle.paris_text.proofs.ManyLemmas.{behind, many_fails, many_last, many_more}
@@ -17,10 +16,6 @@ plus count r = r >>= λ n. Ok (count + n)
 pub plus_more : (count : ℕ) (r : Result ℕ ℕ) → plus count (plus 1 r) ≡ plus (count + 1) r
 plus_more count (Ok n) = ap Ok (omega arith)
 plus_more count (Err e) = refl
-
-pub plus_none : (r : Result ℕ ℕ) → r ≡ plus 0 r
-plus_none (Ok n) = ap Ok (omega arith)
-plus_none (Err e) = refl
 
 one_more : (x : ℕ) (r : Result (List ℕ) ℕ) → (behind (x ∷ []) r >>= λ xs. Ok (length xs)) ≡ plus 1 (r >>= λ xs. Ok (length xs))
 one_more x (Ok xs) = ap Ok (omega arith)
@@ -35,11 +30,6 @@ room_last p x c h = rw (many_last ValueWord p x c h) refl
 pub room_more : (p : Place) (x c : ℕ) (w : List ℕ) (ws : List (List ℕ)) → kind_at ValueWord p ≡ Ok (x, (c, w ∷ ws))
     → values_room p ≡ plus 1 (values_room (c, w ∷ ws))
 room_more p x c w ws h = rw (many_more ValueWord p x c w ws h) (one_more x (many_at ValueWord (c, w ∷ ws)))
-
--- where it is known how many they are, no column is due
-pub no_column : (read : Result (List ℕ) ℕ) (n : ℕ) → (read >>= λ xs. Ok (length xs)) ≡ Ok n → IsRefusal read NoMemory
-no_column (Ok xs) n h = refl
-no_column (Err e) n h = cc
 
 -- so many numbers, and one more behind them
 pub lengths_on : (count n : ℕ) (o : Option (List ℕ)) → option_map (λ ns. count + length ns) (option_map (λ ns. n ∷ ns) o) ≡ option_map (λ ns. (count + 1) + length ns) o

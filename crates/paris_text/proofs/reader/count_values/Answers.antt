@@ -1,6 +1,5 @@
-use Rattle.std.proofs.Common.{◌≡◌, ◌+◌, ◌<◌, ◌≤◌, length, rules, arith, refl, sym, ap, ◌∙◌, ℕ, ◌∷◌, [], Ok, Err}
-use Rattle.paris_text.specs.Kinds.Kind.{ValueWord}
-use Rattle.paris_text.specs.Reading.{place, kind_at}
+use Rattle.std.proofs.Common.{◌≡◌, ◌+◌, ◌<◌, ◌≤◌, length, rules, arith, refl, ap, ◌∙◌, Ok, Err}
+use Rattle.paris_text.specs.Reading.{place}
 use Rattle.paris_text.specs.Room.{values_room}
 use Rattle.paris_text.proofs.PlaceLemmas.{place_over, place_step}
 use Rattle.paris_text.proofs.RoomLemmas.{plus, plus_more, room_fails, room_last, room_more}

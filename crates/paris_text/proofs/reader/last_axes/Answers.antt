@@ -1,4 +1,4 @@
-use Rattle.std.proofs.Common.{◌≡◌, ◌+◌, sym, None, Some, Err, refl}
+use Rattle.std.proofs.Common.{◌≡◌, sym, None, Some, Err, refl}
 use Rattle.paris_text.specs.Words.{axes_word}
 use Rattle.paris_text.specs.Kinds.Kind.{AxesWord}
 use Rattle.paris_text.specs.Reading.{word_at, kind_at, place}
