@@ -1,10 +1,12 @@
 // Refuses allocations of a program, as if there were no more memory. It is loaded before the C library, by LD_PRELOAD.
-// REFUSE=N refuses the Nth allocation, counted from 1, and REFUSE=N.. that one and all behind it.
+// REFUSE=N refuses the Nth allocation, counted from 1, and REFUSE=N.. that one and all behind it. LEAST=BYTES counts and refuses
+// those alone that ask for so many bytes or more.
 // Where one was refused, the file that REFUSED names is made.
 #include <errno.h>
 #include <fcntl.h>
 #include <stdatomic.h>
 #include <stddef.h>
+#include <stdint.h>
 #include <stdlib.h>
 #include <string.h>
 #include <unistd.h>
@@ -17,6 +19,7 @@ extern void *__libc_memalign(size_t alignment, size_t size);
 static atomic_long asked;
 static long first;
 static long last;
+static size_t least;
 static const char *mark;
 
 __attribute__((constructor)) static void read_words(void)
@@ -27,13 +30,15 @@ __attribute__((constructor)) static void read_words(void)
     char *end;
     first = strtol(word, &end, 10);
     last = strcmp(end, "..") == 0 ? 0x7fffffff : first;
+    const char *bytes = getenv("LEAST");
+    least = bytes == NULL ? 0 : strtoul(bytes, NULL, 10);
     mark = getenv("REFUSED");
     atomic_store(&asked, 0);
 }
 
-static int is_refused(void)
+static int is_refused(size_t size)
 {
-    if (first == 0)
+    if (first == 0 || size < least)
         return 0;
     long number = atomic_fetch_add(&asked, 1) + 1;
     if (number < first || number > last)
@@ -46,22 +51,29 @@ static int is_refused(void)
 
 void *malloc(size_t size)
 {
-    return is_refused() ? NULL : __libc_malloc(size);
+    return is_refused(size) ? NULL : __libc_malloc(size);
+}
+
+// The product, or the greatest size where there is none so great.
+static size_t bytes_of(size_t count, size_t size)
+{
+    size_t bytes;
+    return __builtin_mul_overflow(count, size, &bytes) ? SIZE_MAX : bytes;
 }
 
 void *calloc(size_t count, size_t size)
 {
-    return is_refused() ? NULL : __libc_calloc(count, size);
+    return is_refused(bytes_of(count, size)) ? NULL : __libc_calloc(count, size);
 }
 
 void *realloc(void *block, size_t size)
 {
-    return is_refused() ? NULL : __libc_realloc(block, size);
+    return is_refused(size) ? NULL : __libc_realloc(block, size);
 }
 
 void *memalign(size_t alignment, size_t size)
 {
-    return is_refused() ? NULL : __libc_memalign(alignment, size);
+    return is_refused(size) ? NULL : __libc_memalign(alignment, size);
 }
 
 void *aligned_alloc(size_t alignment, size_t size)

@@ -2,8 +2,7 @@
 
 use paris_model::Instr;
 use paris_names::{KeyName, Name};
-use paris_text::read_instr;
-use paris_text::words::key_of_word;
+use paris_text::{key_of_word, read_instr};
 use std::process::Abort;
 
 /// A text, as a table has it.

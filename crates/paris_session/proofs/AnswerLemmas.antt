@@ -1,7 +1,7 @@
 -- What a session answers, by what its book said.
-use Rattle.std.proofs.Common.{◌≡◌, ℕ, ◌+◌, List, [], ◌∷◌, ◌++◌, length, Option, None, Some, Result, Ok, Err, sym, ap, ◌∙◌, ◌≤◌, arith, nat_eq, nat_lt, true, false, if◌then◌else◌, ◌⊎◌, inl, inr}
+use Rattle.std.proofs.Common.{◌≡◌, ℕ, ◌+◌, List, [], ◌∷◌, ◌++◌, length, Option, None, Some, Result, Ok, Err, sym, ap, ◌∙◌, ◌≤◌, arith, nat_eq, nat_lt, true, false, if◌then◌else◌}
 use Rattle.std.specs.Prelude.{slice_index}
-use Rattle.paris_text.specs.CommandReading.{command_of}
+use Rattle.paris_text.specs.CommandReading.{command_of, IsRefusal}
 use Rattle.paris_text.specs.declared.commands.Command.{Command}
 use Rattle.paris_text.specs.declared.commands.Command.TheVariants as command
 use Rattle.paris_names.specs.declared.faults.Fault.{Fault}
@@ -96,11 +96,13 @@ rows_settled s new ran text after count said =
     ap (λ (x : State). (moved s x s.tray, text)) after ∙ ap (λ (t : List ℕ). (moved s (all_settled s.state) s.tray, t)) (said ∙ ap settled_text count)
 
 -- a line that is no command, where memory isn't what is wanted
-pub line_refused : (s : Sitting) (line : List ℕ) (fault : Fault) (out : Sitting × List ℕ)
-    → (fault ≡ NoMemory) ⊎ ((column : ℕ) × (fault ≡ Syntax column) × (command_of line ≡ Err column))
+pub line_refused : (s : Sitting) (line : List ℕ) (fault : Fault) (out : Sitting × List ℕ) → IsRefusal (command_of line) fault
     → (fault ≡ NoMemory → ⊥) → out ≡ refused s fault → out ≡ commanded_by s (command_of line)
-line_refused s line fault out (inl none) other said = absurd (other none)
-line_refused s line fault out (inr (column, same, err)) other said = said ∙ ap (refused s) same ∙ ap (commanded_by s) (sym err)
+line_refused s line fault out = go (command_of line)
+  where
+    go : (read : Result Command ℕ) → IsRefusal read fault → (fault ≡ NoMemory → ⊥) → out ≡ refused s fault → out ≡ commanded_by s read
+    go (Ok c) none other said = absurd (other none)
+    go (Err column) due other said = said ∙ ap (refused s) due
 
 edited_count : (s : Sitting) (e : Edit) → (edited s e).0.commands ≤ s.commands + 1
 unfolding edited

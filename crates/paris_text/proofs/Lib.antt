@@ -9,6 +9,7 @@ pub mod StepLemmas
 pub mod ReadingLemmas
 pub mod RefusalLemmas
 pub mod ManyLemmas
+pub mod RoomLemmas
 pub mod InstructionLemmas
 pub mod WritingLemmas
 pub mod ColumnLemmas

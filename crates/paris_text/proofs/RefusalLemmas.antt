@@ -1,5 +1,5 @@
 -- A reader's refusal is the column at which reading stops.
-use Rattle.std.proofs.Common.{◌≡◌, ℕ, List, Result, Ok, Err, refl, ◌∙◌, ap, inr}
+use Rattle.std.proofs.Common.{◌≡◌, ℕ, List, Result, Ok, Err, refl, ◌∙◌, ap}
 use Rattle.std.specs.Prelude.{IfOk, IfErr}
 use Rattle.std.specs.Result.{IsErrAnd}
 use Rattle.std.proofs.lemmas.Result.{err_from_is_err_and}
@@ -16,7 +16,7 @@ use Rattle.paris_text.proofs.PlaceLemmas.{place_start}
 pub column_given : {X Y : Type 0} (view : X → Y) (r : Result X Fault) (read : Result Y ℕ) (e : ℕ) → IsErrAnd r (λ fault. fault ≡ Syntax e) → read ≡ Err e → GivesIfRoom view r read
 column_given view r read e given stops =
     let p = err_from_is_err_and r given in
-    rw p.1 (inr (e, p.2, stops))
+    rw (p.1, stops) p.2
 
 pub given_ok : {X : Type 0} (r : Result X reader.Syntax) (read : Result X ℕ) (x : X) → Gives (λ y. y) r read → r ≡ Ok x → read ≡ Ok x
 given_ok (Ok y) read x h e = let same : y ≡ x = cc in h ∙ ap Ok same

@@ -1,5 +1,5 @@
 -- Reading a command from the left: the command, or the column of the first word that does not fit.
-use Rattle.std.specs.Prelude.{◌≡◌, ℕ, ◌+◌, List, [], ◌∷◌, length, Result, Ok, Err, codes, if◌then◌else◌, ◌⊎◌}
+use Rattle.std.specs.Prelude.{◌≡◌, ℕ, ◌+◌, List, [], ◌∷◌, length, Result, Ok, Err, codes, if◌then◌else◌}
 use Rattle.std.specs.Str.{bytes_eq}
 use Rattle.paris_names.specs.declared.faults.Fault.{Fault}
 use Rattle.paris_names.specs.declared.faults.Fault.TheVariants.{NoMemory, Syntax}
@@ -87,9 +87,10 @@ command_at p = verb_at p >>= λ first. rest_at first.0 first.1
 unfoldable pub command_of : List ℕ → Result Command ℕ
 command_of line = command_at (1, words line)
 
--- the fault that is due: the column where reading stops, or want of memory
+-- the fault that is due: the column where reading stops; want of memory where nothing stops it
 abbrev pub IsRefusal : {X : Type 0} → Result X ℕ → Fault → Type 0
-IsRefusal read fault = (fault ≡ NoMemory) ⊎ ((column : ℕ) × (fault ≡ Syntax column) × (read ≡ Err column))
+IsRefusal (Ok x) fault = fault ≡ NoMemory
+IsRefusal (Err column) fault = fault ≡ Syntax column
 
 -- what a reader of the code gave, which may want memory, is what reading gives
 abbrev pub GivesIfRoom : {X Y : Type 0} → (X → Y) → Result X Fault → Result Y ℕ → Type 0

@@ -9,4 +9,5 @@ pub mod Verbs
 pub mod Shapes
 pub mod Commands
 pub mod CommandReading
+pub mod Room
 pub mod Laws

@@ -6,7 +6,7 @@ ghost use Rattle.paris_text.specs.CommandReading.{GivesIfRoom, IsRefusal, alone_
 
 use crate::instructions::next_instr;
 use crate::reader::{
-    Syntax, line_end, next_axes, next_key, next_name, next_number, next_spot, next_values,
+    Syntax, last_axes, line_end, next_key, next_name, next_number, next_spot, next_values,
     next_verb,
 };
 use crate::verbs::Verb;
@@ -51,8 +51,7 @@ fn set_command(alloc: Global, line: &[u8], at: usize) -> Result<Command, Fault>
     ensures { GivesIfRoom (λ x. x) result (rest_at Verb.Set (place line.now at)) }
 {
     let (name, at) = next_name(line, at)?;
-    let (axes, at) = next_axes(alloc, line, at)?;
-    line_end(line, at)?;
+    let axes = last_axes(alloc, line, at)?;
     Ok(Command::Set(name, axes))
 }
 

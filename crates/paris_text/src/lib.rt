@@ -1,16 +1,17 @@
 //! The text of a script: the words of a line, and the command that a line spells.
 #![tactic(auto)]
 
-pub mod commands;
-pub mod instructions;
+mod commands;
+mod instructions;
 pub mod laws;
-pub mod mnemonics;
-pub mod reader;
-pub mod verbs;
-pub mod words;
-pub mod writer;
+mod mnemonics;
+mod reader;
+mod verbs;
+mod words;
+mod writer;
 
 pub use commands::{Command, read_command};
 pub use instructions::read_instr;
 pub use reader::Syntax;
+pub use words::key_of_word;
 pub use writer::write_instr;

@@ -7,7 +7,9 @@ ghost use Rattle.paris_names.specs.declared.faults.Fault.TheVariants.{Syntax as 
 ghost use Rattle.paris_text.specs.Kinds.{direction_word, inclusion_word, option_word};
 ghost use Rattle.paris_text.specs.Kinds.Kind.{NameWord, NumberWord, ValueWord, DirectionWord, InclusionWord, OptionWord, KeyWord, AxesWord};
 ghost use Rattle.paris_text.specs.Reading.{place, Gives, word_at, mnemonic_at, kind_at, end_at};
-ghost use Rattle.paris_text.specs.CommandReading.{GivesIfRoom, verb_at, spot_at, many_at};
+ghost use Rattle.paris_text.specs.Shapes.Shape.{Done, One};
+ghost use Rattle.paris_text.specs.CommandReading.{GivesIfRoom, verb_at, spot_at, many_at, shape_at};
+ghost use Rattle.paris_text.specs.Room.{values_room};
 
 use crate::mnemonics::Mnemonic;
 use crate::verbs::Verb;
@@ -160,26 +162,49 @@ pub fn next_key(line: &[u8], at: usize) -> Result<(KeyName, usize), Syntax>
     }
 }
 
-/// The next word as the lengths of axes.
-pub fn next_axes(alloc: Global, line: &[u8], at: usize) -> Result<(Items<u64>, usize), Fault>
+/// The last word of a line as the lengths of axes. Memory is asked for once the line is read to its end.
+pub fn last_axes(alloc: Global, line: &[u8], at: usize) -> Result<Items<u64>, Fault>
     requires { at ≤ length line.now + 1 }
-    ensures gives { GivesIfRoom (λ x. (x.0, place line.now x.1)) result (kind_at AxesWord (place line.now at)) }
-    ensures within { IfOk result (λ x. x.1 ≤ length line.now + 1) }
+    ensures { GivesIfRoom (λ axes. (axes, tt)) result (shape_at (One AxesWord Done) (place line.now at)) }
 {
     let (word, next) = next_word(line, at)?;
-    match words::axes_of_word(alloc, word) {
-        Ok(Some(axes)) => Ok((axes, next)),
+    let Some(count) = words::count_axes(word) else {
+        return Err(Fault::Syntax(at as u64 + 1));
+    };
+    line_end(line, next)?;
+    match words::axes_of_word(alloc, word, count) {
+        Ok(Some(axes)) => Ok(axes),
         Ok(None) => Err(Fault::Syntax(at as u64 + 1)),
         Err(_) => Err(Fault::NoMemory),
     }
 }
 
-/// All words that are left as numbers below `2 ^ 128`; there is one or more.
+/// How many words are left, all of them numbers below `2 ^ 128`; there is one or more.
+fn count_values(line: &[u8], at: usize) -> Result<usize, Syntax>
+    requires { at ≤ length line.now + 1 }
+    ensures { Gives (λ x. x) result (values_room (place line.now at)) }
+{
+    let mut count = 0;
+    let mut next = at;
+    loop {
+        let (_, after) = next_value(line, next)?;
+        count += 1;
+        if line.len() < after {
+            return Ok(count);
+        }
+        next = after;
+    }
+}
+
+/// All words that are left as numbers below `2 ^ 128`; there is one or more. Memory is asked for once all of them are read.
 pub fn next_values(alloc: Global, line: &[u8], at: usize) -> Result<Items<u128>, Fault>
     requires { at ≤ length line.now + 1 }
     ensures { GivesIfRoom (λ x. x) result (many_at ValueWord (place line.now at)) }
 {
-    let mut values = Vec::new(alloc);
+    let count = count_values(line, at)?;
+    let Ok(mut values) = Vec::with_capacity(alloc, count) else {
+        return Err(Fault::NoMemory);
+    };
     let mut next = at;
     loop {
         let (value, after) = next_value(line, next)?;

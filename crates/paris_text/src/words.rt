@@ -5,6 +5,7 @@ ghost use Rattle.std.specs.Fmt.{decimal};
 ghost use Rattle.std.specs.List.{position_or_len, list_all};
 ghost use Rattle.std.specs.Option.{IfSome};
 ghost use Rattle.paris_text.specs.Words.{is_digit, is_number, value_from, value_word, number_word, flag_word, key_word, axes_word};
+ghost use Rattle.paris_text.specs.Room.{axes_room};
 
 use paris_names::{FlagName, Items, KeyName, Name};
 use std::alloc::{AllocError, Global};
@@ -131,12 +132,36 @@ pub fn key_of_word(word: &[u8]) -> Option<KeyName>
     })
 }
 
-/// The lengths of axes that a word spells: numbers below `2 ^ 64` that are joined by `x`.
-pub fn axes_of_word(alloc: Global, word: &[u8]) -> Result<Option<Items<u64>>, AllocError>
+fn is_joint(byte: u8) -> bool
+    ensures { result ≡ nat_eq byte 120 }
+{
+    byte == b'x'
+}
+
+/// How many lengths of axes a word spells.
+pub fn count_axes(word: &[u8]) -> Option<usize>
+    ensures { result ≡ axes_room word.now }
+{
+    let mut count = 0;
+    for part in word.split(|byte| is_joint(*byte)) {
+        let Some(_) = number_of_word(part) else {
+            return None;
+        };
+        count += 1;
+    }
+    Some(count)
+}
+
+/// The lengths of axes that a word spells: numbers below `2 ^ 64` that are joined by `x`. Room is made for so many at first.
+pub fn axes_of_word(
+    alloc: Global,
+    word: &[u8],
+    count: usize,
+) -> Result<Option<Items<u64>>, AllocError>
     ensures { IfOk result (λ axes. axes ≡ axes_word word.now) }
 {
-    let mut axes = Vec::new(alloc);
-    for part in word.split(|byte| *byte == b'x') {
+    let mut axes = Vec::with_capacity(alloc, count)?;
+    for part in word.split(|byte| is_joint(*byte)) {
         let Some(axis) = number_of_word(part) else {
             return Ok(None);
         };

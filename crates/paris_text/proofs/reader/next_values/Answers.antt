@@ -13,7 +13,7 @@ returns-in_err-value c =
     let here = place line c.loop-values.next in
     let e = c.in_err-value.field-0.0.0 in
     let stops : many_at ValueWord here ≡ Err e = many_fails ValueWord here e c.in_err-value.ensures.gives in
-    column_given _ c.from_residual.result _ e c.from_residual.ensures.1 (c.loop-values.invariant.same ∙ rw stops refl)
+    column_given _ c.from_residual-in_err-value.result _ e c.from_residual-in_err-value.ensures.1 (c.loop-values.invariant.same ∙ rw stops refl)
 
 pub returns-then-after-line : goal.returns-then-after-line
 returns-then-after-line c =
@@ -24,7 +24,7 @@ returns-then-after-line c =
     let past : length line < after = search rules in
     let gives : kind_at ValueWord here ≡ Ok (value, (after + 1, [])) = rw (place_over line after past) at c.in_ok-value.ensures.gives in
     let last : many_at ValueWord here ≡ Ok (value ∷ []) = many_last ValueWord here value (after + 1) gives in
-    c.loop-values.invariant.same ∙ ap (behind c.loop-values.values.items) last ∙ ap Ok (sym (c.new.ensures ∙ c.in-Ok.ensures.items))
+    c.loop-values.invariant.same ∙ ap (behind c.loop-values.values.items) last ∙ ap Ok (sym (c.new.ensures ∙ c.in-Ok-push.ensures.items))
 
 pub loop-values-preserved : goal.loop-values-preserved
 loop-values-preserved c =
@@ -40,5 +40,5 @@ loop-values-preserved c =
     record {
       within = c.in_ok-value.ensures.within.0;
       same = c.loop-values.invariant.same ∙ ap (behind done) more ∙ behind_more done value (many_at ValueWord (place line after))
-          ∙ ap (λ (vs : List ℕ). behind vs (many_at ValueWord (place line after))) (sym c.in-Ok.ensures.items);
+          ∙ ap (λ (vs : List ℕ). behind vs (many_at ValueWord (place line after))) (sym c.in-Ok-push.ensures.items);
     }
