@@ -255,18 +255,18 @@ impl Session {
         ensures { IfOk result (λ text. (self.new, text.items) ≡ commanded self.old command) }
     {
         match command {
-            Command::Set(name, axes) => self.answer_edit(Edit::AddSet(name, axes)),
-            Command::Field(name, set, width) => {
+            Command::Set { name, axes } => self.answer_edit(Edit::AddSet(name, axes)),
+            Command::Field { name, set, width } => {
                 self.answer_edit(Edit::AddField(name, set, width))
             }
-            Command::Input(key, from, values) => self.answer_edit(Edit::Input(key, from, values)),
-            Command::Insert(spot, instr) => self.answer_edit(Edit::Insert(spot, instr)),
-            Command::Delete(id) => self.answer_edit(Edit::Delete(id)),
-            Command::Replace(id, instr) => self.answer_edit(Edit::Replace(id, instr)),
+            Command::Input { key, from, values } => self.answer_edit(Edit::Input(key, from, values)),
+            Command::Insert { spot, instr } => self.answer_edit(Edit::Insert(spot, instr)),
+            Command::Delete(row) => self.answer_edit(Edit::Delete(row)),
+            Command::Replace { row, instr } => self.answer_edit(Edit::Replace(row, instr)),
             Command::Take => self.answer_take(),
             Command::Bring(number) => self.answer_bring(number),
             Command::Release => self.answer_release(),
-            Command::Show(name, spot) => self.answer_show(name, spot),
+            Command::Show { key, spot } => self.answer_show(key, spot),
             Command::List => self.answer_list(),
             Command::Faults => self.answer_faults(),
             Command::Settle => self.answer_settle(rt),

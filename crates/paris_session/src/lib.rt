@@ -4,5 +4,5 @@
 mod answers;
 mod run;
 
-pub use answers::Summary;
+pub use answers::{Session, Summary};
 pub use run::{RunFault, run_counted, run_script};

@@ -18,17 +18,21 @@ use std::alloc::Global;
 #[derive(Debug, Drop)]
 pub enum Command {
     /// Declares a set of this name, with axes of these lengths.
-    Set(Name, Items<u64>),
+    Set { name: Name, axes: Items<u64> },
     /// Declares a field of this name in the set of that name, with its width in bits.
-    Field(Name, Name, u64),
+    Field { name: Name, set: Name, width: u64 },
     /// Gives a key these values, from a processor on.
-    Input(KeyName, u64, Items<u128>),
+    Input {
+        key: KeyName,
+        from: u64,
+        values: Items<u128>,
+    },
     /// Puts an instruction at a place of the program.
-    Insert(Spot, Instr),
+    Insert { spot: Spot, instr: Instr },
     /// Takes a row out of the program.
     Delete(RowId),
     /// Puts an instruction in the place of a row's.
-    Replace(RowId, Instr),
+    Replace { row: RowId, instr: Instr },
     /// Takes an order for the first row that is ready.
     Take,
     /// Brings the result of the order of this number.
@@ -36,7 +40,7 @@ pub enum Command {
     /// Gives back the orders that were taken.
     Release,
     /// Shows a key at a place of the program.
-    Show(KeyName, Spot),
+    Show { key: KeyName, spot: Spot },
     /// Lists the rows of the program.
     List,
     /// Lists the faults of the rows.
@@ -52,7 +56,7 @@ fn set_command(alloc: Global, line: &[u8], at: usize) -> Result<Command, Fault>
 {
     let (name, at) = next_name(line, at)?;
     let axes = last_axes(alloc, line, at)?;
-    Ok(Command::Set(name, axes))
+    Ok(Command::Set { name, axes })
 }
 
 #[tactic(auto, unfolding(crate::specs::CommandReading::rest_at))]
@@ -64,7 +68,7 @@ fn field_command(line: &[u8], at: usize) -> Result<Command, Syntax>
     let (set, at) = next_name(line, at)?;
     let (width, at) = next_number(line, at)?;
     line_end(line, at)?;
-    Ok(Command::Field(name, set, width))
+    Ok(Command::Field { name, set, width })
 }
 
 #[tactic(auto, unfolding(crate::specs::CommandReading::rest_at))]
@@ -75,7 +79,7 @@ fn input_command(alloc: Global, line: &[u8], at: usize) -> Result<Command, Fault
     let (key, at) = next_key(line, at)?;
     let (from, at) = next_number(line, at)?;
     let values = next_values(alloc, line, at)?;
-    Ok(Command::Input(key, from, values))
+    Ok(Command::Input { key, from, values })
 }
 
 #[tactic(auto, unfolding(crate::specs::CommandReading::rest_at))]
@@ -85,7 +89,7 @@ fn insert_command(line: &[u8], at: usize) -> Result<Command, Syntax>
 {
     let (spot, at) = next_spot(line, at)?;
     let instr = next_instr(line, at)?;
-    Ok(Command::Insert(spot, instr))
+    Ok(Command::Insert { spot, instr })
 }
 
 #[tactic(auto, unfolding(crate::specs::CommandReading::rest_at))]
@@ -105,7 +109,10 @@ fn replace_command(line: &[u8], at: usize) -> Result<Command, Syntax>
 {
     let (row, at) = next_number(line, at)?;
     let instr = next_instr(line, at)?;
-    Ok(Command::Replace(RowId(row), instr))
+    Ok(Command::Replace {
+        row: RowId(row),
+        instr,
+    })
 }
 
 #[tactic(auto, unfolding(crate::specs::CommandReading::rest_at))]
@@ -126,7 +133,7 @@ fn show_command(line: &[u8], at: usize) -> Result<Command, Syntax>
     let (key, at) = next_key(line, at)?;
     let (spot, at) = next_spot(line, at)?;
     line_end(line, at)?;
-    Ok(Command::Show(key, spot))
+    Ok(Command::Show { key, spot })
 }
 
 /// A command that is one word alone.
