@@ -16,8 +16,8 @@ new-requires c = record {
 
 pub returns-clause-fitted : goal.returns-clause-fitted
 returns-clause-fitted c =
-    made_fits c.args.board.now c.in-Ok.plan (
-    rw c.in-Ok.ensures (record {
+    made_fits c.args.board.now c.in_ok-plan.plan (
+    rw c.in_ok-plan.ensures (record {
       known = c.in_ok-action.ensures.known.fields;
       one_set = sym c.is_in_one_set.ensures ∙ c.if-not-is_in_one_set.false;
       set_no = c.set_of_action-set.ensures.value;
