@@ -31,7 +31,7 @@ rows_are c =
     delete_rows (c.self.inside.edits + 1) t.place (has_key (writes t.row.plan)) c.self.inside.rows.rows c.delete.new.self.rows c.unsettle_all.new.rows.rows (ids_in c.in_ok-ids-in-Some.ids.items)
     (c.delete.ensures.rows ∙ ap (remove c.self.inside.rows.rows) (target_place c.self.inside.rows.rows (find_row c.args.self.now c.args.id) c.args.id.0 c.in_ok-below.below t))
     c.unsettle_all.ensures.sound.distinct
-    (c.in_ok-ids-in-Some.ensures.ok
+    (c.in_ok-ids-in-Some.ensures
     ∙ ap (λ ks. touched data_plan (has_key ks) (drop c.in_ok-below.below c.self.inside.rows.rows)) (c.writes.ensures ∙ ap (λ (x : RowData). writes x.plan) same)
     ∙ ap (λ k. touched data_plan (has_key (writes t.row.plan)) (drop k c.self.inside.rows.rows)) t.just_below)
     (c.unsettle_all.ensures.rows ∙ ap (λ js. unsettled_by_ids (c.self.inside.edits + 1) (ids_in js) c.delete.new.self.rows) c.as_slice.ensures.value)

@@ -16,7 +16,7 @@ rows_are c =
     insert_rows c.self.inside.edits c.self.inside.rows.next_id c.args.place c.args.plan c.self.inside.rows.rows c.insert_at.new.self.rows c.unsettle_all.new.rows.rows (ids_in c.in_ok-ids.ids.items)
     (c.in-Ok.ensures.ok.1 ∙ ap (λ d. insert c.self.inside.rows.rows c.args.place (c.self.inside.rows.next_id, d)) c.fresh_row.ensures)
     c.unsettle_all.ensures.sound.distinct
-    (c.in_ok-ids.ensures.ok ∙ ap (λ ks. touched data_plan (has_key ks) (drop c.args.place c.self.inside.rows.rows)) c.writes.ensures)
+    (c.in_ok-ids.ensures ∙ ap (λ ks. touched data_plan (has_key ks) (drop c.args.place c.self.inside.rows.rows)) c.writes.ensures)
     (c.unsettle_all.ensures.rows ∙ ap (λ js. unsettled_by_ids (c.self.inside.edits + 1) (ids_in js) c.insert_at.new.self.rows) c.as_slice.ensures.value)
 
 pub invariant_of-self-2 : goal.invariant_of-self-2

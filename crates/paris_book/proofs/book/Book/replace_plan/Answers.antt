@@ -45,7 +45,7 @@ rows_are c =
     ∙ ap (λ k. with_row c.self.inside.rows.rows k c.fresh_row.result) (target_place c.self.inside.rows.rows (find_row c.args.self.now c.args.id) c.args.id.0 c.args.below t)
     ∙ ap (with_row c.self.inside.rows.rows t.place) c.fresh_row.ensures)
     c.unsettle_all.ensures.sound.distinct
-    (c.in_ok-ids.ensures.ok t.row t.by_id ∙ ap (λ k. touched data_plan (writes_either t.row.plan c.args.plan) (drop k c.self.inside.rows.rows)) t.just_below)
+    (c.in_ok-ids.ensures t.row t.by_id ∙ ap (λ k. touched data_plan (writes_either t.row.plan c.args.plan) (drop k c.self.inside.rows.rows)) t.just_below)
     (c.unsettle_all.ensures.rows ∙ ap (λ js. unsettled_by_ids (c.self.inside.edits + 1) (ids_in js) c.replace.new.self.rows) c.as_slice.ensures.value)
 
 next_is : (c : goal.After-drop-ids) → c.unsettle_all.new.rows.next_id ≡ c.self.inside.rows.next_id

@@ -16,7 +16,7 @@ use Rattle.paris_book.proofs.book.Book.set_input.Goals as goal
 
 rows_are : (c : goal.After-drop-ids) → entries c.unsettle_all.new.rows ≡ swept_entries (c.self.inside.edits + 1) (has_key (c.in_ok-key.key ∷ [])) (entries c.self.inside.rows)
 rows_are c =
-    input_rows (c.self.inside.edits + 1) c.in_ok-key.key c.self.inside.rows.rows c.unsettle_all.new.rows.rows (ids_in c.in_ok-ids.ids.items) c.unsettle_all.ensures.sound.distinct c.in_ok-ids.ensures.ok
+    input_rows (c.self.inside.edits + 1) c.in_ok-key.key c.self.inside.rows.rows c.unsettle_all.new.rows.rows (ids_in c.in_ok-ids.ids.items) c.unsettle_all.ensures.sound.distinct c.in_ok-ids.ensures
     (c.unsettle_all.ensures.rows ∙ ap (λ js. unsettled_by_ids (c.self.inside.edits + 1) (ids_in js) c.self.inside.rows.rows) c.as_slice.ensures.value)
 
 pub invariant_of-self : goal.invariant_of-self
