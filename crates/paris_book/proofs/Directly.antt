@@ -1,5 +1,5 @@
 -- The input data and the rows of a book meet what the law of direct runs wants.
-use Rattle.std.proofs.Common.{◌≡◌, ℕ, ◌+◌, List, [], ◌∷◌, Option, Some, None, All, refl, sym, ap, ◌∙◌, subst, arith, map, length, take, zero, suc, slice_get}
+use Rattle.std.proofs.Common.{◌≡◌, ℕ, ◌+◌, List, [], ◌∷◌, Option, Some, None, All, refl, sym, ap, ◌∙◌, subst, map, take, slice_get}
 use Rattle.std.proofs.lemmas.List.{take-map}
 use Rattle.std.proofs.lemmas.List.Elements.{All-nil, All-head, All-tail, All-take, All-get_or, All-more}
 use Rattle.std.proofs.lemmas.Option.{slice_get_within, get_or_from_slice_get}
@@ -8,9 +8,7 @@ use Rattle.paris_names.specs.declared.keys.FlagName.{FlagName}
 use Rattle.paris_names.specs.declared.keys.FlagName.TheVariants.{Context, Test, Carry, Overflow}
 use Rattle.paris_names.specs.declared.keys.Key.{Key}
 use Rattle.paris_names.specs.declared.keys.Key.TheVariants.{Field, Flag}
-use Rattle.paris_geometry.specs.Geometry.{processor_count}
 use Rattle.paris_board.specs.Board.{Board}
-use Rattle.paris_model.specs.Instructions.{key_width}
 use Rattle.paris_model.specs.Laws.{WorldFits, PlansFit, RunIsDirect}
 use Rattle.paris_field.specs.Fields.{AllFit}
 use Rattle.paris_machine.specs.declared.inputs.Input.{Input}

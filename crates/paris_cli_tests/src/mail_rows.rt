@@ -30,7 +30,7 @@ const ROWS: &[(&[u8], &[u8])] = &[
 #[test]
 fn addresses_of_unselected_processors_are_passed_over(rt: HostRuntime) -> Result<(), Fail> {
     for (script, written) in ROWS {
-        assert_row(&rt, script, written, 0)?;
+        assert_row(&rt, *script, *written, 0)?;
     }
     Ok(())
 }
