@@ -139,7 +139,7 @@ long_cause marks n bound is all =
 -- the cause of a fault while the run answers, before which no call has failed
 pub answer_cause : (fault : RunFault) (old new : Marks) (bound : ℕ) → NoneFailed old → IsWriteFault fault old new → SameReads old new → HasCause fault new bound
 answer_cause faults.Read old new bound none h same = absurd h
-answer_cause faults.Write old new bound none h same = (h, same.2.1 ∙ none.0)
+answer_cause faults.Write old new bound none h same = (h, same.2 ∙ none.0)
 answer_cause faults.TooLong old new bound none h same = absurd h
 answer_cause faults.NoMemory old new bound none h same = (ap (λ (m : Marks). m.read_failed) h ∙ none.0, ap (λ (m : Marks). m.write_failed) h ∙ none.1)
 
