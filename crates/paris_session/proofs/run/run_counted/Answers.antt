@@ -75,7 +75,7 @@ loop-preserved g c =
     ]
 
 pub returns-in-Failed-clause-fault : goal.returns-in-Failed-clause-fault
-returns-in-Failed-clause-fault g c = read_cause c.loop.tally c.read_once.new.tally _ _ c.loop.invariant.marks c.in-Failed.ensures.marks
+returns-in-Failed-clause-fault g c = read_cause c.loop.tally c.read_once.new.tally c.loop.counter c.args.bound c.loop.invariant.marks c.in-Failed.ensures.marks
 
 pub returns-in_err-take_bytes-in-Bytes-clause-fault : goal.returns-in_err-take_bytes-in-Bytes-clause-fault
 returns-in_err-take_bytes-in-Bytes-clause-fault g c =
