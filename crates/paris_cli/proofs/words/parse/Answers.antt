@@ -1,9 +1,9 @@
-use Rattle.std.proofs.Common.{◌≡◌, ◌∙◌, rules, ap, ap₂, List, [], ◌∷◌, Some, true, pos, codes}
+use Rattle.std.proofs.Common.{◌≡◌, ◌∙◌, rules, ap, ap₂, [], ◌∷◌, Some, true, pos, codes}
 use Rattle.std.proofs.lemmas.Result.{err_from_is_err_and}
-use Rattle.clap.specs.Words.{App, Rule, app_of, new_app, new_rule, rule_of}
+use Rattle.clap.specs.Words.{Rule, app_of, new_app, new_rule, rule_of}
 use Rattle.clap.specs.Simple.{app_of_fields, on_top}
 use Rattle.clap.specs.declared.builder.value_parser.ValueParser.TheVariants.{Signed}
-use Rattle.paris_cli.specs.Words.{command_line, workers_option}
+use Rattle.paris_cli.specs.Words.{workers_option}
 use Rattle.paris_cli.proofs.TakenWords.{command_is, word_found, words_taken, words_untaken}
 use Rattle.paris_cli.proofs.words.parse.Goals as goal
 
