@@ -1,10 +1,13 @@
 -- What one call of a reader or a writer does, and what a run keeps of it.
-use Rattle.std.specs.Prelude.{◌≡◌, ℕ, ◌+◌, ◌<◌, ◌≤◌, List, length, take, Option, Bool, true, false}
+use Rattle.std.specs.Prelude.{◌≡◌, ◌≢◌, ℕ, ◌+◌, ◌<◌, ◌≤◌, List, length, take, Option, Result, Ok, IsErrAnd, MatchResult, Bool, true, false}
+use Rattle.std.specs.IoError.{error_kind}
+use Rattle.std.specs.declared.io.Error.{Error}
+use Rattle.std.specs.declared.io.ErrorKind.TheVariants as kind
 use Rattle.std.specs.Io.KnownBytes.{Appends, Consumes, Keeps, IsAtEnd}
-use Rattle.paris_calls.specs.declared.calls.Given.{Given}
-use Rattle.paris_calls.specs.declared.calls.Given.TheVariants.{Bytes as GivenBytes, End as GivenEnd, Interrupted as GivenInterrupted, Failed as GivenFailed}
-use Rattle.paris_calls.specs.declared.calls.Sent.{Sent}
-use Rattle.paris_calls.specs.declared.calls.Sent.TheVariants.{Bytes as SentBytes, Interrupted as SentInterrupted, Failed as SentFailed}
+use Rattle.paris_calls.specs.declared.tally.Given.{Given}
+use Rattle.paris_calls.specs.declared.tally.Given.TheVariants.{Bytes as GivenBytes, End as GivenEnd, Interrupted as GivenInterrupted, Failed as GivenFailed}
+use Rattle.paris_calls.specs.declared.tally.Sent.{Sent}
+use Rattle.paris_calls.specs.declared.tally.Sent.TheVariants.{Bytes as SentBytes, Interrupted as SentInterrupted, Failed as SentFailed}
 
 -- what a run keeps of its calls: how often it has asked its reader, whether the reader has ended, and whether reader and writer have failed
 pub record Marks : Type 0 where
@@ -16,6 +19,19 @@ pub record Marks : Type 0 where
 -- nothing has been called yet
 abbrev pub no_marks : Marks
 no_marks = record { reads = 0; ended = false; read_failed = false; write_failed = false }
+
+-- what a read gives by the reader's answer
+abbrev pub IsGivenBy : Result ℕ Error → Given → Type 0
+IsGivenBy answer (GivenBytes n) = (answer ≡ Ok n) × (0 < n)
+IsGivenBy answer GivenEnd = answer ≡ Ok 0
+IsGivenBy answer GivenInterrupted = IsErrAnd answer (λ e. error_kind e ≡ kind.Interrupted)
+IsGivenBy answer GivenFailed = IsErrAnd answer (λ e. error_kind e ≢ kind.Interrupted)
+
+-- what a write takes by the writer's answer; that no byte was taken is a failure
+abbrev pub IsSentBy : Result ℕ Error → Sent → Type 0
+IsSentBy answer (SentBytes n) = (answer ≡ Ok n) × (0 < n)
+IsSentBy answer SentInterrupted = IsErrAnd answer (λ e. error_kind e ≡ kind.Interrupted)
+IsSentBy answer SentFailed = MatchResult answer (λ n. n ≡ 0) (λ e. error_kind e ≢ kind.Interrupted)
 
 -- what one read into `room` does to the known bytes
 abbrev pub ReadGives : Option (List ℕ) → Option (List ℕ) → List ℕ → Given → Type 0

@@ -2,7 +2,9 @@
 #![tactic(auto)]
 
 mod calls;
+mod tally;
 mod texts;
 
-pub use calls::{Given, Sent, Tally, read_once, write_once};
+pub use calls::{read_once, write_once};
+pub use tally::{Given, Sent, Tally};
 pub use texts::{WriteFailed, write_out};

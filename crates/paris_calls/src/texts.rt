@@ -5,7 +5,8 @@ ghost use Rattle.std.specs.Io.KnownBytes.{Appends};
 ghost use Rattle.paris_calls.specs.Calls.{SameReads};
 ghost use Rattle.paris_calls.specs.Texts.{WritesFront};
 
-use crate::calls::{Sent, Tally, write_once};
+use crate::calls::write_once;
+use crate::tally::{Sent, Tally};
 use std::io::Write;
 use std::sync::Wait;
 
@@ -24,6 +25,7 @@ pub fn write_out<W: Write>(
     ensures err { OnErr result (WritesFront (W.contents writer.old) (W.contents writer.new) text.now) }
     ensures failed { OnErr result (tally.new.write_failed ≡ true) }
     ensures reads { SameReads tally.old tally.new }
+    ensures kept { OnOk result (tally.new ≡ tally.old) }
 {
     let mut rest = text;
     for _ in rt.forever() {

@@ -1,12 +1,17 @@
 -- What a parse by the program's command line says of the words.
-use Rattle.std.proofs.Common.{◌≡◌, ◌⊎◌, ◌∙◌, ℕ, List, [], true, false, refl, ap₂, subst, inl, inr, codes}
-use Rattle.clap.specs.Words.{App, AddsArg, HasKind, IsAmong, Kinds, app_of, fault_of, is_simple_and_free, kind_of, new_app, rule_of, with_rule}
+use Rattle.std.proofs.Common.{◌≡◌, ◌⊎◌, ◌∙◌, ℕ, List, [], Option, Some, None, true, false, refl, ap, ap₂, subst, inl, inr, codes}
+use Rattle.std.specs.Prelude.{option_map, unwrap_or}
+use Rattle.std.specs.Borrow.{Bor}
+use Rattle.clap.specs.Words.{App, AddsArg, HasKind, HasMatchesOf, IsAmong, Kinds, app_of, fault_of, first_of, first_value, found_of, is_simple_and_free, kind_of, matches_of, new_app, rows_of, rule_of, with_rule}
+use Rattle.clap.specs.Simple.{is_simple as has_matches}
 use Rattle.clap.specs.Simple.{on_top}
 use Rattle.clap.specs.declared.builder.arg.Arg.{Arg}
 use Rattle.clap.specs.declared.builder.command.Command.{Command}
 use Rattle.clap.specs.declared.error.Error.{Error}
+use Rattle.clap.specs.declared.parser.matches.ArgMatches.{ArgMatches}
 use Rattle.clap.specs.declared.error.kind.ErrorKind.TheVariants.{OutOfMemory}
 use Rattle.clap.proofs.OnLiterals.{clap_on_literals}
+use Rattle.clap.proofs.WalkLemmas.{first_value-rows}
 use Rattle.paris_cli.specs.Words.{AreTaken, command_line, workers_option}
 
 pub is_simple : is_simple_and_free command_line ≡ true
@@ -30,3 +35,20 @@ words_untaken a words e same kinds =
       | inl none ↦ inl none
       | inr among ↦ inr (λ taken. let Q : Kinds → Type 0 = λ ks. IsAmong (kind_of e) ks in subst Q taken among)
     ]
+
+line_has_matches : has_matches command_line ≡ true
+unfolding clap_on_literals
+line_has_matches = refl
+
+-- the word that a parse found is the one that the definitions give
+pub word_found : (a : App) (words : List (List ℕ)) (m : ArgMatches) (found : Option (Bor (List ℕ))) (other : Bor (List ℕ)) (word : List ℕ) → a ≡ command_line
+    → HasMatchesOf a words m → option_map (λ s. s.now) found ≡ first_value (found_of m) (codes "workers")
+    → first_of (codes "workers") (matches_of command_line words) ≡ Some word → (unwrap_or found other).now ≡ word
+word_found a words m found other word same matches got first =
+    let P : App → Type 0 = λ b. has_matches b ≡ true → rows_of (found_of m) ≡ matches_of b words in
+    let rows : rows_of (found_of m) ≡ matches_of command_line words = (subst P same (λ h. (matches h).0)) line_has_matches in
+    of_some found (got ∙ first_value-rows (found_of m) (codes "workers") ∙ ap (first_of (codes "workers")) rows ∙ first)
+  where
+    of_some : (o : Option (Bor (List ℕ))) → option_map (λ s. s.now) o ≡ Some word → (unwrap_or o other).now ≡ word
+    of_some None h = cc
+    of_some (Some s) h = ap (λ (x : Option (List ℕ)). unwrap_or x []) h

@@ -1,9 +1,10 @@
 -- What the program does on its reader and its writers, by its exit status.
-use Rattle.std.specs.Prelude.{◌≡◌, ℕ, ◌==◌, List, Option, codes, if◌then◌else◌}
+use Rattle.std.specs.Prelude.{◌≡◌, ℕ, ◌==◌, List, Option, codes, false, if◌then◌else◌}
 use Rattle.std.specs.Io.KnownBytes.{Appends, Consumes, Keeps, IsAtEnd}
 use Rattle.paris_session.specs.Transcript.{transcript, sitting_after}
+use Rattle.paris_calls.specs.Calls.{Marks, no_marks}
 use Rattle.paris_calls.specs.Texts.{WritesFront}
-use Rattle.paris_session.specs.Run.{StopsShort}
+use Rattle.paris_session.specs.Run.{StopsShort, HasCause, HasEnded, most_reads}
 use Rattle.paris_session.specs.declared.run.RunFault.{RunFault}
 use Rattle.paris_session.specs.declared.run.RunFault.TheVariants.{Read, Write, TooLong, NoMemory}
 
@@ -23,25 +24,31 @@ fault_status NoMemory = 4
 abbrev pub exit_status : ℕ → ℕ
 exit_status refused = if refused == 0 then 0 else 1
 
--- all bytes were read, their transcript was written, and the status says whether it has refused a command; no line names a fault
-pub record Finishes (reader_old reader_new writer_old writer_new errors_old errors_new : Option (List ℕ)) (status : ℕ) : Type 0 where
+-- all bytes were read, their transcript was written, and the status says whether it has refused a command; the reader has ended, no
+-- call has failed, and no line names a fault
+pub record Finishes (reader_old reader_new writer_old writer_new errors_old errors_new : Option (List ℕ)) (run : Marks) (status : ℕ) : Type 0 where
   pub read : List ℕ
   pub consumed : Consumes reader_old reader_new read
   pub at_end : IsAtEnd reader_new
   pub written : Appends writer_old writer_new (transcript read)
   pub status_is : status ≡ exit_status (sitting_after read).refusals
   pub silent : Keeps errors_old errors_new
+  pub ended : HasEnded run
 
 -- the words were refused: nothing was read and nothing was written, but for what is said of them
-pub record Refuses (reader_old reader_new writer_old writer_new errors_old errors_new : Option (List ℕ)) : Type 0 where
+pub record Refuses (reader_old reader_new writer_old writer_new errors_old errors_new : Option (List ℕ)) (run : Marks) : Type 0 where
   pub said : List ℕ
   pub unread : Keeps reader_old reader_new
   pub unwritten : Keeps writer_old writer_new
   pub told : Appends errors_old errors_new said
+  pub uncalled : run ≡ no_marks
 
--- a fault stopped the run, the status says which, and a front of the line that names it was written
-pub record Stops (reader_old reader_new writer_old writer_new errors_old errors_new : Option (List ℕ)) (status : ℕ) : Type 0 where
+-- a fault stopped the run, it has its cause, the status says which it is, and a front of the line that names it was written: all of
+-- the line, unless that writer has failed
+pub record Stops (reader_old reader_new writer_old writer_new errors_old errors_new : Option (List ℕ)) (run errors : Marks) (status : ℕ) : Type 0 where
   pub fault : RunFault
   pub status_is : status ≡ fault_status fault
   pub short : StopsShort reader_old reader_new writer_old writer_new fault
+  pub cause : HasCause fault run most_reads
   pub named : WritesFront errors_old errors_new (fault_line fault)
+  pub whole : errors.write_failed ≡ false → Appends errors_old errors_new (fault_line fault)

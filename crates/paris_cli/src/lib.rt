@@ -4,5 +4,5 @@
 mod program;
 mod words;
 
-pub use program::{refuse_words, run_words};
+pub use program::{Tallies, refuse_words, run_words};
 pub use words::{WordsFault, read_workers};

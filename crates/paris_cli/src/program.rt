@@ -1,10 +1,13 @@
 //! The program over any reader and writers: runs a script, and answers with an exit status.
 
-ghost use Rattle.std.specs.Prelude.{◌≡◌, ◌≢◌, ℕ, ◌<◌, ◌≤◌, List, map};
+ghost use Rattle.std.specs.Prelude.{◌≡◌, ◌≢◌, ℕ, ◌<◌, ◌≤◌, List, map, false};
 ghost use Rattle.std.specs.String.{string_bytes};
+ghost use Rattle.std.specs.Io.KnownBytes.{Appends};
+ghost use Rattle.paris_calls.specs.Calls.{no_marks};
 ghost use Rattle.paris_calls.specs.Texts.{WritesFront};
 ghost use Rattle.paris_cli.specs.Program.{Finishes, Refuses, Stops, fault_line, fault_status, exit_status};
 ghost use Rattle.paris_cli.specs.Words.{AreTaken, refusal_line, refusal_status};
+ghost use Rattle.paris_names.specs.declared.limits.TheConstants.{MAX_WORKERS};
 
 use crate::words::{WordsFault, read_workers};
 use paris_calls::{Tally, write_out};
@@ -35,20 +38,48 @@ fn fault_status(fault: RunFault) -> u8
     }
 }
 
+/// What came of the calls of a run.
+#[derive(Drop)]
+pub struct Tallies {
+    /// Those of its reader and its writer.
+    pub run: Tally,
+    /// Those of the writer that errors are told on.
+    pub errors: Tally,
+}
+
+impl Tallies {
+    /// The tallies of a run that has called nothing yet.
+    pub fn new() -> Tallies
+        ensures run { result.run ≡ no_marks }
+        ensures errors { result.errors ≡ no_marks }
+    {
+        Tallies {
+            run: Tally::new(),
+            errors: Tally::new(),
+        }
+    }
+}
+
 /// Writes what is said of a fault. Where the writer fails, the rest of it is lost.
-fn report<E: Write>(rt: &impl Wait, errors: &mut E, line: &[u8])
-    ensures { WritesFront (E.contents errors.old) (E.contents errors.new) line.now }
+fn report<E: Write>(rt: &impl Wait, errors: &mut E, tally: &mut Tally, line: &[u8])
+    ensures front { WritesFront (E.contents errors.old) (E.contents errors.new) line.now }
+    ensures whole { tally.new.write_failed ≡ false → Appends (E.contents errors.old) (E.contents errors.new) line.now }
 {
-    let mut tally = Tally::new();
-    let _ = write_out(rt, errors, &mut tally, line);
+    let _ = write_out(rt, errors, tally, line);
 }
 
 /// Says why words are refused, and answers the exit status.
-pub fn refuse_words<E: Write>(rt: &impl Wait, errors: &mut E, fault: &WordsFault) -> u8
+pub fn refuse_words<E: Write>(
+    rt: &impl Wait,
+    errors: &mut E,
+    tally: &mut Tally,
+    fault: &WordsFault,
+) -> u8
     ensures line { WritesFront (E.contents errors.old) (E.contents errors.new) (refusal_line fault.now) }
+    ensures whole { tally.new.write_failed ≡ false → Appends (E.contents errors.old) (E.contents errors.new) (refusal_line fault.now) }
     ensures status { result ≡ refusal_status fault.now }
 {
-    report(rt, errors, fault.line());
+    report(rt, errors, tally, fault.line());
     fault.status()
 }
 
@@ -61,18 +92,20 @@ fn run<H: Threads + Wait + Sync + AllocGlobal, R: Read, W: Write, E: Write>(
     reader: &mut R,
     writer: &mut W,
     errors: &mut E,
+    tallies: &mut Tallies,
 ) -> u8
-    requires { (1 ≤ workers) × (workers ≤ 16) }
+    requires workers { (1 ≤ workers) × (workers ≤ MAX_WORKERS) }
+    requires fresh { tallies.old.run ≡ no_marks }
     ensures finishes { result ≤ 1 → Finishes (R.remaining reader.old) (R.remaining reader.new)
-        (W.contents writer.old) (W.contents writer.new) (E.contents errors.old) (E.contents errors.new) result }
-    ensures stops { 1 < result → Stops (R.remaining reader.old) (R.remaining reader.new)
-        (W.contents writer.old) (W.contents writer.new) (E.contents errors.old) (E.contents errors.new) result }
+        (W.contents writer.old) (W.contents writer.new) (E.contents errors.old) (E.contents errors.new) tallies.new.run result }
+    ensures stops { 1 < result → Stops (R.remaining reader.old) (R.remaining reader.new) (W.contents writer.old) (W.contents writer.new)
+        (E.contents errors.old) (E.contents errors.new) tallies.new.run tallies.new.errors result }
     ensures status { result ≢ 2 }
 {
-    match run_script(rt, rt.alloc(), reader, writer, workers) {
+    match run_script(rt, rt.alloc(), reader, writer, workers, &mut tallies.run) {
         Ok(summary) => { if summary.refused == 0 { 0 } else { 1 } }
         Err(fault) => {
-            report(rt, errors, fault_line(fault));
+            report(rt, errors, &mut tallies.errors, fault_line(fault));
             fault_status(fault)
         }
     }
@@ -80,25 +113,28 @@ fn run<H: Threads + Wait + Sync + AllocGlobal, R: Read, W: Write, E: Write>(
 
 /// Runs the script that the reader gives, as the words of the command line ask, and answers the exit status: 0 where all commands
 /// were accepted, 1 where some command was refused, 2 where the words are refused, 3 after a fault of the reader or the writer or
-/// past the bound on reads, and 4 where there is no memory left. At 2, 3 and 4 the cause is said on `errors`.
+/// past the bound on reads, and 4 where there is no memory left. At 2, 3 and 4 the cause is said on `errors`. The tallies say what
+/// came of the calls.
 pub fn run_words<H: Threads + Wait + Sync + AllocGlobal, R: Read, W: Write, E: Write>(
     rt: &H,
     words: &[String],
     reader: &mut R,
     writer: &mut W,
     errors: &mut E,
+    tallies: &mut Tallies,
 ) -> u8
+    requires fresh { tallies.old.run ≡ no_marks }
     ensures finishes { result ≤ 1 → Finishes (R.remaining reader.old) (R.remaining reader.new)
-        (W.contents writer.old) (W.contents writer.new) (E.contents errors.old) (E.contents errors.new) result }
+        (W.contents writer.old) (W.contents writer.new) (E.contents errors.old) (E.contents errors.new) tallies.new.run result }
     ensures taken { result ≤ 1 → AreTaken (map string_bytes words.now) }
     ensures untaken { result ≡ 2 → AreTaken (map string_bytes words.now) → ⊥ }
     ensures refuses { result ≡ 2 → Refuses (R.remaining reader.old) (R.remaining reader.new)
-        (W.contents writer.old) (W.contents writer.new) (E.contents errors.old) (E.contents errors.new) }
-    ensures stops { 2 < result → Stops (R.remaining reader.old) (R.remaining reader.new)
-        (W.contents writer.old) (W.contents writer.new) (E.contents errors.old) (E.contents errors.new) result }
+        (W.contents writer.old) (W.contents writer.new) (E.contents errors.old) (E.contents errors.new) tallies.new.run }
+    ensures stops { 2 < result → Stops (R.remaining reader.old) (R.remaining reader.new) (W.contents writer.old) (W.contents writer.new)
+        (E.contents errors.old) (E.contents errors.new) tallies.new.run tallies.new.errors result }
 {
     match read_workers(rt.alloc(), words) {
-        Ok(workers) => run(rt, workers, reader, writer, errors),
-        Err(fault) => refuse_words(rt, errors, &fault),
+        Ok(workers) => run(rt, workers, reader, writer, errors, tallies),
+        Err(fault) => refuse_words(rt, errors, &mut tallies.errors, &fault),
     }
 }

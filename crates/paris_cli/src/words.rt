@@ -1,14 +1,16 @@
 //! The words of the command line: what they may be, and how many workers they ask for.
 
-ghost use Rattle.std.specs.Prelude.{◌≤◌, ◌≡◌, ◌⊎◌, map, IfOk, OnOk, IfErr};
+ghost use Rattle.std.specs.Prelude.{◌≤◌, ◌≡◌, ◌⊎◌, ℕ, map, IfOk, OnOk, IfErr};
 ghost use Rattle.std.specs.String.{string_bytes};
 ghost use Rattle.clap.specs.Words.{kind_of};
 ghost use Rattle.clap.specs.declared.error.kind.ErrorKind.TheVariants.{OutOfMemory};
-ghost use Rattle.paris_cli.specs.Words.{AreTaken, refusal_line, refusal_status};
+ghost use Rattle.paris_cli.specs.Words.{AreTaken, AskFor, SaysNumber, refusal_line, refusal_status};
 ghost use Rattle.paris_cli.specs.declared.words.WordsFault.TheVariants as WordsCase;
+ghost use Rattle.paris_names.specs.declared.limits.TheConstants.{MAX_WORKERS};
 
 use clap::error::ErrorKind;
 use clap::{Arg, Command, value_parser};
+use paris_names::limits::MAX_WORKERS;
 use std::alloc::Global;
 
 /// Why the words of a command line are refused.
@@ -16,6 +18,8 @@ use std::alloc::Global;
 pub enum WordsFault {
     /// They ask for nothing that the program does. The text says why, or is the help that they ask for.
     Usage(String),
+    /// They ask for nothing that the program does, and there is no memory left to say why.
+    Untold,
     /// One of them is not in UTF-8.
     NotText,
     /// There is no memory left.
@@ -29,6 +33,7 @@ impl WordsFault {
     {
         match self {
             WordsFault::Usage(text) => text.as_bytes(),
+            WordsFault::Untold => b"wrong words\n",
             WordsFault::NotText => b"a word is not in UTF-8\n",
             WordsFault::NoMemory => b"no memory\n",
         }
@@ -39,7 +44,7 @@ impl WordsFault {
         ensures { result ≡ refusal_status self.now }
     {
         match self {
-            WordsFault::Usage(_) | WordsFault::NotText => 2,
+            WordsFault::Usage(_) | WordsFault::Untold | WordsFault::NotText => 2,
             WordsFault::NoMemory => 4,
         }
     }
@@ -48,8 +53,19 @@ impl WordsFault {
 /// The number of workers where no word gives one.
 const WORKERS: u8 = 2;
 
+/// The number that a word says in digits, and that of no word where it says none.
+fn number_of(word: &str) -> u8
+    ensures { (k : ℕ) → SaysNumber word.now k → k ≤ MAX_WORKERS → result ≡ k }
+{
+    match word.parse::<u8>() {
+        Ok(number) => number,
+        Err(_) => WORKERS,
+    }
+}
+
 /// The number that `--workers` gives.
 fn parse(alloc: Global, words: &[String]) -> Result<u8, clap::Error>
+    ensures number { IfOk result (λ number. (k : ℕ) → AskFor (map string_bytes words.now) k → number ≡ k) }
     ensures taken { OnOk result (AreTaken (map string_bytes words.now)) }
     ensures untaken { IfErr result (λ e. (kind_of e ≡ OutOfMemory) ⊎ (AreTaken (map string_bytes words.now) → ⊥)) }
 {
@@ -63,30 +79,32 @@ fn parse(alloc: Global, words: &[String]) -> Result<u8, clap::Error>
         .no_binary_name(true)
         .arg(workers)?;
     let matches = command.try_get_matches_from(words)?;
-    Ok(matches.get_one::<u8>("workers").unwrap_or(WORKERS))
+    Ok(number_of(matches.get_str("workers").unwrap_or("2")))
 }
 
 fn fault_of(alloc: Global, error: clap::Error) -> WordsFault
-    ensures { kind_of error ≡ OutOfMemory → result ≡ WordsCase.NoMemory }
+    ensures memory { kind_of error ≡ OutOfMemory → result ≡ WordsCase.NoMemory }
+    ensures refusal { result ≡ WordsCase.NoMemory → kind_of error ≡ OutOfMemory }
 {
     if error.kind() == ErrorKind::OutOfMemory {
         return WordsFault::NoMemory;
     }
     match format!(in alloc; "{error}") {
         Ok(text) => WordsFault::Usage(text),
-        Err(_) => WordsFault::NoMemory,
+        Err(_) => WordsFault::Untold,
     }
 }
 
 /// The number of workers that the words behind the program's name ask for: `--workers N`, a whole number from 1 to 16, or 2
 /// workers where there are no words. All other words are refused.
 pub fn read_workers(alloc: Global, words: &[String]) -> Result<usize, WordsFault>
-    ensures workers { IfOk result (λ workers. (1 ≤ workers) × (workers ≤ 16)) }
+    ensures workers { IfOk result (λ workers. (1 ≤ workers) × (workers ≤ MAX_WORKERS)) }
+    ensures number { IfOk result (λ workers. (k : ℕ) → AskFor (map string_bytes words.now) k → workers ≡ k) }
     ensures taken { OnOk result (AreTaken (map string_bytes words.now)) }
     ensures untaken { IfErr result (λ fault. (fault ≡ WordsCase.NoMemory) ⊎ (AreTaken (map string_bytes words.now) → ⊥)) }
 {
     match parse(alloc, words) {
-        Ok(workers) => Ok(usize::from(workers).clamp(1, 16)),
+        Ok(workers) => Ok(usize::from(workers).clamp(1, MAX_WORKERS)),
         Err(error) => Err(fault_of(alloc, error)),
     }
 }

@@ -1,6 +1,6 @@
 //! Scripts that are run from memory.
 
-use paris_cli::run_words;
+use paris_cli::{Tallies, run_words};
 use std::process::Abort;
 use std::sync::Wait;
 use std::test::*;
@@ -22,7 +22,14 @@ pub(crate) fn assert_run_by<H: Abort + Threads + Wait + Sync + AllocGlobal>(
     let mut reader = script;
     let mut out = Vec::new(alloc);
     let mut errors = Vec::new(alloc);
-    let got = run_words(rt, &words, &mut reader, &mut out, &mut errors);
+    let got = run_words(
+        rt,
+        &words,
+        &mut reader,
+        &mut out,
+        &mut errors,
+        &mut Tallies::new(),
+    );
     assert_eq!(rt; out.as_slice(), written);
     assert_eq!(rt; got, status);
     assert!(rt; errors.is_empty());

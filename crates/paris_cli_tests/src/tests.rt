@@ -3,7 +3,7 @@
 ghost use Rattle.std.specs.Prelude.{Some};
 
 use paris_calls::Tally;
-use paris_cli::run_words;
+use paris_cli::{Tallies, read_workers, run_words};
 use paris_session::{RunFault, Summary, run_counted};
 use std::alloc::Global;
 use std::io;
@@ -97,7 +97,14 @@ fn assert_run<H: Abort + Threads + Wait + Sync + AllocGlobal>(
     let mut reader = script;
     let mut out = Vec::new(rt.alloc());
     let mut errors = Vec::new(rt.alloc());
-    let got = run_words(rt, words.as_slice(), &mut reader, &mut out, &mut errors);
+    let got = run_words(
+        rt,
+        words.as_slice(),
+        &mut reader,
+        &mut out,
+        &mut errors,
+        &mut Tallies::new(),
+    );
     assert_eq!(rt; out.as_slice(), want);
     assert_eq!(rt; got, status);
     assert!(rt; errors.is_empty());
@@ -159,12 +166,27 @@ fn words_in(alloc: Global, line: &str) -> Result<Vec<String>, Fail> {
 
 #[test]
 fn takes_a_number_of_workers(rt: HostRuntime) -> Result<(), Fail> {
-    for line in ["--workers 16", "--workers=1", "--workers 2"] {
+    for (line, number) in [
+        ("--workers 16", 16usize),
+        ("--workers=1", 1),
+        ("--workers +3", 3),
+        ("--workers 007", 7),
+        ("--", 2),
+    ] {
         let words = words_in(rt.alloc(), line)?;
+        let workers = read_workers(rt.alloc(), words.as_slice());
+        assert!(rt; matches!(workers, Ok(n) if n == number), "at {line}");
         let mut reader = b"settle\n".as_slice();
         let mut out = Vec::new(rt.alloc());
         let mut errors = Vec::new(rt.alloc());
-        let status = run_words(&rt, words.as_slice(), &mut reader, &mut out, &mut errors);
+        let status = run_words(
+            &rt,
+            words.as_slice(),
+            &mut reader,
+            &mut out,
+            &mut errors,
+            &mut Tallies::new(),
+        );
         assert_eq!(rt; status, 0, "at {line}");
         assert_eq!(rt; out.as_slice(), b"settled 0\n".as_slice(), "at {line}");
         assert!(rt; errors.is_empty(), "at {line}");
@@ -189,7 +211,14 @@ fn refuses_other_words(rt: HostRuntime) -> Result<(), Fail> {
         let mut reader = b"take\n".as_slice();
         let mut out = Vec::new(rt.alloc());
         let mut errors = Vec::new(rt.alloc());
-        let status = run_words(&rt, words.as_slice(), &mut reader, &mut out, &mut errors);
+        let status = run_words(
+            &rt,
+            words.as_slice(),
+            &mut reader,
+            &mut out,
+            &mut errors,
+            &mut Tallies::new(),
+        );
         assert_eq!(rt; status, 2, "at {line}");
         assert!(rt; out.is_empty(), "at {line}");
         assert_eq!(rt; reader.len(), 5, "at {line}");
@@ -209,7 +238,14 @@ fn goes_on_after_interruptions(rt: HostRuntime) {
     };
     let mut input = slow_reader(b"set S 4\ntake\nshw", 1);
     input.interrupts = true;
-    let status = run_words(&rt, words.as_slice(), &mut input, &mut out, &mut errors);
+    let status = run_words(
+        &rt,
+        words.as_slice(),
+        &mut input,
+        &mut out,
+        &mut errors,
+        &mut Tallies::new(),
+    );
     assert_eq!(rt;
         out.taken.as_slice(),
         b"ok\nnothing\nrefused 20 1\n".as_slice()
@@ -225,7 +261,14 @@ fn stops_at_each_failed_read(rt: HostRuntime) {
         let mut errors = Vec::new(rt.alloc());
         let mut input = slow_reader(b"set S 4\ntake", 1);
         input.fails = fails;
-        let status = run_words(&rt, words.as_slice(), &mut input, &mut out, &mut errors);
+        let status = run_words(
+            &rt,
+            words.as_slice(),
+            &mut input,
+            &mut out,
+            &mut errors,
+            &mut Tallies::new(),
+        );
         let answered = if fails > 8 {
             b"ok\n".as_slice()
         } else {
@@ -249,7 +292,14 @@ fn stops_at_each_failed_write(rt: HostRuntime) {
             fails,
         };
         let mut input = b"set S 4\ntake".as_slice();
-        let status = run_words(&rt, words.as_slice(), &mut input, &mut out, &mut errors);
+        let status = run_words(
+            &rt,
+            words.as_slice(),
+            &mut input,
+            &mut out,
+            &mut errors,
+            &mut Tallies::new(),
+        );
         assert_eq!(rt; status, 3);
         assert_eq!(rt; errors.as_slice(), b"write fault\n".as_slice());
         assert!(rt; whole.starts_with(out.taken.as_slice()));
@@ -267,7 +317,14 @@ fn a_fault_of_the_error_writer_changes_no_status(rt: HostRuntime) {
     };
     let mut input = slow_reader(b"take", 4);
     input.fails = 1;
-    let status = run_words(&rt, words.as_slice(), &mut input, &mut out, &mut errors);
+    let status = run_words(
+        &rt,
+        words.as_slice(),
+        &mut input,
+        &mut out,
+        &mut errors,
+        &mut Tallies::new(),
+    );
     assert_eq!(rt; status, 3);
     assert_eq!(rt; errors.taken.as_slice(), b"r".as_slice());
 }

@@ -6,11 +6,11 @@ use Rattle.paris_session.specs.Transcript.{Sitting}
 use Rattle.paris_session.specs.declared.answers.Summary.{Summary}
 use Rattle.paris_session.specs.declared.run.RunFault.{RunFault}
 use Rattle.paris_session.specs.declared.run.RunFault.TheVariants as faults
-use Rattle.paris_calls.specs.Calls.{Marks}
+use Rattle.paris_calls.specs.Calls.{Marks, no_marks, SameReads}
 use Rattle.paris_calls.specs.Texts.{WritesFront}
 use Rattle.paris_session.specs.Transcript.{answer, start, transcript, sitting_after}
 use Rattle.paris_session.specs.Progress.{ended_lines, open_line, said, sitting_at}
-use Rattle.paris_session.specs.Run.{EndsWell, StopsShort, AnswersEnded, IsWriteFault}
+use Rattle.paris_session.specs.Run.{EndsWell, StopsShort, AnswersEnded, IsWriteFault, NoneFailed, HasEnded, HasCause}
 use Rattle.paris_session.proofs.LineLemmas.{transcript_lines, sitting_lines}
 use Rattle.paris_session.proofs.ScriptLemmas.{more_said, more_session, more_line, said-append, replies-append, after-append}
 
@@ -111,16 +111,46 @@ stops_at_last reader0 reader1 reader2 writer0 writer1 writer2 s line fault answe
   answered = answers old.read (said start [] old.read ++ front);
 }
 
-pub answers_nothing : (fault : RunFault) (marks : Marks) → IsWriteFault fault marks → (read text : List ℕ) → AnswersEnded fault read text
-answers_nothing faults.Read marks h read text = absurd h
-answers_nothing faults.Write marks h read text = tt
-answers_nothing faults.TooLong marks h read text = absurd h
-answers_nothing faults.NoMemory marks h read text = tt
+pub answers_nothing : (fault : RunFault) (old new : Marks) → IsWriteFault fault old new → (read text : List ℕ) → AnswersEnded fault read text
+answers_nothing faults.Read old new h read text = absurd h
+answers_nothing faults.Write old new h read text = tt
+answers_nothing faults.TooLong old new h read text = absurd h
+answers_nothing faults.NoMemory old new h read text = tt
+
+-- the marks after some reads, none of which ended or failed
+abbrev pub asked : ℕ → Marks
+asked n = record no_marks { reads = n }
 
 -- a read that is marked and nothing else
-pub asked_once : (old new : Marks) → new ≡ record old { reads = old.reads + 1 } → new.reads ≡ old.reads + 1
-asked_once old new marked = ap (λ (m : Marks). m.reads) marked
+pub asked_again : (old new : Marks) (n : ℕ) → old ≡ asked n → new ≡ record old { reads = old.reads + 1 } → new ≡ asked (n + 1)
+asked_again old new n kept marked = marked ∙ ap (λ (m : Marks). record m { reads = m.reads + 1 }) kept
 
--- a read that fails is marked
-pub read_failed : (old new : Marks) → new ≡ record old { reads = old.reads + 1; read_failed = true } → new.read_failed ≡ true
-read_failed old new marked = ap (λ (m : Marks). m.read_failed) marked
+-- a read that fails is the cause of a read fault
+pub read_cause : (old new : Marks) (n bound : ℕ) → old ≡ asked n → new ≡ record old { reads = old.reads + 1; read_failed = true } → HasCause faults.Read new bound
+read_cause old new n bound kept marked =
+    let is = marked ∙ ap (λ (m : Marks). record m { reads = m.reads + 1; read_failed = true }) kept in
+    (ap (λ (m : Marks). m.read_failed) is, ap (λ (m : Marks). m.write_failed) is, ap (λ (m : Marks). m.ended) is)
+
+-- as many reads as the bound are the cause of a run that is too long
+pub long_cause : (marks : Marks) (n bound : ℕ) → marks ≡ asked n → n ≡ bound → HasCause faults.TooLong marks bound
+long_cause marks n bound is all =
+    (ap (λ (m : Marks). m.reads) is ∙ all, ap (λ (m : Marks). m.ended) is, (ap (λ (m : Marks). m.read_failed) is, ap (λ (m : Marks). m.write_failed) is))
+
+-- the cause of a fault while the run answers, before which no call has failed
+pub answer_cause : (fault : RunFault) (old new : Marks) (bound : ℕ) → NoneFailed old → IsWriteFault fault old new → SameReads old new → HasCause fault new bound
+answer_cause faults.Read old new bound none h same = absurd h
+answer_cause faults.Write old new bound none h same = (h, same.2 ∙ none.0)
+answer_cause faults.TooLong old new bound none h same = absurd h
+answer_cause faults.NoMemory old new bound none h same = (ap (λ (m : Marks). m.read_failed) h ∙ none.0, ap (λ (m : Marks). m.write_failed) h ∙ none.1)
+
+pub none_failed : (marks : Marks) (n : ℕ) → marks ≡ asked n → NoneFailed marks
+none_failed marks n is = (ap (λ (m : Marks). m.read_failed) is, ap (λ (m : Marks). m.write_failed) is)
+
+-- a read that ends
+pub ended_is : (old new : Marks) (n : ℕ) → old ≡ asked n → new ≡ record old { reads = old.reads + 1; ended = true } → HasEnded new
+ended_is old new n kept marked =
+    let is = marked ∙ ap (λ (m : Marks). record m { reads = m.reads + 1; ended = true }) kept in
+    (ap (λ (m : Marks). m.ended) is, (ap (λ (m : Marks). m.read_failed) is, ap (λ (m : Marks). m.write_failed) is))
+
+pub ended_still : (old new : Marks) → HasEnded old → new ≡ old → HasEnded new
+ended_still old new was same = rw same was

@@ -1,26 +1,39 @@
 -- What a run has read and written.
-use Rattle.std.specs.Prelude.{◌≡◌, ℕ, List, Option, true}
+use Rattle.std.specs.Prelude.{◌≡◌, ℕ, List, Option, true, false}
 use Rattle.std.specs.Io.KnownBytes.{Appends, Consumes, IsAtEnd}
 use Rattle.paris_session.specs.Transcript.{transcript, transcript_of_ended, sitting_after}
+use Rattle.paris_names.specs.declared.limits.TheConstants.{MAX_READS}
 use Rattle.paris_calls.specs.Calls.{Marks}
 use Rattle.paris_calls.specs.Texts.{BeginsWith}
 use Rattle.paris_session.specs.declared.answers.Summary.{Summary}
 use Rattle.paris_session.specs.declared.run.RunFault.{RunFault}
 use Rattle.paris_session.specs.declared.run.RunFault.TheVariants.{Read, Write, TooLong, NoMemory}
 
--- the run has seen that its writer failed, or it wants memory
-abbrev pub IsWriteFault : RunFault → Marks → Type 0
-IsWriteFault Read marks = ⊥
-IsWriteFault Write marks = marks.write_failed ≡ true
-IsWriteFault TooLong marks = ⊥
-IsWriteFault NoMemory marks = Unit {0}
+-- how often a run may ask its reader
+abbrev pub most_reads : ℕ
+most_reads = MAX_READS
 
--- each fault has its cause
-abbrev pub IsFaultOf : RunFault → Marks → ℕ → Type 0
-IsFaultOf Read marks bound = marks.read_failed ≡ true
-IsFaultOf Write marks bound = marks.write_failed ≡ true
-IsFaultOf TooLong marks bound = marks.reads ≡ bound
-IsFaultOf NoMemory marks bound = Unit {0}
+-- no call has failed
+abbrev pub NoneFailed : Marks → Type 0
+NoneFailed marks = (marks.read_failed ≡ false) × (marks.write_failed ≡ false)
+
+-- the reader has ended, and no call has failed
+abbrev pub HasEnded : Marks → Type 0
+HasEnded marks = (marks.ended ≡ true) × NoneFailed marks
+
+-- while it answered, the run has seen that its writer failed, or it wants memory, with no mark
+abbrev pub IsWriteFault : RunFault → Marks → Marks → Type 0
+IsWriteFault Read old new = ⊥
+IsWriteFault Write old new = new.write_failed ≡ true
+IsWriteFault TooLong old new = ⊥
+IsWriteFault NoMemory old new = new ≡ old
+
+-- each fault has its cause, and no other: a call that failed, as many reads as the bound with no end, or want of memory alone
+abbrev pub HasCause : RunFault → Marks → ℕ → Type 0
+HasCause Read marks bound = (marks.read_failed ≡ true) × (marks.write_failed ≡ false) × (marks.ended ≡ false)
+HasCause Write marks bound = (marks.write_failed ≡ true) × (marks.read_failed ≡ false)
+HasCause TooLong marks bound = (marks.reads ≡ bound) × (marks.ended ≡ false) × NoneFailed marks
+HasCause NoMemory marks bound = NoneFailed marks
 
 -- all bytes were read, and their transcript was written
 pub record EndsWell (reader_old reader_new writer_old writer_new : Option (List ℕ)) (summary : Summary) : Type 0 where

@@ -6,7 +6,7 @@ ghost use Rattle.paris_calls.specs.Calls.{no_marks, SameReads};
 ghost use Rattle.paris_calls.specs.Texts.{WritesFront};
 ghost use Rattle.paris_session.specs.Transcript.{answer, start};
 ghost use Rattle.paris_session.specs.Progress.{open_line, said, sitting_at};
-ghost use Rattle.paris_session.specs.Run.{IsWriteFault, IsFaultOf, EndsWell, StopsShort};
+ghost use Rattle.paris_session.specs.Run.{most_reads, IsWriteFault, HasCause, HasEnded, EndsWell, StopsShort};
 ghost use Rattle.paris_names.specs.declared.limits.TheConstants.{MAX_WORKERS};
 
 use crate::answers::{Session, Summary};
@@ -41,6 +41,7 @@ fn write_reply<W: Write>(
     ensures err { OnErr result (WritesFront (W.contents writer.old) (W.contents writer.new) text.now) }
     ensures fault { IfErr result (λ e. (e ≡ RunFault.Write) × (tally.new.write_failed ≡ true)) }
     ensures reads { SameReads tally.old tally.new }
+    ensures kept { OnOk result (tally.new ≡ tally.old) }
 {
     match write_out(rt, writer, tally, text) {
         Ok(()) => Ok(()),
@@ -99,8 +100,9 @@ impl Script {
             (said self.old.session self.old.line.items (byte ∷ []))) }
         ensures err { OnErr result (WritesFront (W.contents writer.old) (W.contents writer.new)
             (said self.old.session self.old.line.items (byte ∷ []))) }
-        ensures fault { IfErr result (λ e. IsWriteFault e tally.new) }
+        ensures fault { IfErr result (λ e. IsWriteFault e tally.old tally.new) }
         ensures reads { SameReads tally.old tally.new }
+        ensures kept { OnOk result (tally.new ≡ tally.old) }
         ensures count { OnOk result (self.new.session.commands ≤ self.old.session.commands + 1) }
     {
         if byte == b'\n' {
@@ -128,8 +130,9 @@ impl Script {
             (said self.old.session self.old.line.items bytes.now)) }
         ensures err { OnErr result (WritesFront (W.contents writer.old) (W.contents writer.new)
             (said self.old.session self.old.line.items bytes.now)) }
-        ensures fault { IfErr result (λ e. IsWriteFault e tally.new) }
+        ensures fault { IfErr result (λ e. IsWriteFault e tally.old tally.new) }
         ensures reads { SameReads tally.old tally.new }
+        ensures kept { OnOk result (tally.new ≡ tally.old) }
         ensures count { OnOk result (self.new.session.commands ≤ self.old.session.commands + length bytes.now) }
     {
         for byte in bytes {
@@ -149,9 +152,10 @@ impl Script {
         ensures ok { IfOk result (λ summary. let last = answer self.old.session self.old.line.items in
             Appends (W.contents writer.old) (W.contents writer.new) last.1
             × (summary ≡ record { commands = last.0.commands; refused = last.0.refusals })) }
-        ensures err { IfErr result (λ e. IsWriteFault e tally.new
+        ensures err { IfErr result (λ e. IsWriteFault e tally.old tally.new
             × WritesFront (W.contents writer.old) (W.contents writer.new) (answer self.old.session self.old.line.items).1) }
         ensures reads { SameReads tally.old tally.new }
+        ensures kept { OnOk result (tally.new ≡ tally.old) }
     {
         let reply = self.end_line(rt)?;
         write_reply(rt, writer, tally, reply.as_slice())?;
@@ -174,14 +178,14 @@ pub fn run_counted<H: Threads + Wait + Sync, R: Read, W: Write>(
     tally: &mut Tally,
 ) -> Result<Summary, RunFault>
     requires workers { (1 ≤ workers) × (workers ≤ MAX_WORKERS) }
-    requires bound { bound ≤ 2 ^ 30 }
+    requires bound { bound ≤ most_reads }
     requires fresh { tally.old ≡ no_marks }
-    ensures ended { OnOk result (tally.new.ended ≡ true) }
+    ensures ended { OnOk result (HasEnded tally.new) }
     ensures ok { IfOk result (λ summary. EndsWell (R.remaining reader.old) (R.remaining reader.new)
         (W.contents writer.old) (W.contents writer.new) summary) }
     ensures short { IfErr result (λ fault. StopsShort (R.remaining reader.old) (R.remaining reader.new)
         (W.contents writer.old) (W.contents writer.new) fault) }
-    ensures fault { IfErr result (λ fault. IsFaultOf fault tally.new bound) }
+    ensures fault { IfErr result (λ fault. HasCause fault tally.new bound) }
 {
     let mut script = Script::new(alloc, workers);
     let mut room = [0u8; ROOM];
@@ -196,20 +200,24 @@ pub fn run_counted<H: Threads + Wait + Sync, R: Read, W: Write>(
     Err(RunFault::TooLong)
 }
 
-/// Reads a script to its end, and writes its transcript, which is the same for every number of workers.
+/// Reads a script to its end, and writes its transcript, which is the same for every number of workers. The tally says what came of
+/// it.
 pub fn run_script<H: Threads + Wait + Sync, R: Read, W: Write>(
     rt: &H,
     alloc: Global,
     reader: &mut R,
     writer: &mut W,
     workers: usize,
+    tally: &mut Tally,
 ) -> Result<Summary, RunFault>
-    requires { (1 ≤ workers) × (workers ≤ MAX_WORKERS) }
+    requires workers { (1 ≤ workers) × (workers ≤ MAX_WORKERS) }
+    requires fresh { tally.old ≡ no_marks }
+    ensures ended { OnOk result (HasEnded tally.new) }
     ensures ok { IfOk result (λ summary. EndsWell (R.remaining reader.old) (R.remaining reader.new)
         (W.contents writer.old) (W.contents writer.new) summary) }
     ensures short { IfErr result (λ fault. StopsShort (R.remaining reader.old) (R.remaining reader.new)
         (W.contents writer.old) (W.contents writer.new) fault) }
+    ensures fault { IfErr result (λ fault. HasCause fault tally.new most_reads) }
 {
-    let mut tally = Tally::new();
-    run_counted(rt, alloc, reader, writer, workers, MAX_READS, &mut tally)
+    run_counted(rt, alloc, reader, writer, workers, MAX_READS, tally)
 }

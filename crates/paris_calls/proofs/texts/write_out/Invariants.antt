@@ -1,6 +1,5 @@
 use Rattle.std.proofs.Common.{◌≡◌, ℕ, List, ◌++◌}
 use Rattle.std.specs.Io.KnownBytes.{Appends}
-use Rattle.paris_calls.specs.Calls.{SameReads}
 use Rattle.paris_calls.proofs.texts.write_out.Given as goal
 
 -- what was written, and what is left
@@ -8,4 +7,4 @@ abbrev pub invariant-loop : goal.invariant-loop
 invariant-loop g l =
     (goal.iterator-loop g).can_next l.iterator' × (goal.iterator-loop g).is_finite l.iterator'
     × ((written : List ℕ) × Appends (g.W.Write.contents l.fn.writer) (g.W.Write.contents l.writer) written × (l.fn.text ≡ written ++ l.rest))
-    × SameReads l.fn.tally l.tally
+    × (l.tally ≡ l.fn.tally)

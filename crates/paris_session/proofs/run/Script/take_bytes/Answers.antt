@@ -21,7 +21,7 @@ loop-byte-preserved g c =
       session = rw step (more_session r s _ begun going done one kept.session kept.line more.session);
       line = rw step (more_line begun going _ done one kept.line more.line);
       written = rw step (more_said r s begun going done one _ _ _ kept.session kept.line kept.written more.written);
-      reads = search rules;
+      kept = more.kept ∙ kept.kept;
       count = omega (arith, more.count);
     }
 

@@ -1,7 +1,6 @@
 use Rattle.std.proofs.Common.{◌≡◌, ◌+◌, ◌≤◌, take}
 use Rattle.std.specs.Io.KnownBytes.{Appends}
 use Rattle.paris_session.specs.Progress.{said, sitting_at, open_line}
-use Rattle.paris_calls.specs.Calls.{SameReads}
 use Rattle.paris_session.proofs.run.Script.take_bytes.Given as goal
 
 abbrev pub invariant-loop-byte : goal.invariant-loop-byte
@@ -12,6 +11,6 @@ invariant-loop-byte g l =
       session : l.self.session ≡ sitting_at before.session before.line.items done;
       line : l.self.line.items ≡ open_line before.line.items done;
       written : Appends (g.W.Write.contents l.fn.writer) (g.W.Write.contents l.writer) (said before.session before.line.items done);
-      reads : SameReads l.fn.tally l.tally;
+      kept : l.tally ≡ l.fn.tally;
       count : l.self.session.commands ≤ before.session.commands + l.byte-index;
     }
