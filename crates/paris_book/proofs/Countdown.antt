@@ -202,4 +202,4 @@ order_left n s apart more =
   where
     by_first : (u : State) → IsIdle u.rows → 0 < unsettled_rows u.rows → ((are_settled u.rows ≡ true) × (first_settled u.rows ≡ u.rows)) ⊎ SomeFirst u.rows → IsSome (take_reply u)
     by_first u idle some (inl e) = let none = none_unsettled u.rows e.0 in absurd (omega (arith, none, some))
-    by_first u idle some (inr (k, r, f)) = subst (λ o. IsSome (option_map (order_of u) o)) (sym (next_first u k r idle f)) tt
+    by_first u idle some (inr (k, r, f)) = subst (λ o. IsSome (option_map (order_of u) o)) (sym (next_first u k r idle f)) refl

@@ -205,3 +205,8 @@ no_fault_due s e fault due none = by_fault (edit_fault s e) (edit_wanted s e) du
     by_fault : (o : Option Fault) → Wanted o → IsFaultOf o fault → o ≡ None
     by_fault None h f = refl
     by_fault (Some other) h f = absurd (let x : true ≡ false = sym none ∙ ap is_no_memory f ∙ h in cc)
+
+-- and one that is refused for another reason is refused by the fault that is due
+pub fault_due : (o : Option Fault) (fault : Fault) → IsFaultOf o fault → is_no_memory fault ≡ false → o ≡ Some fault
+fault_due None fault f other = absurd (let x : true ≡ false = sym (ap is_no_memory f) ∙ other in cc)
+fault_due (Some due) fault f other = ap Some (sym f)

@@ -163,8 +163,8 @@ no_runs s t e = (zero, e)
 pub runs_more : (n : ℕ) (s t u : State) → SomeRuns s t → RunsTo n t u → SomeRuns s u
 runs_more zero s t u a e = subst (λ (z : State). SomeRuns s z) (sym e) a
 runs_more (suc n) s t u a b =
-    let before = runs_more n s t b.0 a b.1.0 in
-    (suc before.0, b.0, before.1, b.1.1)
+    let before = runs_more n s t b.0 a b.1 in
+    (suc before.0, (b.0, before.1, b.2))
 
 pub then_runs : (s t u : State) → SomeRuns s t → SomeRuns t u → SomeRuns s u
 then_runs s t u a b = runs_more b.0 s t u a b.1
@@ -190,7 +190,7 @@ settles_runs s t h = (
 
 brought_runs : (s : State) (o : Option Task) → SomeRuns (after_release s) (after_release (brought_back s o))
 brought_runs s None = (zero, refl)
-brought_runs s (Some t) = elim (bring_settles s t) [ inl e ↦ (zero, ap after_release e) | inr h ↦ (1, after_release s, refl, settles_runs s (after_bring s t) h) ]
+brought_runs s (Some t) = elim (bring_settles s t) [ inl e ↦ (zero, ap after_release e) | inr h ↦ (1, (after_release s, refl, settles_runs s (after_bring s t) h)) ]
 
 pub slots_run : (s : State) (slots : List Slot) → SomeRuns (after_release s) (after_release (after_slots s slots))
 slots_run s [] = (zero, refl)
@@ -202,7 +202,7 @@ slots_run s (slot ∷ slots) =
 -- each row that is run is one fewer that is unsettled
 pub runs_counted : (n : ℕ) (s t : State) → RunsTo n s t → unsettled_rows t.rows + n ≡ unsettled_rows s.rows
 runs_counted zero s t e = let same : unsettled_rows t.rows ≡ unsettled_rows s.rows = ap (λ (z : State). unsettled_rows z.rows) e in omega (arith, same)
-runs_counted (suc n) s t (u, before, k, r, here, ready, gives) =
+runs_counted (suc n) s t (u, before, (k, r, here, ready, gives)) =
     let first = runs_counted n s u before in
     let waits = and_first (is_waiting r.status) (list_all (λ j. is_firm (origin_at u k j)) (reads r.plan)) ready in
     let one = count_settled u.rows k r here (waiting_unsettled r.status waits) in

@@ -9,7 +9,7 @@ ghost use Rattle.paris_geometry.specs.Geometry.{is_geometry};
 ghost use Rattle.paris_board.specs.Board.{set_fault, field_fault, key_named, set_named};
 ghost use Rattle.paris_instr.specs.Resolve.{IsFittedTo};
 ghost use Rattle.paris_machine.specs.State.{find_row, place_of_spot};
-ghost use Rattle.paris_machine.specs.Edits.{edit_fault, edit_answer, content_fault, accepted, input_fault, set_added, field_added, input_set, row_inserted, replaced_from};
+ghost use Rattle.paris_machine.specs.Edits.{HasEditsLeft, edit_fault, edit_answer, content_fault, accepted, input_fault, set_added, field_added, input_set, row_inserted, replaced_from};
 ghost use Rattle.paris_events.specs.declared.edits.Edit.TheVariants as EditCase;
 ghost use Rattle.paris_book.specs.Marks.{fresh_data};
 

@@ -3,7 +3,7 @@ use Rattle.paris_machine.specs.Settling.{unsettled_rows}
 use Rattle.paris_machine.specs.Orders.{after_release}
 use Rattle.paris_book.specs.Rounds.{RunsTo}
 use Rattle.paris_book.proofs.Countdown.{count_recalled}
-use Rattle.paris_book.proofs.Rounding.{settled_now}
+use Rattle.paris_book.proofs.Rounding.{advances_more, settled_now}
 use Rattle.paris_book.proofs.RoundRuns.{then_runs, runs_counted}
 use Rattle.paris_book.proofs.book.Book.settle_par.Goals as goal
 
@@ -36,3 +36,13 @@ returns-then-is_err-clause-runs g c =
     subst (λ n. RunsTo n (after_release first) (after_release last))
     (omega (arith, counted, before, behind, c.unsettled_count-count.ensures, c.unsettled_count-then-is_err.ensures))
     all.1
+
+pub loop-round-preserved : goal.loop-round-preserved
+loop-round-preserved g c =
+    let first = c.args.self.now in
+    let advances = advances_more first c.loop-round.self c.run_round.new.self c.loop-round.invariant.0 c.run_round.ensures.advances in
+    let fewer : unsettled_rows c.run_round.new.self.rows < unsettled_rows c.loop-round.self.rows = search rules in (
+      advances,
+      omega (arith, fewer, c.loop-round.invariant.1),
+      then_runs (after_release first) (after_release c.loop-round.self) (after_release c.run_round.new.self) c.loop-round.invariant.2 c.run_round.ensures.runs,
+    )

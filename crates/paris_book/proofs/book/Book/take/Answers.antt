@@ -1,5 +1,6 @@
-use Rattle.std.proofs.Common.{List, Some, sym, ap, ◌∙◌, subst}
+use Rattle.std.proofs.Common.{List, Some, rules, refl, sym, ap, ◌∙◌, subst}
 use Rattle.std.specs.Prelude.{IsSome}
+use Rattle.paris_machine.specs.Orders.{take_reply}
 use Rattle.paris_book.specs.Entries.{Entry, entries}
 use Rattle.paris_book.specs.Whole.{IsWhole}
 use Rattle.paris_book.specs.Among.{inputs_of}
@@ -52,4 +53,5 @@ returns-in_ok-order-in-Some-clause-state c =
 pub returns-in_err-order-in-Some-clause-ready : goal.returns-in_err-order-in-Some-clause-ready
 returns-in_err-order-in-Some-clause-ready c =
     let found = next_found (entries c.self.inside.rows) c.in-Some.place c.in-Some.ensures in
-    subst IsSome (take_order c.self.inside.board c.self.inside.edits c.self.inside.rows.next_id (inputs_of c.self.inside.inputs) (entries c.self.inside.rows) c.args.self.now c.in-Some.place found.0 c.self.view_is found.1) tt
+    let ready : IsSome (take_reply c.args.self.now) = subst IsSome (take_order c.self.inside.board c.self.inside.edits c.self.inside.rows.next_id (inputs_of c.self.inside.inputs) (entries c.self.inside.rows) c.args.self.now c.in-Some.place found.0 c.self.view_is found.1) refl in
+    search (rules, ready)
