@@ -1,11 +1,7 @@
 //! Worked rows of gets and sends in which an unselected processor holds an address outside the set.
 
 use crate::rows::assert_row;
-use std::alloc::{AllocError, Global};
-use std::process::Abort;
-use std::sync::Wait;
 use std::test::*;
-use std::thread::Threads;
 
 /// Each script with what it writes. In all of them the second processor isn't selected, and holds the address 7 in a set of four.
 const ROWS: &[(&[u8], &[u8])] = &[
