@@ -8,8 +8,7 @@ ghost use Rattle.paris_alu.specs.Alu.{binary_field, bitwise_operator, unary_fiel
 
 use crate::planes::{combined_planes, inverted_planes};
 use paris_field::{FieldValue, copy_planes};
-use paris_plane::{And, Or, Xor};
-use paris_plane::{Plane, WordOp};
+use paris_plane::{And, Or, Plane, WordOp, Xor};
 use std::alloc::{AllocError, Global};
 
 /// An operation on two bits.

@@ -10,8 +10,7 @@ ghost use Rattle.paris_alu.specs.Alu.{binary_field, bits_everywhere, comparison_
 use crate::planes::{below, unlike};
 use paris_field::{FieldValue, copy_planes, merge_planes};
 use paris_model::{Comparison, Sign};
-use paris_plane::Plane;
-use paris_plane::Borrow;
+use paris_plane::{Borrow, Plane};
 use std::alloc::{AllocError, Global};
 
 /// Which of two numbers is taken.

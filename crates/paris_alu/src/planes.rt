@@ -7,8 +7,7 @@ ghost use Rattle.paris_alu.specs.Alu.{bits_everywhere};
 
 use crate::kernel::Unlike;
 use paris_field::{add_planes, copy_planes, zero_planes};
-use paris_plane::Borrow;
-use paris_plane::{Plane, WordOp, subtract_step};
+use paris_plane::{Borrow, Plane, WordOp, subtract_step};
 use std::alloc::{AllocError, Global};
 
 /// The sums of the numbers of `x`, those of `y` and the carried bits. Leaves in `carry` what they carry.

@@ -15,8 +15,8 @@ ghost use Rattle.paris_book.specs.Among.{inputs_of, look_among, look_shown, Look
 ghost use Rattle.paris_book.specs.Verdicts.{KeptFor, LooksAt, verdict_among};
 ghost use Rattle.paris_book.specs.Entries.{Entry, entry_of, entries};
 
-use crate::look::Look;
 use crate::inputs::{InputData, input_at};
+use crate::look::Look;
 use crate::rows::RowData;
 use paris_depends::origin;
 use paris_events::Verdict;

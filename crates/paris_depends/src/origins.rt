@@ -7,8 +7,7 @@ ghost use Rattle.paris_model.specs.Instructions.{writes};
 ghost use Rattle.paris_model.specs.Recipe.{origin};
 
 use crate::plans::HasPlan;
-use paris_names::has_key;
-use paris_names::{Key, RowId};
+use paris_names::{Key, RowId, has_key};
 use paris_program::Program;
 
 /// Whether a row writes a key.

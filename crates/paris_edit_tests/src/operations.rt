@@ -1,8 +1,7 @@
 //! Instructions over three fields and the flags, which random games play, and numbers that look random.
 
 use crate::spellings::{compare, constant, field_key, flag_key, name, sum, unary};
-use paris_model::Instr;
-use paris_model::{Action, Comparison, Mail, Sign, UnaryOperator, Unconditional};
+use paris_model::{Action, Comparison, Instr, Mail, Sign, UnaryOperator, Unconditional};
 use paris_names::{FlagName, KeyName};
 use std::alloc::{AllocError, Global};
 use std::process::Abort;

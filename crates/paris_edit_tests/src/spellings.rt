@@ -1,7 +1,6 @@
 //! Names, keys, and instructions by their shapes.
 
-use paris_model::Instr;
-use paris_model::{Action, BinaryOperator, Comparison, Conditional, Mail, UnaryOperator};
+use paris_model::{Action, BinaryOperator, Comparison, Conditional, Instr, Mail, UnaryOperator};
 use paris_names::{FlagName, KeyName, Name};
 use std::process::Abort;
 

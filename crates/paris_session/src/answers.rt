@@ -259,7 +259,9 @@ impl Session {
             Command::Field { name, set, width } => {
                 self.answer_edit(Edit::AddField(name, set, width))
             }
-            Command::Input { key, from, values } => self.answer_edit(Edit::Input(key, from, values)),
+            Command::Input { key, from, values } => self.answer_edit(Edit::Input(
+                key, from, values,
+            )),
             Command::Insert { spot, instr } => self.answer_edit(Edit::Insert(spot, instr)),
             Command::Delete(row) => self.answer_edit(Edit::Delete(row)),
             Command::Replace { row, instr } => self.answer_edit(Edit::Replace(row, instr)),

@@ -62,10 +62,12 @@ fn an_input_has_its_values(rt: HostRuntime) {
 fn an_insertion_has_its_place(rt: HostRuntime) {
     let read = read_command(rt.alloc(), b"insert after 7 set-test S");
     match &read {
-        Ok(Command::Insert {
-            spot,
-            instr: Action::OnSelected(Conditional::SetTest(set)),
-        }) => {
+        Ok(
+            Command::Insert {
+                spot,
+                instr: Action::OnSelected(Conditional::SetTest(set)),
+            },
+        ) => {
             assert!(rt; *spot == Spot::After(RowId(7)));
             assert!(rt; set.as_bytes() == b"S".as_slice());
         }

@@ -4,8 +4,7 @@ use paris_exec::{Done, Order, Outcome, execute};
 use paris_field::FieldValue;
 use paris_instr::Plan;
 use paris_names::FlagName::{Carry, Overflow};
-use paris_names::has_key;
-use paris_names::{Edition, Key, RowId};
+use paris_names::{Edition, Key, RowId, has_key};
 use std::alloc::Global;
 use std::process::Abort;
 

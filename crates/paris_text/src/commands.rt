@@ -18,9 +18,16 @@ use std::alloc::Global;
 #[derive(Debug, Drop)]
 pub enum Command {
     /// Declares a set of this name, with axes of these lengths.
-    Set { name: Name, axes: Items<u64> },
+    Set {
+        name: Name,
+        axes: Items<u64>,
+    },
     /// Declares a field of this name in the set of that name, with its width in bits.
-    Field { name: Name, set: Name, width: u64 },
+    Field {
+        name: Name,
+        set: Name,
+        width: u64,
+    },
     /// Gives a key these values, from a processor on.
     Input {
         key: KeyName,
@@ -28,11 +35,17 @@ pub enum Command {
         values: Items<u128>,
     },
     /// Puts an instruction at a place of the program.
-    Insert { spot: Spot, instr: Instr },
+    Insert {
+        spot: Spot,
+        instr: Instr,
+    },
     /// Takes a row out of the program.
     Delete(RowId),
     /// Puts an instruction in the place of a row's.
-    Replace { row: RowId, instr: Instr },
+    Replace {
+        row: RowId,
+        instr: Instr,
+    },
     /// Takes an order for the first row that is ready.
     Take,
     /// Brings the result of the order of this number.
@@ -40,7 +53,10 @@ pub enum Command {
     /// Gives back the orders that were taken.
     Release,
     /// Shows a key at a place of the program.
-    Show { key: KeyName, spot: Spot },
+    Show {
+        key: KeyName,
+        spot: Spot,
+    },
     /// Lists the rows of the program.
     List,
     /// Lists the faults of the rows.
