@@ -6,7 +6,7 @@ mod cuts;
 #[cfg(test)]
 mod gallery;
 #[cfg(test)]
-mod mail_rows;
+mod limits;
 #[cfg(test)]
 mod rows;
 #[cfg(test)]
