@@ -3,8 +3,10 @@
 ghost use Rattle.std.specs.Prelude.{◌≡◌, ◌==◌, length};
 
 use std::marker::Model;
+use std::ops::DerefSlice;
 
-/// Items in order, as they are held in events, replies and results. A clause sees the list of the items.
+/// Items in order, as they are held in events, replies and results. A clause sees the list of the items. As in a `Vec`, the methods
+/// of slices are called on it: `len`, `is_empty`, `iter`, `get`.
 #[derive(Debug, Drop)]
 pub struct Items<T> {
     items: Vec<T>,
@@ -16,6 +18,26 @@ impl<T> Model for Items<T> {
     ghost Value = { List T };
 
     ghost view = { λ a. a.items.items };
+}
+
+impl<T> DerefSlice for Items<T> {
+    type Elem = T;
+
+    ghost deref_gives = { λ list items. items ≡ list };
+
+    fn deref(&self) -> &[T]
+        ensures { result.now ≡ self.now }
+    {
+        self.as_slice()
+    }
+}
+
+impl<T> From<Vec<T>> for Items<T> {
+    ghost from_gives = { λ items list. list ≡ items.items };
+
+    fn from(items: Vec<T>) -> Items<T> {
+        Items::new(items)
+    }
 }
 
 impl<T> Items<T> {
@@ -31,20 +53,6 @@ impl<T> Items<T> {
         ensures { result.now ≡ self.now }
     {
         self.items.as_slice()
-    }
-
-    /// How many items there are.
-    pub fn len(&self) -> usize
-        ensures { result ≡ length self.now }
-    {
-        self.items.len()
-    }
-
-    /// Whether there are none.
-    pub fn is_empty(&self) -> bool
-        ensures { result ≡ (length self.now == 0) }
-    {
-        self.items.is_empty()
     }
 
     /// The items as a vector.
