@@ -84,16 +84,22 @@ impl FieldNo {
 /// One of the four flags of a set.
 #[derive(Clone, Copy, PartialEq, Eq, Hash, Debug)]
 pub enum FlagName {
+    /// Whether a processor is selected.
     Context,
+    /// What comparisons answer.
     Test,
+    /// What a sum carries out of its highest bit, or a difference borrows there.
     Carry,
+    /// Whether a result didn't fit.
     Overflow,
 }
 
 /// A field, or a flag of a set: what an instruction reads or writes.
 #[derive(Clone, Copy, PartialEq, Eq, Hash, Debug)]
 pub enum Key {
+    /// A field.
     Field(FieldNo),
+    /// This flag of a set.
     Flag(SetNo, FlagName),
 }
 

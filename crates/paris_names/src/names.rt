@@ -110,6 +110,8 @@ impl Name {
 /// The name of a key: of a field, or of a set with one of its flags.
 #[derive(Clone, Copy, PartialEq, Eq, Hash, Debug)]
 pub struct KeyName {
+    /// The name of the field, or of the set.
     pub name: Name,
+    /// The flag of the set. `None` where the name is a field's.
     pub flag: Option<FlagName>,
 }
