@@ -1,7 +1,8 @@
 -- The rows of a program in order, and their ids.
-use Rattle.std.specs.Prelude.{ℕ, ◌<◌, ◌≤◌, List, [], ◌∷◌, Option, position, nat_eq, slice_set, slice_index, unwrap_or}
+use Rattle.std.specs.Prelude.{◌≡◌, ℕ, ◌+◌, ◌<◌, ◌≤◌, List, [], ◌∷◌, Option, insert, position, nat_eq, slice_set, slice_index, unwrap_or}
 use Rattle.std.specs.List.{IsDistinct}
 use Rattle.std.specs.Map.{lookup, keys_of}
+use Rattle.paris_names.specs.declared.ids.RowId.{RowId}
 
 -- the rows in order, each with its id; the id of the next row; and how many more rows fit with no more memory
 pub record Program (T : Type 0) : Type 0 where
@@ -48,3 +49,13 @@ module _ {T : Type 0} where
   -- the ids of a program are sound
   abbrev pub IsProgram : Program T → Type 0
   IsProgram p = AreIds p.next_id (ids_of p.rows)
+
+  -- a row was put in at a place, under this id, which was the next one
+  abbrev pub Inserts : Program T → Program T → ℕ → T → RowId → Type 0
+  Inserts old new place row id = (id ≡ record { 0 = old.next_id })
+      × (new.rows ≡ insert old.rows place (old.next_id, row))
+      × (new.next_id ≡ old.next_id + 1)
+
+  -- the rows and the next id are as they were
+  abbrev pub Stays : Program T → Program T → Type 0
+  Stays old new = (new.rows ≡ old.rows) × (new.next_id ≡ old.next_id)

@@ -1,6 +1,6 @@
 //! Rows in program order, by their ids.
 
-ghost use Rattle.std.specs.Prelude.{◌≡◌, ℕ, ◌+◌, ◌^◌, ◌<◌, ◌≤◌, ◌↔◌, ◌++◌, [], ◌∷◌, length, insert, remove, slice_get, None, Some, IsTrue, IsSome, IsOk, IfOk, IfErr, IfSome, OnOk};
+ghost use Rattle.std.specs.Prelude.{◌≡◌, ℕ, ◌+◌, ◌^◌, ◌<◌, ◌≤◌, ◌↔◌, [], length, remove, slice_get, None, Some, IsTrue, IsSome, IsOk, IfOk, IfErr, IfSome, OnOk};
 ghost use Rattle.std.specs.Option.{option_copied};
 
 use indexmap::IndexMap;
@@ -122,19 +122,15 @@ impl<T> Program<T> {
 }
 
 impl<T: Drop> Program<T> {
-    ghost use Rattle.paris_program.specs.Program.{place_of, place_in, row_of, with_row};
+    ghost use Rattle.paris_program.specs.Program.{place_of, place_in, row_of, with_row, Inserts, Stays};
 
     /// Puts a row at a place, counted from 0, before the rows that stand there, under the next id, and returns that id. Where memory
     /// is refused the row comes back, and the program is as before.
     pub fn insert_at(&mut self, place: usize, row: T) -> Result<RowId, AllocFailed<T>>
         requires place { place ≤ length self.old.rows }
         requires ids { self.old.next_id < 2 ^ 63 }
-        ensures ok { IfOk result (λ id. (id ≡ record { 0 = self.old.next_id })
-            × (self.new.rows ≡ insert self.old.rows place (self.old.next_id, row))
-            × (self.new.next_id ≡ self.old.next_id + 1)) }
-        ensures err { IfErr result (λ e. (e.value ≡ row)
-            × (self.new.rows ≡ self.old.rows)
-            × (self.new.next_id ≡ self.old.next_id)) }
+        ensures ok { IfOk result (Inserts self.old self.new place row) }
+        ensures err { IfErr result (λ e. (e.value ≡ row) × Stays self.old self.new) }
         ensures succeeds { 0 < self.old.spare → IsOk result }
         ensures spare { self.old.spare ≤ self.new.spare + 1 }
     {
@@ -155,12 +151,8 @@ impl<T: Drop> Program<T> {
     /// program is as before.
     pub fn insert_start(&mut self, row: T) -> Result<RowId, AllocFailed<T>>
         requires ids { self.old.next_id < 2 ^ 63 }
-        ensures ok { IfOk result (λ id. (id ≡ record { 0 = self.old.next_id })
-            × (self.new.rows ≡ insert self.old.rows 0 (self.old.next_id, row))
-            × (self.new.next_id ≡ self.old.next_id + 1)) }
-        ensures err { IfErr result (λ e. (e.value ≡ row)
-            × (self.new.rows ≡ self.old.rows)
-            × (self.new.next_id ≡ self.old.next_id)) }
+        ensures ok { IfOk result (Inserts self.old self.new 0 row) }
+        ensures err { IfErr result (λ e. (e.value ≡ row) × Stays self.old self.new) }
         ensures succeeds { 0 < self.old.spare → IsOk result }
         ensures spare { self.old.spare ≤ self.new.spare + 1 }
     {
@@ -172,12 +164,8 @@ impl<T: Drop> Program<T> {
     pub fn insert_after(&mut self, id: RowId, row: T) -> Result<RowId, AllocFailed<T>>
         requires there { IsSome (place_of self.old.rows id.0) }
         requires ids { self.old.next_id < 2 ^ 63 }
-        ensures ok { IfOk result (λ new. (new ≡ record { 0 = self.old.next_id })
-            × (self.new.rows ≡ insert self.old.rows (place_in self.old.rows id.0 + 1) (self.old.next_id, row))
-            × (self.new.next_id ≡ self.old.next_id + 1)) }
-        ensures err { IfErr result (λ e. (e.value ≡ row)
-            × (self.new.rows ≡ self.old.rows)
-            × (self.new.next_id ≡ self.old.next_id)) }
+        ensures ok { IfOk result (Inserts self.old self.new (place_in self.old.rows id.0 + 1) row) }
+        ensures err { IfErr result (λ e. (e.value ≡ row) × Stays self.old self.new) }
         ensures succeeds { 0 < self.old.spare → IsOk result }
         ensures spare { self.old.spare ≤ self.new.spare + 1 }
     {
@@ -191,12 +179,8 @@ impl<T: Drop> Program<T> {
     /// program is as before.
     pub fn insert_end(&mut self, row: T) -> Result<RowId, AllocFailed<T>>
         requires ids { self.old.next_id < 2 ^ 63 }
-        ensures ok { IfOk result (λ id. (id ≡ record { 0 = self.old.next_id })
-            × (self.new.rows ≡ self.old.rows ++ (self.old.next_id, row) ∷ [])
-            × (self.new.next_id ≡ self.old.next_id + 1)) }
-        ensures err { IfErr result (λ e. (e.value ≡ row)
-            × (self.new.rows ≡ self.old.rows)
-            × (self.new.next_id ≡ self.old.next_id)) }
+        ensures ok { IfOk result (Inserts self.old self.new (length self.old.rows) row) }
+        ensures err { IfErr result (λ e. (e.value ≡ row) × Stays self.old self.new) }
         ensures succeeds { 0 < self.old.spare → IsOk result }
         ensures spare { self.old.spare ≤ self.new.spare + 1 }
     {
