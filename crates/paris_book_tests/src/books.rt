@@ -1,9 +1,11 @@
 //! Tests of declarations, input data, orders and results, by calls and by events.
 
 use crate::spellings::{Text, key};
-use crate::steps::Change::{Append, Field, Input, Set};
+use crate::steps::Change::{Field, Input, Insert, Set};
 use crate::steps::Step::*;
-use crate::steps::{Change, Step, edit_of, plays_after, plays_after_another, plays_in, run};
+use crate::steps::{
+    Change, Step, answer, edit_of, plays_after, plays_after_another, plays_in, run,
+};
 use paris_book::Book;
 use paris_events::Verdict;
 use paris_events::Verdict::{Foreign, Gone, Kept, Repeated, Stale};
@@ -54,12 +56,12 @@ fn a_sum_is_pending_until_its_result_is_brought(rt: HostRuntime) -> Result<(), F
     const STEPS: &[Step] = &[
         HasEdits(7),
         HasUnsettled(1),
-        Waits(b"c", 1),
+        Waits(b"c", End, 1),
         Takes(1, 7),
         TakesNothing,
-        Waits(b"c", 1),
+        Waits(b"c", End, 1),
         Brings(0, Kept),
-        Shows(b"c", &[11, 22, 33, 4]),
+        Shows(b"c", End, &[11, 22, 33, 4]),
         HasUnsettled(0),
     ];
     plays_after(&rt, rt.alloc(), BOOK_OF_SUM, STEPS)
@@ -70,7 +72,7 @@ fn a_copy_of_a_kept_result_is_repeated(rt: HostRuntime) -> Result<(), Fail> {
     const STEPS: &[Step] = &[
         Brings(0, Kept),
         Brings(0, Repeated),
-        Shows(b"c", &[11, 22, 33, 4]),
+        Shows(b"c", End, &[11, 22, 33, 4]),
     ];
     plays_after(&rt, rt.alloc(), SUM_OUT, STEPS)
 }
@@ -92,9 +94,9 @@ fn a_result_of_another_book_is_foreign(rt: HostRuntime) -> Result<(), Fail> {
     const STEPS: &[Step] = &[
         Brings(0, Foreign),
         HasUnsettled(1),
-        Waits(b"c", 1),
+        Waits(b"c", End, 1),
         Brings(1, Kept),
-        Shows(b"c", &[11, 22, 33, 4]),
+        Shows(b"c", End, &[11, 22, 33, 4]),
     ];
     plays_after_another(&rt, rt.alloc(), OTHER_SUM_OUT, SUM_OUT, STEPS)
 }
@@ -113,7 +115,7 @@ fn the_same_input_again_makes_a_result_stale(rt: HostRuntime) -> Result<(), Fail
         HasUnsettled(1),
         Takes(1, 8),
         Brings(1, Kept),
-        Shows(b"c", &[11, 22, 33, 4]),
+        Shows(b"c", End, &[11, 22, 33, 4]),
     ];
     plays_after(&rt, rt.alloc(), SUM_OUT, STEPS)
 }
@@ -126,12 +128,12 @@ fn an_input_touches_only_the_rows_that_read_it(rt: HostRuntime) -> Result<(), Fa
         Brings(0, Kept),
         Takes(1, 8),
         Brings(1, Kept),
-        Shows(b"c", &[17, 27, 37, 7]),
+        Shows(b"c", End, &[17, 27, 37, 7]),
         Accepts(Input(b"b", 0, &[1])),
         HasUnsettled(1),
         Takes(1, 9),
         Brings(2, Kept),
-        Shows(b"c", &[8, 27, 37, 7]),
+        Shows(b"c", End, &[8, 27, 37, 7]),
     ];
     plays_after(&rt, rt.alloc(), BOOK_OF_SUM, STEPS)
 }
@@ -168,7 +170,7 @@ const FIRST_EDITS: &[Change] = &[
     Field(b"c", b"s", 8),
     Input(b"a", 0, &[1, 2, 3, 4]),
     Input(b"b", 0, &[10, 20, 30, 0]),
-    Append(SUM),
+    Insert(End, SUM),
 ];
 
 /// The events of a first script: its edits, an order, and a look.
@@ -180,10 +182,6 @@ fn first_events(rt: &impl Abort, alloc: Global) -> Result<Vec<Event>, AllocError
     events.push(Event::Take)?;
     events.push(Event::Show(key(rt, b"c"), End))?;
     Ok(events)
-}
-
-fn answer(rt: &impl Abort, book: &mut Book, event: Event) -> Reply {
-    book.step(event).ok().expect(rt, "there is memory")
 }
 
 /// The replies to events that are answered one by one.
@@ -302,9 +300,9 @@ fn a_book_is_settled_although_orders_are_lost(rt: HostRuntime) -> Result<(), Fai
         Settles(3),
         Settles(0),
         HasNoFaults,
-        Shows(b"c", &[11, 22, 33, 4]),
-        Shows(b"a", &[22, 44, 66, 8]),
-        Shows(b"b", &[5, 5, 5, 5]),
+        Shows(b"c", End, &[11, 22, 33, 4]),
+        Shows(b"a", End, &[22, 44, 66, 8]),
+        Shows(b"b", End, &[5, 5, 5, 5]),
     ];
     plays_after(&rt, rt.alloc(), BOOK_OF_THREE, STEPS)
 }
@@ -317,9 +315,9 @@ fn a_result_is_kept_after_a_release(rt: HostRuntime) -> Result<(), Fail> {
         Brings(0, Kept),
         HasUnsettled(2),
         Settles(2),
-        Shows(b"c", &[11, 22, 33, 4]),
-        Shows(b"a", &[22, 44, 66, 8]),
-        Shows(b"b", &[5, 5, 5, 5]),
+        Shows(b"c", End, &[11, 22, 33, 4]),
+        Shows(b"a", End, &[22, 44, 66, 8]),
+        Shows(b"b", End, &[5, 5, 5, 5]),
     ];
     plays_after(&rt, rt.alloc(), BOOK_OF_THREE, STEPS)
 }
@@ -342,13 +340,16 @@ const BOOK_OF_TWO_SETS: &[Step] = &[
 #[test]
 fn inserts_are_refused_by_their_faults(rt: HostRuntime) -> Result<(), Fail> {
     const STEPS: &[Step] = &[
-        Refuses(Append(b"u-move-1L a zz 8"), Fault::NoField),
-        Refuses(Append(b"u-move-1L a t 8"), Fault::WrongSet),
-        Refuses(Append(b"my-news-coordinate-1L a 1 8"), Fault::BadAxis),
-        Refuses(Append(b"u-move-1L a a 9"), Fault::BadLength),
-        Refuses(Append(b"u-move-constant-1L a 256 8"), Fault::BadOperand),
-        Refuses(Append(b"send-1L n a a 1 n"), Fault::Overlap),
-        Refuses(Append(b"set-test w"), Fault::NoSet),
+        Refuses(Insert(End, b"u-move-1L a zz 8"), Fault::NoField),
+        Refuses(Insert(End, b"u-move-1L a t 8"), Fault::WrongSet),
+        Refuses(Insert(End, b"my-news-coordinate-1L a 1 8"), Fault::BadAxis),
+        Refuses(Insert(End, b"u-move-1L a a 9"), Fault::BadLength),
+        Refuses(
+            Insert(End, b"u-move-constant-1L a 256 8"),
+            Fault::BadOperand,
+        ),
+        Refuses(Insert(End, b"send-1L n a a 1 n"), Fault::Overlap),
+        Refuses(Insert(End, b"set-test w"), Fault::NoSet),
     ];
     plays_after(&rt, rt.alloc(), BOOK_OF_TWO_SETS, STEPS)
 }

@@ -4,6 +4,8 @@
 #[cfg(test)]
 mod books;
 #[cfg(test)]
+mod edits;
+#[cfg(test)]
 mod instructions;
 #[cfg(test)]
 mod programs;

@@ -3,9 +3,10 @@
 use crate::programs;
 use crate::spellings::*;
 use paris_book::{Book, Look};
-use paris_events::{Edit, EditReply, Verdict};
+use paris_events::{Edit, EditReply, RowLook, Status, Verdict};
 use paris_exec::{Done, Order, execute};
 use paris_machine::{Event, Reply};
+use paris_model::Refusal;
 use paris_names::{Edition, Fault, Items, RowId, Spot};
 use std::alloc::{AllocError, Global};
 use std::process::Abort;
@@ -19,17 +20,26 @@ pub(crate) enum Change {
     Field(Text, Text, u64),
     /// A key is given these numbers, from a processor on.
     Input(Text, u64, &'static [u128]),
-    /// An instruction is put in after the last row.
-    Append(Text),
+    /// An instruction is put in at a spot.
+    Insert(Spot, Text),
+    /// The row of this id is taken out.
+    Delete(u64),
+    /// The row of this id is given another instruction.
+    Replace(u64, Text),
 }
+
+/// A row, as a table has it: its id, its edition, its status, its instruction, and why it is refused, if it is.
+pub(crate) type Row = (u64, u64, Status, Text, Option<Refusal>);
 
 /// What a user or a worker does with a book, and what must come of it.
 pub(crate) enum Step {
-    /// An edit is accepted.
+    /// An edit is accepted, which puts in no row.
     Accepts(Change),
+    /// Fields of the set `s` are declared, of width 8.
+    DeclaresFields(&'static [Text]),
     /// An instruction is put in at a spot, and becomes the row of this id.
     Inserts(Spot, Text, u64),
-    /// An edit is refused with this fault, and leaves the count of edits as it was.
+    /// An edit is refused with this fault, and leaves the count of edits and the list of rows as they were.
     Refuses(Change, Fault),
     /// An order is taken, which is for the row of this id with this edition. Its result is kept in hand.
     Takes(u64, u64),
@@ -45,10 +55,14 @@ pub(crate) enum Step {
     ReleasesByEvent,
     /// The book is settled by so many orders.
     Settles(u64),
-    /// What is shown of a key at the end of the program is settled, and these numbers.
-    Shows(Text, &'static [u128]),
-    /// A key is pending at the end of the program, for the row of this id.
-    Waits(Text, u64),
+    /// Just these rows are listed.
+    Lists(&'static [Row]),
+    /// What is shown of a key at a spot is settled, and these numbers.
+    Shows(Text, Spot, &'static [u128]),
+    /// A key is pending at a spot, for the row of this id.
+    Waits(Text, Spot, u64),
+    /// A look at a key at a spot is refused with this fault.
+    RefusesLook(Text, Spot, Fault),
     /// Just so many edits were accepted.
     HasEdits(u64),
     /// Just so many rows aren't settled.
@@ -72,8 +86,39 @@ pub(crate) fn edit_of(rt: &impl Abort, alloc: Global, change: &Change) -> Result
             let values = Items::new(Vec::from_slice(alloc, *numbers)?);
             Ok(Edit::Input(key(rt, *text), *from, values))
         }
-        Change::Append(text) => Ok(Edit::Insert(Spot::End, instr_of(rt, *text))),
+        Change::Insert(spot, text) => Ok(Edit::Insert(*spot, instr_of(rt, *text))),
+        Change::Delete(id) => Ok(Edit::Delete(RowId(*id))),
+        Change::Replace(id, text) => Ok(Edit::Replace(RowId(*id), instr_of(rt, *text))),
     }
+}
+
+fn look_of(rt: &impl Abort, row: &Row) -> RowLook {
+    let (id, edition, status, text, cause) = row;
+    RowLook {
+        id: RowId(*id),
+        edition: Edition(*edition),
+        status: *status,
+        instr: instr_of(rt, *text),
+        cause: *cause,
+    }
+}
+
+/// Rows as they are listed.
+pub(crate) fn looks_of(
+    rt: &impl Abort,
+    alloc: Global,
+    rows: &[Row],
+) -> Result<Vec<RowLook>, AllocError> {
+    let mut looks = Vec::new(alloc);
+    for row in rows {
+        looks.push(look_of(rt, row))?;
+    }
+    Ok(looks)
+}
+
+/// The reply to an event.
+pub(crate) fn answer(rt: &impl Abort, book: &mut Book, event: Event) -> Reply {
+    book.step(event).ok().expect(rt, "there is memory")
 }
 
 fn accepts(rt: &impl Abort, alloc: Global, book: &mut Book, change: &Change) -> Result<(), Fail> {
@@ -81,7 +126,21 @@ fn accepts(rt: &impl Abort, alloc: Global, book: &mut Book, change: &Change) -> 
     Ok(())
 }
 
-fn inserts(rt: &impl Abort, book: &mut Book, spot: Spot, text: &[u8], id: u64) -> Result<(), Fail> {
+fn declares_fields(rt: &impl Abort, book: &mut Book, fields: &[Text]) -> Result<(), Fail> {
+    for field in fields {
+        let edit = Edit::AddField(name(rt, *field), name(rt, b"s"), 8);
+        programs::accept(rt, book, edit);
+    }
+    Ok(())
+}
+
+pub(crate) fn inserts(
+    rt: &impl Abort,
+    book: &mut Book,
+    spot: Spot,
+    text: &[u8],
+    id: u64,
+) -> Result<(), Fail> {
     let answer = book.edit(Edit::Insert(spot, instr_of(rt, text)));
     assert_eq!(rt; answer, Ok(EditReply::Row(RowId(id))));
     Ok(())
@@ -95,8 +154,10 @@ fn refuses(
     fault: Fault,
 ) -> Result<(), Fail> {
     let count = book.edits();
+    let rows = book.list()?;
     let answer = book.edit(edit_of(rt, alloc, change)?);
     assert_eq!(rt; answer, Err(fault));
+    assert_eq!(rt; book.list()?.as_slice(), rows.as_slice());
     has_edits(rt, book, count)
 }
 
@@ -153,8 +214,8 @@ fn releases(book: &mut Book) -> Result<(), Fail> {
 }
 
 fn releases_by_event(rt: &impl Abort, book: &mut Book) -> Result<(), Fail> {
-    match book.step(Event::Release) {
-        Ok(Reply::Release) => {}
+    match answer(rt, book, Event::Release) {
+        Reply::Release => {}
         _ => assert!(rt; false),
     }
     Ok(())
@@ -165,16 +226,42 @@ fn settles(rt: &impl Abort, book: &mut Book, count: u64) -> Result<(), Fail> {
     has_unsettled(rt, book, 0)
 }
 
-fn shows(rt: &impl Abort, book: &Book, text: &[u8], wanted: &[u128]) -> Result<(), Fail> {
-    programs::shows(rt, book, text, wanted)?;
+fn lists(rt: &impl Abort, alloc: Global, book: &Book, rows: &[Row]) -> Result<(), Fail> {
+    let looks = looks_of(rt, alloc, rows)?;
+    assert_eq!(rt; book.list()?.as_slice(), looks.as_slice());
     Ok(())
 }
 
-fn waits(rt: &impl Abort, book: &Book, text: &[u8], id: u64) -> Result<(), Fail> {
-    match book.show(key(rt, text), Spot::End)? {
+fn shows(
+    rt: &impl Abort,
+    book: &Book,
+    text: &[u8],
+    spot: Spot,
+    numbers: &[u128],
+) -> Result<(), Fail> {
+    match book.show(key(rt, text), spot)? {
+        Look::Settled(value) => assert_eq!(rt; value.numbers()?.as_slice(), numbers),
+        Look::Pending(_) => assert!(rt; false),
+    }
+    Ok(())
+}
+
+fn waits(rt: &impl Abort, book: &Book, text: &[u8], spot: Spot, id: u64) -> Result<(), Fail> {
+    match book.show(key(rt, text), spot)? {
         Look::Settled(_) => assert!(rt; false),
         Look::Pending(row) => assert_eq!(rt; row, RowId(id)),
     }
+    Ok(())
+}
+
+fn refuses_look(
+    rt: &impl Abort,
+    book: &Book,
+    text: &[u8],
+    spot: Spot,
+    fault: Fault,
+) -> Result<(), Fail> {
+    assert!(rt; book.show(key(rt, text), spot).err() == Some(fault));
     Ok(())
 }
 
@@ -207,6 +294,7 @@ fn plays_step(
 ) -> Result<(), Fail> {
     match step {
         Step::Accepts(change) => accepts(rt, alloc, book, change),
+        Step::DeclaresFields(fields) => declares_fields(rt, book, *fields),
         Step::Inserts(spot, text, id) => inserts(rt, book, *spot, *text, *id),
         Step::Refuses(change, fault) => refuses(rt, alloc, book, change, *fault),
         Step::Takes(id, edition) => takes(rt, alloc, book, hand, *id, *edition),
@@ -216,8 +304,10 @@ fn plays_step(
         Step::Releases => releases(book),
         Step::ReleasesByEvent => releases_by_event(rt, book),
         Step::Settles(count) => settles(rt, book, *count),
-        Step::Shows(text, numbers) => shows(rt, book, *text, *numbers),
-        Step::Waits(text, id) => waits(rt, book, *text, *id),
+        Step::Lists(rows) => lists(rt, alloc, book, *rows),
+        Step::Shows(text, spot, numbers) => shows(rt, book, *text, *spot, *numbers),
+        Step::Waits(text, spot, id) => waits(rt, book, *text, *spot, *id),
+        Step::RefusesLook(text, spot, fault) => refuses_look(rt, book, *text, *spot, *fault),
         Step::HasEdits(count) => has_edits(rt, book, *count),
         Step::HasUnsettled(count) => has_unsettled(rt, book, *count),
         Step::HasNoFaults => has_no_faults(rt, book),
@@ -260,6 +350,12 @@ fn plays_in_new(
 ) -> Result<(), Fail> {
     let mut book = Book::new(alloc);
     plays_all(rt, alloc, &mut book, hand, steps)
+}
+
+/// Plays steps in a new book.
+pub(crate) fn plays(rt: &impl Abort, alloc: Global, steps: &[Step]) -> Result<(), Fail> {
+    let mut hand = Vec::new(alloc);
+    plays_in_new(rt, alloc, &mut hand, steps)
 }
 
 /// Plays the steps of a beginning in a book, and then further steps.

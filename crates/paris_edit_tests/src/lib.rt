@@ -1,10 +1,8 @@
-//! Tests of the book under edits: tables of steps, and what must come of each. It has no code of its own.
+//! Random games with a book: edits, orders and results, late ones too, beside rows that are kept the slow way. It has no code of its own.
 #![tactic(auto)]
 
 #[cfg(test)]
 mod books;
-#[cfg(test)]
-mod edits;
 #[cfg(test)]
 mod ledger;
 #[cfg(test)]
@@ -13,5 +11,3 @@ mod operations;
 mod random;
 #[cfg(test)]
 mod spellings;
-#[cfg(test)]
-mod steps;

@@ -1,6 +1,6 @@
 //! Names, keys, and instructions by their shapes.
 
-use paris_model::{Action, BinaryOperator, Comparison, Conditional, Instr, Mail, UnaryOperator};
+use paris_model::{Action, BinaryOperator, Comparison, Conditional, Instr, UnaryOperator};
 use paris_names::{FlagName, KeyName, Name};
 use std::process::Abort;
 
@@ -79,20 +79,4 @@ pub(crate) fn compare(
         right: name(rt, right),
         length,
     })
-}
-
-/// A send of `v` to `d` by the addresses `ad`, of length 8, which is noted in `n`.
-pub(crate) fn send(rt: &impl Abort) -> Instr {
-    Action::ByMail(Mail::Send {
-        to: name(rt, b"d"),
-        addresses: name(rt, b"ad"),
-        from: name(rt, b"v"),
-        length: 8,
-        notify: Some(name(rt, b"n")),
-    })
-}
-
-/// Sets the test flag of the set `s`.
-pub(crate) fn set_test(rt: &impl Abort) -> Instr {
-    Action::OnSelected(Conditional::SetTest(name(rt, b"s")))
 }

@@ -1,11 +1,11 @@
 //! Tests of rows that are put in, taken out and replaced, of what becomes unsettled by it, and of the list of rows.
 
-use crate::books::insert;
-use crate::spellings::set_test;
-use crate::steps::Change::{Delete, Insert, Replace};
+use crate::spellings::Text;
+use crate::steps::Change::{Delete, Field, Input, Insert, Replace, Set};
 use crate::steps::Step::*;
-use crate::steps::Written::*;
-use crate::steps::{Change, Row, Step, Written, edit_of, looks_of, plays, plays_after, plays_in};
+use crate::steps::{
+    Change, Row, Step, answer, edit_of, inserts, looks_of, plays, plays_after, plays_in,
+};
 use paris_book::Book;
 use paris_events::EditReply;
 use paris_events::Status::{Out, Settled, Waiting};
@@ -18,15 +18,20 @@ use std::alloc::Global;
 use std::process::Abort;
 use std::test::*;
 
-const SUM: Written = Sum(b"c", b"a", b"b");
+/// A send of `v` to `d` by the addresses `ad`, which is noted in `n`.
+const SEND: Text = b"send-1L d ad v 8 n";
+
+const SET_TEST: Text = b"set-test s";
+
+const SUM: Text = b"u-add-3-1L c a b 8";
 
 /// A book with the set `s` of four processors, the fields `a`, `b` and `c`, and input data of `a` and `b`, whose one row is the sum
 /// of both.
 const BOOK_OF_SUM: &[Step] = &[
-    DeclaresSet(b"s", &[4]),
+    Accepts(Set(b"s", &[4])),
     DeclaresFields(&[b"a", b"b", b"c"]),
-    Gives(b"a", 0, &[1, 2, 3, 4]),
-    Gives(b"b", 0, &[10, 20, 30, 0]),
+    Accepts(Input(b"a", 0, &[1, 2, 3, 4])),
+    Accepts(Input(b"b", 0, &[10, 20, 30, 0])),
     Inserts(End, SUM, 1),
 ];
 
@@ -34,7 +39,7 @@ const BOOK_OF_SUM: &[Step] = &[
 fn the_result_of_a_deleted_row_is_gone(rt: HostRuntime) -> Result<(), Fail> {
     const STEPS: &[Step] = &[
         Takes(1, 7),
-        Deletes(1),
+        Accepts(Delete(1)),
         Brings(0, Gone),
         Shows(b"c", End, &[0, 0, 0, 0]),
         Lists(&[]),
@@ -48,7 +53,7 @@ fn the_result_of_a_deleted_row_is_gone(rt: HostRuntime) -> Result<(), Fail> {
 fn a_row_put_in_for_a_deleted_one_has_an_id_of_its_own(rt: HostRuntime) -> Result<(), Fail> {
     const STEPS: &[Step] = &[
         Takes(1, 7),
-        Deletes(1),
+        Accepts(Delete(1)),
         Inserts(Start, SUM, 2),
         Brings(0, Gone),
         Waits(b"c", End, 2),
@@ -60,17 +65,17 @@ fn a_row_put_in_for_a_deleted_one_has_an_id_of_its_own(rt: HostRuntime) -> Resul
 #[test]
 fn only_the_readers_of_an_input_become_unsettled(rt: HostRuntime) -> Result<(), Fail> {
     const STEPS: &[Step] = &[
-        DeclaresSet(b"s", &[4]),
+        Accepts(Set(b"s", &[4])),
         DeclaresFields(&[b"a", b"b", b"d", b"e", b"f"]),
-        Inserts(End, And(b"d", b"a", b"b"), 1),
-        Inserts(End, Or(b"e", b"d", b"a"), 2),
-        Inserts(End, Xor(b"f", b"b", b"b"), 3),
+        Inserts(End, b"logand-3-1L d a b 8", 1),
+        Inserts(End, b"logior-3-1L e d a 8", 2),
+        Inserts(End, b"logxor-3-1L f b b 8", 3),
         Settles(3),
-        Gives(b"a", 0, &[1]),
+        Accepts(Input(b"a", 0, &[1])),
         Lists(&[
-            (1, 10, Waiting, And(b"d", b"a", b"b"), None),
-            (2, 10, Waiting, Or(b"e", b"d", b"a"), None),
-            (3, 9, Settled, Xor(b"f", b"b", b"b"), None),
+            (1, 10, Waiting, b"logand-3-1L d a b 8", None),
+            (2, 10, Waiting, b"logior-3-1L e d a 8", None),
+            (3, 9, Settled, b"logxor-3-1L f b b 8", None),
         ]),
         HasUnsettled(2),
     ];
@@ -79,21 +84,21 @@ fn only_the_readers_of_an_input_become_unsettled(rt: HostRuntime) -> Result<(), 
 
 /// A book with the fields `a`, `c`, `d` and `e`, and input data of `a`.
 const BOOK_OF_FOUR_FIELDS: &[Step] = &[
-    DeclaresSet(b"s", &[4]),
+    Accepts(Set(b"s", &[4])),
     DeclaresFields(&[b"a", b"c", b"d", b"e"]),
-    Gives(b"a", 0, &[1, 2, 3, 4]),
+    Accepts(Input(b"a", 0, &[1, 2, 3, 4])),
 ];
 
 #[test]
 fn a_replace_looks_at_the_old_writes_too(rt: HostRuntime) -> Result<(), Fail> {
     const STEPS: &[Step] = &[
-        Inserts(End, Move(b"c", b"a"), 1),
-        Inserts(End, Move(b"d", b"c"), 2),
+        Inserts(End, b"u-move-1L c a 8", 1),
+        Inserts(End, b"u-move-1L d c 8", 2),
         Settles(2),
-        Replaces(1, Move(b"e", b"a")),
+        Accepts(Replace(1, b"u-move-1L e a 8")),
         Lists(&[
-            (1, 9, Waiting, Move(b"e", b"a"), None),
-            (2, 9, Waiting, Move(b"d", b"c"), None),
+            (1, 9, Waiting, b"u-move-1L e a 8", None),
+            (2, 9, Waiting, b"u-move-1L d c 8", None),
         ]),
         Settles(2),
         Shows(b"c", End, &[0, 0, 0, 0]),
@@ -106,13 +111,13 @@ fn a_replace_looks_at_the_old_writes_too(rt: HostRuntime) -> Result<(), Fail> {
 #[test]
 fn a_replace_looks_at_the_new_writes_too(rt: HostRuntime) -> Result<(), Fail> {
     const STEPS: &[Step] = &[
-        Inserts(End, Move(b"e", b"a"), 1),
-        Inserts(End, Move(b"d", b"c"), 2),
+        Inserts(End, b"u-move-1L e a 8", 1),
+        Inserts(End, b"u-move-1L d c 8", 2),
         Settles(2),
-        Replaces(1, Move(b"c", b"a")),
+        Accepts(Replace(1, b"u-move-1L c a 8")),
         Lists(&[
-            (1, 9, Waiting, Move(b"c", b"a"), None),
-            (2, 9, Waiting, Move(b"d", b"c"), None),
+            (1, 9, Waiting, b"u-move-1L c a 8", None),
+            (2, 9, Waiting, b"u-move-1L d c 8", None),
         ]),
         Settles(2),
         Shows(b"d", End, &[1, 2, 3, 4]),
@@ -124,16 +129,16 @@ fn a_replace_looks_at_the_new_writes_too(rt: HostRuntime) -> Result<(), Fail> {
 #[test]
 fn rows_stand_where_they_are_put(rt: HostRuntime) -> Result<(), Fail> {
     const STEPS: &[Step] = &[
-        DeclaresSet(b"s", &[4]),
-        Inserts(End, SetTest, 1),
-        Inserts(End, SetTest, 2),
-        Inserts(Start, SetTest, 3),
-        Inserts(After(RowId(1)), SetTest, 4),
+        Accepts(Set(b"s", &[4])),
+        Inserts(End, SET_TEST, 1),
+        Inserts(End, SET_TEST, 2),
+        Inserts(Start, SET_TEST, 3),
+        Inserts(After(RowId(1)), SET_TEST, 4),
         Lists(&[
-            (3, 4, Waiting, SetTest, None),
-            (1, 4, Waiting, SetTest, None),
-            (4, 5, Waiting, SetTest, None),
-            (2, 5, Waiting, SetTest, None),
+            (3, 4, Waiting, SET_TEST, None),
+            (1, 4, Waiting, SET_TEST, None),
+            (4, 5, Waiting, SET_TEST, None),
+            (2, 5, Waiting, SET_TEST, None),
         ]),
     ];
     plays(&rt, rt.alloc(), STEPS)
@@ -143,10 +148,10 @@ fn rows_stand_where_they_are_put(rt: HostRuntime) -> Result<(), Fail> {
 fn a_row_after_the_last_one_is_at_the_end(rt: HostRuntime) -> Result<(), Fail> {
     const STEPS: &[Step] = &[
         Settles(1),
-        Inserts(After(RowId(1)), Constant(b"c", 9), 2),
+        Inserts(After(RowId(1)), b"u-move-constant-1L c 9 8", 2),
         Lists(&[
             (1, 7, Settled, SUM, None),
-            (2, 8, Waiting, Constant(b"c", 9), None),
+            (2, 8, Waiting, b"u-move-constant-1L c 9 8", None),
         ]),
         Settles(1),
         Shows(b"c", End, &[9, 9, 9, 9]),
@@ -156,10 +161,10 @@ fn a_row_after_the_last_one_is_at_the_end(rt: HostRuntime) -> Result<(), Fail> {
 
 /// A book with the fields `a`, `c` and `d`, whose rows move `a` to `c` and `c` to `d`.
 const BOOK_OF_TWO_MOVES: &[Step] = &[
-    DeclaresSet(b"s", &[4]),
+    Accepts(Set(b"s", &[4])),
     DeclaresFields(&[b"a", b"c", b"d"]),
-    Inserts(End, Move(b"c", b"a"), 1),
-    Inserts(End, Move(b"d", b"c"), 2),
+    Inserts(End, b"u-move-1L c a 8", 1),
+    Inserts(End, b"u-move-1L d c 8", 2),
 ];
 
 #[test]
@@ -168,7 +173,7 @@ fn rows_that_are_out_get_new_editions(rt: HostRuntime) -> Result<(), Fail> {
         Takes(1, 5),
         Brings(0, Kept),
         Takes(2, 6),
-        Gives(b"a", 0, &[9]),
+        Accepts(Input(b"a", 0, &[9])),
         Brings(1, Stale(Edition(7))),
         Takes(1, 7),
         TakesNothing,
@@ -185,10 +190,10 @@ fn rows_that_are_out_get_new_editions(rt: HostRuntime) -> Result<(), Fail> {
 /// A book of two moves whose first row is settled and whose second is out. The second one's result is in hand after the first
 /// one's.
 const SECOND_MOVE_OUT: &[Step] = &[
-    DeclaresSet(b"s", &[4]),
+    Accepts(Set(b"s", &[4])),
     DeclaresFields(&[b"a", b"c", b"d"]),
-    Inserts(End, Move(b"c", b"a"), 1),
-    Inserts(End, Move(b"d", b"c"), 2),
+    Inserts(End, b"u-move-1L c a 8", 1),
+    Inserts(End, b"u-move-1L d c 8", 2),
     Takes(1, 5),
     Brings(0, Kept),
     Takes(2, 6),
@@ -197,12 +202,12 @@ const SECOND_MOVE_OUT: &[Step] = &[
 #[test]
 fn a_row_that_is_out_waits_after_an_insert_above(rt: HostRuntime) -> Result<(), Fail> {
     const ROWS: &[Row] = &[
-        (1, 5, Settled, Move(b"c", b"a"), None),
-        (3, 7, Waiting, Constant(b"c", 5), None),
-        (2, 7, Waiting, Move(b"d", b"c"), None),
+        (1, 5, Settled, b"u-move-1L c a 8", None),
+        (3, 7, Waiting, b"u-move-constant-1L c 5 8", None),
+        (2, 7, Waiting, b"u-move-1L d c 8", None),
     ];
     const STEPS: &[Step] = &[
-        Inserts(After(RowId(1)), Constant(b"c", 5), 3),
+        Inserts(After(RowId(1)), b"u-move-constant-1L c 5 8", 3),
         Lists(ROWS),
         Brings(1, Stale(Edition(7))),
         Lists(ROWS),
@@ -214,9 +219,9 @@ fn a_row_that_is_out_waits_after_an_insert_above(rt: HostRuntime) -> Result<(), 
 
 #[test]
 fn a_row_that_is_out_waits_after_a_delete_above(rt: HostRuntime) -> Result<(), Fail> {
-    const ROWS: &[Row] = &[(2, 7, Waiting, Move(b"d", b"c"), None)];
+    const ROWS: &[Row] = &[(2, 7, Waiting, b"u-move-1L d c 8", None)];
     const STEPS: &[Step] = &[
-        Deletes(1),
+        Accepts(Delete(1)),
         Lists(ROWS),
         Brings(1, Stale(Edition(7))),
         Lists(ROWS),
@@ -229,11 +234,11 @@ fn a_row_that_is_out_waits_after_a_delete_above(rt: HostRuntime) -> Result<(), F
 #[test]
 fn a_row_that_is_out_waits_after_a_replace_above(rt: HostRuntime) -> Result<(), Fail> {
     const ROWS: &[Row] = &[
-        (1, 7, Waiting, Constant(b"c", 6), None),
-        (2, 7, Waiting, Move(b"d", b"c"), None),
+        (1, 7, Waiting, b"u-move-constant-1L c 6 8", None),
+        (2, 7, Waiting, b"u-move-1L d c 8", None),
     ];
     const STEPS: &[Step] = &[
-        Replaces(1, Constant(b"c", 6)),
+        Accepts(Replace(1, b"u-move-constant-1L c 6 8")),
         Lists(ROWS),
         Brings(1, Stale(Edition(7))),
         Lists(ROWS),
@@ -248,13 +253,13 @@ fn a_row_that_is_out_stays_out_where_nothing_that_it_reads_changes(
     rt: HostRuntime,
 ) -> Result<(), Fail> {
     const STEPS: &[Step] = &[
-        Inserts(Start, SetTest, 3),
-        Inserts(End, Constant(b"d", 4), 4),
+        Inserts(Start, SET_TEST, 3),
+        Inserts(End, b"u-move-constant-1L d 4 8", 4),
         Lists(&[
-            (3, 7, Waiting, SetTest, None),
-            (1, 5, Settled, Move(b"c", b"a"), None),
-            (2, 6, Out, Move(b"d", b"c"), None),
-            (4, 8, Waiting, Constant(b"d", 4), None),
+            (3, 7, Waiting, SET_TEST, None),
+            (1, 5, Settled, b"u-move-1L c a 8", None),
+            (2, 6, Out, b"u-move-1L d c 8", None),
+            (4, 8, Waiting, b"u-move-constant-1L d 4 8", None),
         ]),
         Brings(1, Kept),
         HasUnsettled(2),
@@ -265,17 +270,17 @@ fn a_row_that_is_out_stays_out_where_nothing_that_it_reads_changes(
 #[test]
 fn a_row_in_the_middle_hides_the_source_of_the_rows_below(rt: HostRuntime) -> Result<(), Fail> {
     const STEPS: &[Step] = &[
-        DeclaresSet(b"s", &[4]),
+        Accepts(Set(b"s", &[4])),
         DeclaresFields(&[b"a", b"b", b"c", b"d"]),
-        Inserts(End, Move(b"c", b"a"), 1),
-        Inserts(End, Move(b"d", b"c"), 2),
-        Inserts(After(RowId(1)), Move(b"c", b"b"), 3),
+        Inserts(End, b"u-move-1L c a 8", 1),
+        Inserts(End, b"u-move-1L d c 8", 2),
+        Inserts(After(RowId(1)), b"u-move-1L c b 8", 3),
         Settles(3),
-        Gives(b"b", 0, &[1]),
+        Accepts(Input(b"b", 0, &[1])),
         Lists(&[
-            (1, 6, Settled, Move(b"c", b"a"), None),
-            (3, 9, Waiting, Move(b"c", b"b"), None),
-            (2, 9, Waiting, Move(b"d", b"c"), None),
+            (1, 6, Settled, b"u-move-1L c a 8", None),
+            (3, 9, Waiting, b"u-move-1L c b 8", None),
+            (2, 9, Waiting, b"u-move-1L d c 8", None),
         ]),
     ];
     plays(&rt, rt.alloc(), STEPS)
@@ -284,15 +289,15 @@ fn a_row_in_the_middle_hides_the_source_of_the_rows_below(rt: HostRuntime) -> Re
 #[test]
 fn what_is_wholly_overwritten_unsettles_no_row_below(rt: HostRuntime) -> Result<(), Fail> {
     const STEPS: &[Step] = &[
-        Inserts(End, MoveAlways(b"c", b"b"), 2),
-        Inserts(End, Move(b"a", b"c"), 3),
+        Inserts(End, b"u-move-always-1L c b 8", 2),
+        Inserts(End, b"u-move-1L a c 8", 3),
         Settles(3),
-        Deletes(1),
-        Inserts(Start, Constant(b"c", 3), 4),
+        Accepts(Delete(1)),
+        Inserts(Start, b"u-move-constant-1L c 3 8", 4),
         Lists(&[
-            (4, 11, Waiting, Constant(b"c", 3), None),
-            (2, 8, Settled, MoveAlways(b"c", b"b"), None),
-            (3, 9, Settled, Move(b"a", b"c"), None),
+            (4, 11, Waiting, b"u-move-constant-1L c 3 8", None),
+            (2, 8, Settled, b"u-move-always-1L c b 8", None),
+            (3, 9, Settled, b"u-move-1L a c 8", None),
         ]),
         Shows(b"a", End, &[10, 20, 30, 0]),
         Shows(b"c", End, &[10, 20, 30, 0]),
@@ -304,14 +309,14 @@ fn what_is_wholly_overwritten_unsettles_no_row_below(rt: HostRuntime) -> Result<
 #[test]
 fn a_deleted_row_gives_way_to_the_one_above_it(rt: HostRuntime) -> Result<(), Fail> {
     const STEPS: &[Step] = &[
-        Gives(b"a", 0, &[1, 2, 3, 4]),
-        Inserts(After(RowId(1)), Constant(b"c", 8), 3),
+        Accepts(Input(b"a", 0, &[1, 2, 3, 4])),
+        Inserts(After(RowId(1)), b"u-move-constant-1L c 8 8", 3),
         Settles(3),
         Shows(b"d", End, &[8, 8, 8, 8]),
-        Deletes(3),
+        Accepts(Delete(3)),
         Lists(&[
-            (1, 7, Settled, Move(b"c", b"a"), None),
-            (2, 9, Waiting, Move(b"d", b"c"), None),
+            (1, 7, Settled, b"u-move-1L c a 8", None),
+            (2, 9, Waiting, b"u-move-1L d c 8", None),
         ]),
         Shows(b"c", End, &[1, 2, 3, 4]),
         Settles(1),
@@ -321,17 +326,17 @@ fn a_deleted_row_gives_way_to_the_one_above_it(rt: HostRuntime) -> Result<(), Fa
 }
 
 /// Twice that sum, in `a`.
-const SECOND_SUM: Written = Sum(b"a", b"c", b"c");
+const SECOND_SUM: Text = b"u-add-3-1L a c c 8";
 
 /// A book of three settled rows: the sum of `a` and `b` in `c`, twice that in `a`, and a constant in `b`.
 const BOOK_OF_THREE: &[Step] = &[
-    DeclaresSet(b"s", &[4]),
+    Accepts(Set(b"s", &[4])),
     DeclaresFields(&[b"a", b"b", b"c"]),
-    Gives(b"a", 0, &[1, 2, 3, 4]),
-    Gives(b"b", 0, &[10, 20, 30, 0]),
+    Accepts(Input(b"a", 0, &[1, 2, 3, 4])),
+    Accepts(Input(b"b", 0, &[10, 20, 30, 0])),
     Inserts(End, SUM, 1),
     Inserts(End, SECOND_SUM, 2),
-    Inserts(End, Constant(b"b", 5), 3),
+    Inserts(End, b"u-move-constant-1L b 5 8", 3),
     Settles(3),
 ];
 
@@ -340,11 +345,11 @@ fn a_replace_by_the_same_instruction_unsettles_the_row_and_its_readers(
     rt: HostRuntime,
 ) -> Result<(), Fail> {
     const STEPS: &[Step] = &[
-        Replaces(1, SUM),
+        Accepts(Replace(1, SUM)),
         Lists(&[
             (1, 10, Waiting, SUM, None),
             (2, 10, Waiting, SECOND_SUM, None),
-            (3, 9, Settled, Constant(b"b", 5), None),
+            (3, 9, Settled, b"u-move-constant-1L b 5 8", None),
         ]),
     ];
     plays_after(&rt, rt.alloc(), BOOK_OF_THREE, STEPS)
@@ -353,11 +358,11 @@ fn a_replace_by_the_same_instruction_unsettles_the_row_and_its_readers(
 #[test]
 fn an_input_of_the_same_numbers_unsettles_the_readers(rt: HostRuntime) -> Result<(), Fail> {
     const STEPS: &[Step] = &[
-        Gives(b"a", 0, &[1, 2, 3, 4]),
+        Accepts(Input(b"a", 0, &[1, 2, 3, 4])),
         Lists(&[
             (1, 10, Waiting, SUM, None),
             (2, 10, Waiting, SECOND_SUM, None),
-            (3, 9, Settled, Constant(b"b", 5), None),
+            (3, 9, Settled, b"u-move-constant-1L b 5 8", None),
         ]),
     ];
     plays_after(&rt, rt.alloc(), BOOK_OF_THREE, STEPS)
@@ -366,11 +371,11 @@ fn an_input_of_the_same_numbers_unsettles_the_readers(rt: HostRuntime) -> Result
 #[test]
 fn rows_above_a_replaced_one_stay_settled(rt: HostRuntime) -> Result<(), Fail> {
     const STEPS: &[Step] = &[
-        Replaces(3, Constant(b"b", 5)),
+        Accepts(Replace(3, b"u-move-constant-1L b 5 8")),
         Lists(&[
             (1, 7, Settled, SUM, None),
             (2, 8, Settled, SECOND_SUM, None),
-            (3, 10, Waiting, Constant(b"b", 5), None),
+            (3, 10, Waiting, b"u-move-constant-1L b 5 8", None),
         ]),
     ];
     plays_after(&rt, rt.alloc(), BOOK_OF_THREE, STEPS)
@@ -401,7 +406,7 @@ fn a_settled_program_is_shown_after_each_row(rt: HostRuntime) -> Result<(), Fail
 #[test]
 fn a_key_is_pending_only_below_the_row_that_waits(rt: HostRuntime) -> Result<(), Fail> {
     const STEPS: &[Step] = &[
-        Replaces(2, Sum(b"a", b"c", b"b")),
+        Accepts(Replace(2, b"u-add-3-1L a c b 8")),
         Shows(b"a", After(RowId(1)), &[1, 2, 3, 4]),
         Shows(b"s.carry", After(RowId(1)), &[0, 0, 0, 0]),
         Waits(b"a", After(RowId(2)), 2),
@@ -417,7 +422,7 @@ fn a_key_is_pending_only_below_the_row_that_waits(rt: HostRuntime) -> Result<(),
 #[test]
 fn a_row_that_is_not_there_is_refused(rt: HostRuntime) -> Result<(), Fail> {
     const STEPS: &[Step] = &[
-        Deletes(2),
+        Accepts(Delete(2)),
         Refuses(Delete(0), Fault::NoRow),
         Refuses(Replace(0, SUM), Fault::NoRow),
         Refuses(Insert(After(RowId(0)), SUM), Fault::NoRow),
@@ -441,47 +446,56 @@ fn a_row_that_is_not_there_is_refused(rt: HostRuntime) -> Result<(), Fail> {
 
 /// A book with the field `a` of the set `s`, the field `t` of the set `u`, and a settled row.
 const BOOK_OF_TWO_SETS: &[Step] = &[
-    DeclaresSet(b"s", &[4]),
+    Accepts(Set(b"s", &[4])),
     DeclaresFields(&[b"a"]),
-    DeclaresSet(b"u", &[2]),
-    DeclaresField(b"t", b"u", 8),
-    Inserts(End, Constant(b"a", 1), 1),
+    Accepts(Set(b"u", &[2])),
+    Accepts(Field(b"t", b"u", 8)),
+    Inserts(End, b"u-move-constant-1L a 1 8", 1),
     Settles(1),
 ];
 
 #[test]
 fn a_row_is_looked_for_before_the_faults_of_an_instruction(rt: HostRuntime) -> Result<(), Fail> {
     const STEPS: &[Step] = &[
-        Refuses(Insert(Start, Move(b"a", b"zz")), Fault::NoField),
-        Refuses(Insert(After(RowId(1)), Move(b"a", b"zz")), Fault::NoField),
-        Refuses(Insert(End, Move(b"a", b"zz")), Fault::NoField),
-        Refuses(Replace(1, Move(b"a", b"zz")), Fault::NoField),
-        Refuses(Insert(After(RowId(2)), Move(b"a", b"zz")), Fault::NoRow),
-        Refuses(Replace(2, Move(b"a", b"zz")), Fault::NoRow),
-        Refuses(Insert(Start, Move(b"a", b"t")), Fault::WrongSet),
-        Refuses(Insert(After(RowId(1)), Move(b"a", b"t")), Fault::WrongSet),
-        Refuses(Insert(End, Move(b"a", b"t")), Fault::WrongSet),
-        Refuses(Replace(1, Move(b"a", b"t")), Fault::WrongSet),
-        Refuses(Insert(After(RowId(2)), Move(b"a", b"t")), Fault::NoRow),
-        Refuses(Replace(2, Move(b"a", b"t")), Fault::NoRow),
-        Refuses(Insert(Start, LongMove(b"a", b"a")), Fault::BadLength),
+        Refuses(Insert(Start, b"u-move-1L a zz 8"), Fault::NoField),
+        Refuses(Insert(After(RowId(1)), b"u-move-1L a zz 8"), Fault::NoField),
+        Refuses(Insert(End, b"u-move-1L a zz 8"), Fault::NoField),
+        Refuses(Replace(1, b"u-move-1L a zz 8"), Fault::NoField),
+        Refuses(Insert(After(RowId(2)), b"u-move-1L a zz 8"), Fault::NoRow),
+        Refuses(Replace(2, b"u-move-1L a zz 8"), Fault::NoRow),
+        Refuses(Insert(Start, b"u-move-1L a t 8"), Fault::WrongSet),
+        Refuses(Insert(After(RowId(1)), b"u-move-1L a t 8"), Fault::WrongSet),
+        Refuses(Insert(End, b"u-move-1L a t 8"), Fault::WrongSet),
+        Refuses(Replace(1, b"u-move-1L a t 8"), Fault::WrongSet),
+        Refuses(Insert(After(RowId(2)), b"u-move-1L a t 8"), Fault::NoRow),
+        Refuses(Replace(2, b"u-move-1L a t 8"), Fault::NoRow),
+        Refuses(Insert(Start, b"u-move-1L a a 9"), Fault::BadLength),
         Refuses(
-            Insert(After(RowId(1)), LongMove(b"a", b"a")),
+            Insert(After(RowId(1)), b"u-move-1L a a 9"),
             Fault::BadLength,
         ),
-        Refuses(Insert(End, LongMove(b"a", b"a")), Fault::BadLength),
-        Refuses(Replace(1, LongMove(b"a", b"a")), Fault::BadLength),
-        Refuses(Insert(After(RowId(2)), LongMove(b"a", b"a")), Fault::NoRow),
-        Refuses(Replace(2, LongMove(b"a", b"a")), Fault::NoRow),
-        Refuses(Insert(Start, Constant(b"a", 256)), Fault::BadOperand),
+        Refuses(Insert(End, b"u-move-1L a a 9"), Fault::BadLength),
+        Refuses(Replace(1, b"u-move-1L a a 9"), Fault::BadLength),
+        Refuses(Insert(After(RowId(2)), b"u-move-1L a a 9"), Fault::NoRow),
+        Refuses(Replace(2, b"u-move-1L a a 9"), Fault::NoRow),
         Refuses(
-            Insert(After(RowId(1)), Constant(b"a", 256)),
+            Insert(Start, b"u-move-constant-1L a 256 8"),
             Fault::BadOperand,
         ),
-        Refuses(Insert(End, Constant(b"a", 256)), Fault::BadOperand),
-        Refuses(Replace(1, Constant(b"a", 256)), Fault::BadOperand),
-        Refuses(Insert(After(RowId(2)), Constant(b"a", 256)), Fault::NoRow),
-        Refuses(Replace(2, Constant(b"a", 256)), Fault::NoRow),
+        Refuses(
+            Insert(After(RowId(1)), b"u-move-constant-1L a 256 8"),
+            Fault::BadOperand,
+        ),
+        Refuses(
+            Insert(End, b"u-move-constant-1L a 256 8"),
+            Fault::BadOperand,
+        ),
+        Refuses(Replace(1, b"u-move-constant-1L a 256 8"), Fault::BadOperand),
+        Refuses(
+            Insert(After(RowId(2)), b"u-move-constant-1L a 256 8"),
+            Fault::NoRow,
+        ),
+        Refuses(Replace(2, b"u-move-constant-1L a 256 8"), Fault::NoRow),
         Shows(b"a", End, &[1, 1, 1, 1]),
     ];
     plays_after(&rt, rt.alloc(), BOOK_OF_TWO_SETS, STEPS)
@@ -501,17 +515,17 @@ fn a_look_is_refused_by_its_key_before_its_row(rt: HostRuntime) -> Result<(), Fa
 #[test]
 fn spent_edits_are_refused_before_a_row_is_looked_for(rt: HostRuntime) -> Result<(), Fail> {
     const STEPS: &[Step] = &[
-        DeclaresSet(b"s", &[4]),
-        Inserts(End, SetTest, 1),
+        Accepts(Set(b"s", &[4])),
+        Inserts(End, SET_TEST, 1),
         HasEdits(9_223_372_036_854_775_807),
         Refuses(Delete(1), Fault::EditionsSpent),
-        Refuses(Replace(1, SetTest), Fault::EditionsSpent),
-        Refuses(Insert(After(RowId(1)), SetTest), Fault::EditionsSpent),
+        Refuses(Replace(1, SET_TEST), Fault::EditionsSpent),
+        Refuses(Insert(After(RowId(1)), SET_TEST), Fault::EditionsSpent),
         Refuses(Delete(9), Fault::EditionsSpent),
-        Refuses(Replace(9, SetTest), Fault::EditionsSpent),
-        Refuses(Insert(After(RowId(9)), SetTest), Fault::EditionsSpent),
+        Refuses(Replace(9, SET_TEST), Fault::EditionsSpent),
+        Refuses(Insert(After(RowId(9)), SET_TEST), Fault::EditionsSpent),
         Settles(1),
-        Lists(&[(1, 9_223_372_036_854_775_807, Settled, SetTest, None)]),
+        Lists(&[(1, 9_223_372_036_854_775_807, Settled, SET_TEST, None)]),
     ];
     let mut book = Book::starting_at(rt.alloc(), 9_223_372_036_854_775_805);
     plays_in(&rt, rt.alloc(), &mut book, STEPS)
@@ -519,11 +533,11 @@ fn spent_edits_are_refused_before_a_row_is_looked_for(rt: HostRuntime) -> Result
 
 /// A book with as many rows as it may have.
 fn full_book(rt: &impl Abort, alloc: Global) -> Result<Book, Fail> {
-    const STEPS: &[Step] = &[DeclaresSet(b"s", &[4])];
+    const STEPS: &[Step] = &[Accepts(Set(b"s", &[4]))];
     let mut book = Book::new(alloc);
     plays_in(rt, alloc, &mut book, STEPS)?;
     for id in 1..4097 {
-        insert(rt, &mut book, End, set_test(rt), id);
+        inserts(rt, &mut book, End, SET_TEST, id)?;
     }
     Ok(book)
 }
@@ -531,22 +545,25 @@ fn full_book(rt: &impl Abort, alloc: Global) -> Result<Book, Fail> {
 #[test]
 fn a_full_program_has_room_at_no_spot_until_a_row_is_deleted(rt: HostRuntime) -> Result<(), Fail> {
     const STEPS: &[Step] = &[
-        Refuses(Insert(Start, SetTest), Fault::RowsFull),
-        Refuses(Insert(After(RowId(1)), SetTest), Fault::RowsFull),
-        Refuses(Insert(End, SetTest), Fault::RowsFull),
-        Refuses(Insert(After(RowId(0)), SetTest), Fault::NoRow),
-        Refuses(Insert(Start, Move(b"zz", b"zz")), Fault::RowsFull),
-        Refuses(Insert(After(RowId(1)), Move(b"zz", b"zz")), Fault::RowsFull),
-        Refuses(Insert(End, Move(b"zz", b"zz")), Fault::RowsFull),
-        Refuses(Insert(After(RowId(0)), Move(b"zz", b"zz")), Fault::NoRow),
+        Refuses(Insert(Start, SET_TEST), Fault::RowsFull),
+        Refuses(Insert(After(RowId(1)), SET_TEST), Fault::RowsFull),
+        Refuses(Insert(End, SET_TEST), Fault::RowsFull),
+        Refuses(Insert(After(RowId(0)), SET_TEST), Fault::NoRow),
+        Refuses(Insert(Start, b"u-move-1L zz zz 8"), Fault::RowsFull),
+        Refuses(
+            Insert(After(RowId(1)), b"u-move-1L zz zz 8"),
+            Fault::RowsFull,
+        ),
+        Refuses(Insert(End, b"u-move-1L zz zz 8"), Fault::RowsFull),
+        Refuses(Insert(After(RowId(0)), b"u-move-1L zz zz 8"), Fault::NoRow),
         HasEdits(4097),
-        Replaces(4096, SetTest),
-        Deletes(4096),
-        Inserts(Start, SetTest, 4097),
-        Refuses(Insert(Start, SetTest), Fault::RowsFull),
-        Refuses(Insert(After(RowId(1)), SetTest), Fault::RowsFull),
-        Refuses(Insert(End, SetTest), Fault::RowsFull),
-        Refuses(Insert(After(RowId(0)), SetTest), Fault::NoRow),
+        Accepts(Replace(4096, SET_TEST)),
+        Accepts(Delete(4096)),
+        Inserts(Start, SET_TEST, 4097),
+        Refuses(Insert(Start, SET_TEST), Fault::RowsFull),
+        Refuses(Insert(After(RowId(1)), SET_TEST), Fault::RowsFull),
+        Refuses(Insert(End, SET_TEST), Fault::RowsFull),
+        Refuses(Insert(After(RowId(0)), SET_TEST), Fault::NoRow),
         HasUnsettled(4096),
     ];
     let mut book = full_book(&rt, rt.alloc())?;
@@ -555,35 +572,35 @@ fn a_full_program_has_room_at_no_spot_until_a_row_is_deleted(rt: HostRuntime) ->
 
 /// A book with fields for a send of `v` to `d`, whose addresses aren't given.
 const BOOK_OF_SEND: &[Step] = &[
-    DeclaresSet(b"s", &[4]),
-    DeclaresField(b"ad", b"s", 3),
-    DeclaresField(b"v", b"s", 8),
-    Gives(b"v", 0, &[1, 2, 3, 4]),
-    DeclaresField(b"d", b"s", 8),
-    Gives(b"d", 0, &[10, 0, 0, 0]),
-    DeclaresField(b"n", b"s", 1),
-    Gives(b"n", 0, &[1, 1, 1, 1]),
+    Accepts(Set(b"s", &[4])),
+    Accepts(Field(b"ad", b"s", 3)),
+    Accepts(Field(b"v", b"s", 8)),
+    Accepts(Input(b"v", 0, &[1, 2, 3, 4])),
+    Accepts(Field(b"d", b"s", 8)),
+    Accepts(Input(b"d", 0, &[10, 0, 0, 0])),
+    Accepts(Field(b"n", b"s", 1)),
+    Accepts(Input(b"n", 0, &[1, 1, 1, 1])),
 ];
 
 /// A move of what was sent, to where it was sent from.
-const BACK: Written = Move(b"v", b"d");
+const BACK: Text = b"u-move-1L v d 8";
 
 #[test]
 fn the_cause_of_a_refused_row_is_listed_while_it_is_settled(rt: HostRuntime) -> Result<(), Fail> {
     const STEPS: &[Step] = &[
-        Gives(b"ad", 0, &[0, 0, 1, 2]),
-        Inserts(End, Send, 1),
+        Accepts(Input(b"ad", 0, &[0, 0, 1, 2])),
+        Inserts(End, SEND, 1),
         Inserts(End, BACK, 2),
-        Lists(&[(1, 10, Waiting, Send, None), (2, 11, Waiting, BACK, None)]),
+        Lists(&[(1, 10, Waiting, SEND, None), (2, 11, Waiting, BACK, None)]),
         Settles(2),
         Lists(&[
-            (1, 10, Settled, Send, Some(Collision(0))),
+            (1, 10, Settled, SEND, Some(Collision(0))),
             (2, 11, Settled, BACK, None),
         ]),
-        Gives(b"ad", 1, &[3]),
-        Lists(&[(1, 12, Waiting, Send, None), (2, 12, Waiting, BACK, None)]),
+        Accepts(Input(b"ad", 1, &[3])),
+        Lists(&[(1, 12, Waiting, SEND, None), (2, 12, Waiting, BACK, None)]),
         Settles(2),
-        Lists(&[(1, 12, Settled, Send, None), (2, 12, Settled, BACK, None)]),
+        Lists(&[(1, 12, Settled, SEND, None), (2, 12, Settled, BACK, None)]),
         Shows(b"v", End, &[1, 3, 4, 2]),
     ];
     plays_after(&rt, rt.alloc(), BOOK_OF_SEND, STEPS)
@@ -592,12 +609,12 @@ fn the_cause_of_a_refused_row_is_listed_while_it_is_settled(rt: HostRuntime) -> 
 #[test]
 fn a_bad_address_is_listed_as_the_cause(rt: HostRuntime) -> Result<(), Fail> {
     const STEPS: &[Step] = &[
-        Gives(b"ad", 0, &[0, 0, 4, 1]),
-        Inserts(End, Send, 1),
+        Accepts(Input(b"ad", 0, &[0, 0, 4, 1])),
+        Inserts(End, SEND, 1),
         Inserts(End, BACK, 2),
         Settles(2),
         Lists(&[
-            (1, 10, Settled, Send, Some(BadAddress(2))),
+            (1, 10, Settled, SEND, Some(BadAddress(2))),
             (2, 11, Settled, BACK, None),
         ]),
         Shows(b"v", End, &[10, 0, 0, 0]),
@@ -605,21 +622,19 @@ fn a_bad_address_is_listed_as_the_cause(rt: HostRuntime) -> Result<(), Fail> {
     plays_after(&rt, rt.alloc(), BOOK_OF_SEND, STEPS)
 }
 
-fn answer(rt: &impl Abort, book: &mut Book, event: Event) -> Reply {
-    book.step(event).ok().expect(rt, "there is memory")
-}
-
 /// A change as an event, which is answered so.
 fn changes_by_event(
     rt: &impl Abort,
+    alloc: Global,
     book: &mut Book,
     change: &Change,
     wanted: &Result<EditReply, Fault>,
-) {
-    match answer(rt, book, Event::Edit(edit_of(rt, change))) {
+) -> Result<(), Fail> {
+    match answer(rt, book, Event::Edit(edit_of(rt, alloc, change)?)) {
         Reply::Edit(reply) => assert_eq!(rt; reply, *wanted),
         _ => assert!(rt; false),
     }
+    Ok(())
 }
 
 /// The list as an event has just these rows.
@@ -647,7 +662,7 @@ fn plays_events(
     events: &[Answered],
 ) -> Result<(), Fail> {
     for (change, wanted, rows) in events {
-        changes_by_event(rt, book, change, wanted);
+        changes_by_event(rt, alloc, book, change, wanted)?;
         lists_by_event(rt, alloc, book, *rows)?;
     }
     Ok(())
@@ -655,7 +670,7 @@ fn plays_events(
 
 #[test]
 fn rows_are_changed_and_listed_by_events(rt: HostRuntime) -> Result<(), Fail> {
-    const NINE: Written = Constant(b"c", 9);
+    const NINE: Text = b"u-move-constant-1L c 9 8";
     const EVENTS: &[Answered] = &[
         (
             Replace(1, NINE),
