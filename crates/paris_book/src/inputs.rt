@@ -1,6 +1,6 @@
 //! The input data: what each key holds at the start of the program.
 
-ghost use Rattle.std.specs.Prelude.{◌≡◌, ◌<◌, ◌≤◌, ◌+◌, ◌^◌, ◌++◌, ◌∷◌, [], ℕ, length, replicate, None, IfOk, IfErr, IsSome, vec_len, vec_capacity};
+ghost use Rattle.std.specs.Prelude.{◌≡◌, ◌<◌, ◌≤◌, ◌+◌, ◌^◌, ◌++◌, ◌∷◌, [], ℕ, length, None, IfOk, IfErr, IsSome, vec_len, vec_capacity};
 ghost use Rattle.paris_names.specs.Faults.{IsFaultOf};
 ghost use Rattle.paris_field.specs.Fields.{AllFit, overwritten};
 ghost use Rattle.std.specs.Option.{option_copied};
@@ -82,13 +82,6 @@ pub(crate) fn given_input(
     Ok(Input { value, number })
 }
 
-/// The same number for each processor.
-fn repeated(alloc: Global, number: u128, count: usize) -> Result<Vec<u128>, AllocError>
-    ensures { IfOk result (λ numbers. numbers.items ≡ replicate count number) }
-{
-    vec![in alloc; number; count]
-}
-
 /// The input data of a key as it is declared: the same number everywhere.
 pub(crate) fn declare_input(
     alloc: Global,
@@ -102,8 +95,7 @@ pub(crate) fn declare_input(
     requires bit { start ≤ 1 }
     ensures { IfOk result (λ input. input ≡ declared_input number width count start) }
 {
-    let numbers = repeated(alloc, start, count)?;
-    let value = FieldValue::from_numbers(alloc, width, numbers.as_slice())?;
+    let value = FieldValue::constant(alloc, width, start, count)?;
     Ok(Input { value, number })
 }
 

@@ -282,24 +282,25 @@ put_list : (t : Task) (k : Key) (L : ℕ) (xs : List ℕ) (g : ℕ → ℕ) → 
     → put_value t k (record { width = L; numbers = xs }) ≡ field_of t.plan k (put_selected (frame_at t) k L g)
 put_list t k L xs g same = ap (field_of t.plan k) (stored_low (processor_count t.plan.axes) (is_selected (frame_at t)) (at (frame_at t) k) L (slice_index xs) g (λ v below. ap (low L) (same v below)))
 
-pub constant_left : (t : Task) (D : Operand) (K L : ℕ) (acts : t.plan.action ≡ OnSelected (MoveConstant D K L)) (xs : List ℕ) → xs ≡ replicate (processor_count t.plan.axes) K
-    → put_value t (Field D.field) (record { width = L; numbers = xs }) ∷ [] ≡ left_values t
-constant_left t D K L acts xs is =
-    left_one t (MoveConstant D K L) acts (Field D.field) (record { width = L; numbers = xs }) refl
-    (put_list t (Field D.field) L xs (λ v. K) (λ v below. ap (λ ys. slice_index ys v) is ∙ get_or-replicate (processor_count t.plan.axes) v K 0 below))
+pub constant_left : (t : Task) (D : Operand) (K L : ℕ) (acts : t.plan.action ≡ OnSelected (MoveConstant D K L)) (x : FieldNumbers) → x ≡ record { width = L; numbers = replicate (processor_count t.plan.axes) K }
+    → put_value t (Field D.field) x ∷ [] ≡ left_values t
+constant_left t D K L acts x is =
+    left_one t (MoveConstant D K L) acts (Field D.field) x refl
+    (ap (put_value t (Field D.field)) is ∙ put_list t (Field D.field) L (replicate (processor_count t.plan.axes) K) (λ v. K) (λ v below. get_or-replicate (processor_count t.plan.axes) v K 0 below))
 
-own_put : (t : Task) (k : Key) (L : ℕ) (xs : List ℕ) (g : ℕ → ℕ) → xs ≡ everywhere (processor_count t.plan.axes) (λ v. low L (g v)) → put_value t k (record { width = L; numbers = xs }) ≡ field_of t.plan k (put_selected (frame_at t) k L g)
-own_put t k L xs g is = put_numbers t k (record { width = L; numbers = xs }) L (λ v. low L (g v)) g (ap (λ ys. record { width = L; numbers = ys }) is) (λ v below. low_twice L (g v))
+-- as are the low bits of a number that each processor has
+own_put : (t : Task) (k : Key) (L : ℕ) (x : FieldNumbers) (g : ℕ → ℕ) → x ≡ record { width = L; numbers = everywhere (processor_count t.plan.axes) (λ v. low L (g v)) } → put_value t k x ≡ field_of t.plan k (put_selected (frame_at t) k L g)
+own_put t k L x g is = put_numbers t k x L (λ v. low L (g v)) g is (λ v below. low_twice L (g v))
 
-pub coordinate_left : (t : Task) (D : Operand) (X L : ℕ) (acts : t.plan.action ≡ OnSelected (MyCoordinate D X L)) (xs : List ℕ) → xs ≡ everywhere (processor_count t.plan.axes) (λ v. low L (coordinate t.plan.axes X v))
-    → put_value t (Field D.field) (record { width = L; numbers = xs }) ∷ [] ≡ left_values t
-coordinate_left t D X L acts xs is =
-    left_one t (MyCoordinate D X L) acts (Field D.field) (record { width = L; numbers = xs }) refl (own_put t (Field D.field) L xs (coordinate t.plan.axes X) is)
+pub coordinate_left : (t : Task) (D : Operand) (X L : ℕ) (acts : t.plan.action ≡ OnSelected (MyCoordinate D X L)) (x : FieldNumbers) → x ≡ record { width = L; numbers = everywhere (processor_count t.plan.axes) (λ v. low L (coordinate t.plan.axes X v)) }
+    → put_value t (Field D.field) x ∷ [] ≡ left_values t
+coordinate_left t D X L acts x is =
+    left_one t (MyCoordinate D X L) acts (Field D.field) x refl (own_put t (Field D.field) L x (coordinate t.plan.axes X) is)
 
-pub address_left : (t : Task) (D : Operand) (L : ℕ) (acts : t.plan.action ≡ OnSelected (MyAddress D L)) (xs : List ℕ) → xs ≡ everywhere (processor_count t.plan.axes) (low L)
-    → put_value t (Field D.field) (record { width = L; numbers = xs }) ∷ [] ≡ left_values t
-address_left t D L acts xs is =
-    left_one t (MyAddress D L) acts (Field D.field) (record { width = L; numbers = xs }) refl (own_put t (Field D.field) L xs (λ v. v) is)
+pub address_left : (t : Task) (D : Operand) (L : ℕ) (acts : t.plan.action ≡ OnSelected (MyAddress D L)) (x : FieldNumbers) → x ≡ record { width = L; numbers = everywhere (processor_count t.plan.axes) (low L) }
+    → put_value t (Field D.field) x ∷ [] ≡ left_values t
+address_left t D L acts x is =
+    left_one t (MyAddress D L) acts (Field D.field) x refl (own_put t (Field D.field) L x (λ v. v) is)
 
 -- a plane of a known bit in each processor is put into the test flag
 module _ (t : Task) (i : Conditional Operand ℕ) (acts : t.plan.action ≡ OnSelected i) (targets : target_keys t.plan.set_no (OnSelected i) ≡ Flag t.plan.set_no Test ∷ []) where

@@ -5,3 +5,4 @@ pub mod InEvery
 pub mod Left
 pub mod Operands
 pub mod Puts
+pub mod Addresses

@@ -1,12 +1,10 @@
 -- The operands of an elementwise instruction are read, and are as wide as its lengths say.
-use Rattle.std.proofs.Common.{◌≡◌, ℕ, ◌<◌, ◌≤◌, ◌^◌, ◌==◌, Bool, true, false, cond, List, [], ◌∷◌, length, refl, sym, ap, ◌∙◌, subst, arith, Option, Some, Result, Ok, Err}
+use Rattle.std.proofs.Common.{◌≡◌, ℕ, ◌<◌, ◌≤◌, ◌==◌, Bool, true, false, cond, List, [], ◌∷◌, length, refl, sym, ap, ◌∙◌, subst, arith, Option, Some, Result, Ok, Err}
 use Rattle.std.specs.Prelude.{IfSome, IfOk, ◌||◌, ◌&&◌, nat_lt, nat_le}
 use Rattle.std.specs.List.{list_all}
 use Rattle.std.proofs.lemmas.Bool.{eq-eqb, ltb-false}
 use Rattle.std.proofs.lemmas.Bool.Decides.{nat_tests}
 use Rattle.std.proofs.lemmas.List.FromFn.{length-map-range_with_len}
-use Rattle.std.proofs.lemmas.Nat.{mod_below}
-use lib.Pow.{pow_pos}
 use Rattle.paris_names.specs.declared.keys.FlagName.{FlagName}
 use Rattle.paris_names.specs.declared.keys.FlagName.TheVariants.{Context, Test, Carry, Overflow}
 use Rattle.paris_names.specs.declared.keys.Key.{Key}
@@ -20,15 +18,15 @@ use Rattle.paris_model.specs.declared.actions.Operand.{Operand}
 use Rattle.paris_model.specs.declared.actions.Conditional.{Conditional}
 use Rattle.paris_model.specs.declared.actions.Conditional.TheVariants.{Binary, Unary, Resize, Compare, LoadTest, StoreTest}
 use Rattle.paris_model.specs.declared.actions.Action.TheVariants.{OnSelected}
-use Rattle.paris_model.specs.Store.{low, everywhere}
+use Rattle.paris_model.specs.Store.{everywhere}
 use Rattle.paris_model.specs.Elementwise.{binary_flags, unary_flags}
 use Rattle.paris_model.specs.Conditional.{conditional_source_flags}
 use Rattle.paris_model.specs.Fits.{IsFit, is_wide, is_bad_length, has_bad_length, has_bad_axis, has_bad_operand, conditional_bad_length, conditional_bad_axis, conditional_bad_operand, have_field_widths}
 use Rattle.paris_model.specs.Instructions.{reads, key_width, operands, width_among, target_keys, flag_keys}
 use Rattle.paris_model.proofs.Stores.{length-everywhere}
-use Rattle.paris_model.proofs.Widths.{key_width-is, width_first, some_width, everywhere_below}
+use Rattle.paris_model.proofs.Widths.{key_width-is, width_first, some_width}
 use Rattle.paris_model.proofs.Worlds.{or_false_first, or_false_second, or_true_second}
-use Rattle.paris_field.specs.Fields.{FieldNumbers, AllFit}
+use Rattle.paris_field.specs.Fields.{FieldNumbers}
 use Rattle.paris_alu.specs.Alu.{bits_everywhere}
 use Rattle.paris_exec.specs.Planes.{AreRead}
 use Rattle.paris_exec.specs.Tasks.{Task, field_of, seen_at}
@@ -265,7 +263,3 @@ pub store_test_read : (t : Task) (F : Operand) → t.plan.action ≡ OnSelected 
 store_test_read t F acts =
     read_source t (StoreTest F) acts (Flag t.plan.set_no Test)
     (or_true_second (key_eq (Flag t.plan.set_no Test) (Flag t.plan.set_no Context)) (has_key (Flag t.plan.set_no Test ∷ []) (Flag t.plan.set_no Test)) (first_key (Flag t.plan.set_no Test) []))
-
--- numbers of their own fit their length
-pub own_fit : (xs : List ℕ) (n L : ℕ) (f : ℕ → ℕ) → xs ≡ everywhere n (λ v. low L (f v)) → AllFit L xs
-own_fit xs n L f is = subst (AllFit L) (sym is) (everywhere_below n (λ v. low L (f v)) (2 ^ L) (λ v. mod_below (f v) (2 ^ L) (pow_pos L)))

@@ -1,17 +1,16 @@
 //! Instructions that store in selected processors, each by itself, on planes.
 
-ghost use Rattle.std.specs.Prelude.{◌≡◌, ◌≤◌, ◌<◌, ℕ, true, false, length, replicate, slice_index, nat_le, is_some, List, [], ◌∷◌, IfOk, IfSome};
+ghost use Rattle.std.specs.Prelude.{◌≡◌, ◌≤◌, ◌<◌, ◌*◌, ◌^◌, ℕ, true, false, length, slice_index, nat_le, is_some, List, [], ◌∷◌, IfOk, IfSome};
 ghost use Rattle.paris_names.specs.Keys.{has_key};
 ghost use Rattle.paris_names.specs.declared.keys.FlagName.TheVariants.{Context, Carry, Overflow};
 ghost use Rattle.paris_names.specs.declared.keys.Key.TheVariants.{Field, Flag};
-ghost use Rattle.paris_geometry.specs.Geometry.{coordinate, processor_count};
+ghost use Rattle.paris_geometry.specs.Geometry.{coordinate, is_geometry, is_power_of_two, processor_count, stride};
 ghost use Rattle.paris_model.specs.Store.{low, everywhere};
 ghost use Rattle.paris_model.specs.Elementwise.{binary_flags};
 ghost use Rattle.paris_model.specs.Fits.{IsFit};
 ghost use Rattle.paris_model.specs.Instructions.{reads, key_width};
 ghost use Rattle.paris_alu.specs.Alu.{binary_field, carry_plane, overflow_plane};
-ghost use Rattle.paris_field.specs.Fields.{AllFit};
-ghost use Rattle.paris_exec.specs.Planes.{AreRead, is_sum, is_flagless, is_plane_operator, is_from_planes, is_own, is_of_test, is_plane_conditional};
+ghost use Rattle.paris_exec.specs.Planes.{is_sum, is_flagless, is_plane_operator, is_from_planes, is_own, is_of_test, is_plane_conditional};
 ghost use Rattle.paris_exec.specs.Tasks.{left_values, put_value, seen_at};
 ghost use Rattle.paris_names.specs.declared.limits.TheConstants.{MAX_WIDTH};
 
@@ -177,58 +176,43 @@ fn resized_values(
     Ok(Some(put_overflowing(alloc, order, to, resized)?))
 }
 
-/// The values of an instruction that stores numbers of its own to a field.
-fn number_values(
-    alloc: Global,
-    order: &Order,
-    to: &Operand,
-    numbers: &[u128],
-    len: u64,
-) -> Result<Vec<FieldValue>, AllocError>
-    requires read { AreRead order.now (Field to.now.field ∷ Flag order.now.plan.set_no Context ∷ []) }
-    requires short { len ≤ key_width order.now.plan (Field to.now.field) }
-    requires narrow { len ≤ 128 }
-    requires count { length numbers.now ≡ processor_count order.now.plan.axes }
-    requires fit { AllFit len numbers.now }
-    ensures { IfOk result (λ values. values.items ≡ put_value order.now (Field to.now.field) (record { width = len; numbers = numbers.now }) ∷ []) }
+/// The exponent of a power of two.
+fn exponent(power: u64) -> u64
+    requires { is_power_of_two power ≡ true }
+    ensures value { power ≡ 2 ^ result }
+    ensures small { result ≤ 16 }
 {
-    let new = FieldValue::from_numbers(alloc, len, numbers)?;
-    put_field(alloc, order, to, new)
+    u64::from(power.trailing_zeros())
 }
 
-/// The same number for each processor.
-fn repeated(alloc: Global, number: u128, count: usize) -> Result<Vec<u128>, AllocError>
-    ensures { IfOk result (λ numbers. numbers.items ≡ replicate count number) }
+/// The bit of an address from which on it holds the coordinate on an axis.
+fn first_bit(geometry: Geometry, axis: u64) -> u64
+    requires sound { is_geometry geometry ≡ true }
+    requires axis { axis < length geometry }
+    ensures value { stride geometry axis ≡ 2 ^ result }
+    ensures small { result ≤ 16 * axis }
 {
-    vec![in alloc; number; count]
+    let mut from = 0;
+    for lower in 0..axis as usize {
+        from += exponent(geometry.len(lower));
+    }
+    from
 }
 
-/// The low bits of the coordinates of all processors on an axis.
+/// The low bits of the coordinates of all processors on an axis: of their addresses' bits those that hold the coordinate.
 fn coordinates(
     alloc: Global,
     geometry: Geometry,
     axis: u64,
-    len: u64,
-) -> Result<Vec<u128>, AllocError>
+    bits: u64,
+) -> Result<FieldValue, AllocError>
     requires axis { axis < length geometry }
-    requires narrow { len ≤ MAX_WIDTH }
-    ensures { IfOk result (λ numbers. numbers.items ≡ everywhere (processor_count geometry) (λ v. low len (coordinate geometry axis v))) }
+    requires narrow { bits ≤ MAX_WIDTH }
+    ensures { IfOk result (λ value. value ≡ record { width = bits; numbers = everywhere (processor_count geometry) (λ v. low bits (coordinate geometry axis v)) }) }
 {
-    let bound = 1u128 << len;
-    (0..geometry.vps())
-        .map(|v| geometry.coordinate(v as u32, axis as usize) as u128 % bound)
-        .collect(alloc)
-}
-
-/// The low bits of the send addresses of all processors.
-fn addresses(alloc: Global, geometry: Geometry, len: u64) -> Result<Vec<u128>, AllocError>
-    requires { len ≤ MAX_WIDTH }
-    ensures { IfOk result (λ numbers. numbers.items ≡ everywhere (processor_count geometry) (low len)) }
-{
-    let bound = 1u128 << len;
-    (0..geometry.vps())
-        .map(|v| v as u128 % bound)
-        .collect(alloc)
+    let vps = geometry.vps();
+    let count = exponent(geometry.len(axis as usize)).min(bits);
+    FieldValue::address_bits(alloc, bits, first_bit(geometry, axis), count, vps)
 }
 
 /// The values that a comparison leaves.
@@ -310,16 +294,16 @@ fn own_values(
     let geometry = order.plan().geometry();
     match i {
         Conditional::MoveConstant { to, value, length } => {
-            let numbers = repeated(alloc, *value, geometry.vps())?;
-            Ok(Some(number_values(alloc, order, to, numbers.as_slice(), *length)?))
+            let new = FieldValue::constant(alloc, *length, *value, geometry.vps())?;
+            Ok(Some(put_field(alloc, order, to, new)?))
         }
         Conditional::MyCoordinate { to, axis, length } => {
-            let numbers = coordinates(alloc, geometry, *axis, *length)?;
-            Ok(Some(number_values(alloc, order, to, numbers.as_slice(), *length)?))
+            let new = coordinates(alloc, geometry, *axis, *length)?;
+            Ok(Some(put_field(alloc, order, to, new)?))
         }
         Conditional::MyAddress { to, length } => {
-            let numbers = addresses(alloc, geometry, *length)?;
-            Ok(Some(number_values(alloc, order, to, numbers.as_slice(), *length)?))
+            let new = FieldValue::address_bits(alloc, *length, 0, *length, geometry.vps())?;
+            Ok(Some(put_field(alloc, order, to, new)?))
         }
         _ => Ok(None),
     }

@@ -4,3 +4,4 @@ pub mod Values
 pub mod Turn
 pub mod Six
 pub mod Halves
+pub mod Addresses

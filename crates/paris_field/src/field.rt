@@ -1,12 +1,15 @@
 //! Values of a key: a number for each processor, whose bits lie in planes.
 
 ghost use Rattle.std.specs.Prelude.{◌≡◌, ◌↔◌, ℕ, ◌<◌, ◌≤◌, ◌+◌, ◌/◌, ◌%◌, ◌^◌, IfOk, IsTrue, None, false, length, map, nat_le, position, replicate, slice_index, slice_index_or};
-ghost use Rattle.paris_model.specs.Store.{bit, low, stored};
+ghost use Rattle.paris_model.specs.Store.{bit, everywhere, low, stored};
 ghost use Rattle.paris_field.specs.Fields.{AllFit, field_eq, overwritten};
 ghost use Rattle.paris_field.specs.Numbers.{AllOf, bit_in, field_of, number_at};
 
 use crate::blocks::{numbers_in, put_all};
-use crate::planes::{copy_planes, merge_planes, number_in, put_numbers, same_planes, zero_planes};
+use crate::planes::{
+    address_planes, copy_planes, fill_planes, merge_planes, number_in, put_numbers, same_planes,
+    zero_planes,
+};
 use paris_plane::Plane;
 use std::alloc::{AllocError, Global};
 use std::marker::Model;
@@ -37,6 +40,40 @@ impl FieldValue {
         ensures { IfOk result (λ value. value ≡ record { width = width; numbers = replicate vps 0 }) }
     {
         let planes = zero_planes(alloc, width as usize, vps)?;
+        Ok(FieldValue { planes, vps })
+    }
+
+    /// The value of this width in bits, up to 128, with the same number in each of `vps` processors.
+    pub fn constant(
+        alloc: Global,
+        width: u64,
+        number: u128,
+        vps: usize,
+    ) -> Result<FieldValue, AllocError>
+        requires narrow { width ≤ 128 }
+        requires fits { number < 2 ^ width }
+        ensures { IfOk result (λ value. value ≡ record { width = width; numbers = replicate vps number }) }
+    {
+        let mut planes = zero_planes(alloc, width as usize, vps)?;
+        fill_planes(&mut planes, number, vps);
+        Ok(FieldValue { planes, vps })
+    }
+
+    /// The value of this width in bits, up to 128, in whose low bits each of `vps` processors holds `count` bits of its own
+    /// address, from bit `from` on.
+    pub fn address_bits(
+        alloc: Global,
+        width: u64,
+        from: u64,
+        count: u64,
+        vps: usize,
+    ) -> Result<FieldValue, AllocError>
+        requires narrow { width ≤ 128 }
+        requires room { count ≤ width }
+        requires within { from + count ≤ 64 }
+        ensures { IfOk result (λ value. value ≡ record { width = width; numbers = everywhere vps (λ v. v / 2 ^ from % 2 ^ count) }) }
+    {
+        let planes = address_planes(alloc, width, from, count, vps)?;
         Ok(FieldValue { planes, vps })
     }
 

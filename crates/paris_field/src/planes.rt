@@ -1,6 +1,6 @@
 //! Work on planes in place, with no memory of its own: plane k holds bit k of each processor's number.
 
-ghost use Rattle.std.specs.Prelude.{◌≡◌, ◌≢◌, ◌↔◌, ℕ, ◌+◌, ◌*◌, ◌^◌, ◌<◌, ◌≤◌, ◌%◌, IfOk, IsTrue, cond, drop, false, length, replicate, slice_index, slice_index_or, take};
+ghost use Rattle.std.specs.Prelude.{◌≡◌, ◌≢◌, ◌↔◌, ℕ, ◌+◌, ◌*◌, ◌/◌, ◌^◌, ◌<◌, ◌≤◌, ◌%◌, IfOk, IsTrue, cond, drop, false, length, replicate, slice_index, slice_index_or, take};
 ghost use Rattle.paris_model.specs.Store.{low};
 ghost use Rattle.paris_field.specs.Numbers.{AllOf, bit_in, number_at, numbers};
 
@@ -14,6 +14,34 @@ pub fn zero_planes(alloc: Global, width: usize, vps: usize) -> Result<Vec<Plane>
     let mut planes = Vec::with_capacity(alloc, width)?;
     for _ in 0..width {
         planes.push(Plane::zeros(alloc, vps)?)?;
+    }
+    Ok(planes)
+}
+
+/// `width` planes for `vps` processors: the low `count` of them hold as many bits of each processor's own address, from bit `from`
+/// on, and the others zeros.
+pub(crate) fn address_planes(
+    alloc: Global,
+    width: u64,
+    from: u64,
+    count: u64,
+    vps: usize,
+) -> Result<Vec<Plane>, AllocError>
+    requires narrow { width ≤ 128 }
+    requires room { count ≤ width }
+    requires within { from + count ≤ 64 }
+    ensures width { IfOk result (λ planes. length planes.items ≡ width) }
+    ensures long { IfOk result (λ planes. AllOf vps planes.items) }
+    ensures numbers { IfOk result (λ planes. (v : ℕ) → v < vps → number_at planes.items v ≡ v / 2 ^ from % 2 ^ count) }
+{
+    let mut planes = Vec::with_capacity(alloc, width as usize)?;
+    for k in 0..count {
+        let stripes = Plane::stripes(alloc, (from + k) as u32, vps)?;
+        planes.push(stripes)?;
+    }
+    for _ in count..width {
+        let zeros = Plane::zeros(alloc, vps)?;
+        planes.push(zeros)?;
     }
     Ok(planes)
 }
@@ -85,6 +113,19 @@ pub fn number_in(planes: &[Plane], v: usize, vps: usize) -> u128
         number = 2 * number + if planes[k].get(v) { 1 } else { 0 };
     }
     number
+}
+
+/// Puts a number into each of `vps` processors, as far as its bits have planes.
+pub(crate) fn fill_planes(planes: &mut [Plane], number: u128, vps: usize)
+    requires { AllOf vps planes.old }
+    ensures long { AllOf vps planes.new }
+    ensures numbers { (v : ℕ) → v < vps → number_at planes.new v ≡ low (length planes.old) number }
+{
+    let mut rest = number;
+    for k in 0..planes.len() {
+        planes[k].fill(rest % 2 == 1);
+        rest /= 2;
+    }
 }
 
 /// Puts a number into processor `v` of `vps`, as far as its bits have planes.

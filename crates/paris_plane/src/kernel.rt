@@ -1,6 +1,6 @@
 //! Loops over words: four at a time by lanes, and the words that are left one by one.
 
-ghost use Rattle.std.specs.Prelude.{◌≡◌, ◌↔◌, ◌≤◌, IsTrue, ℕ, ◌<◌, ◌^◌, ◌-◌, Bool, cond, ◌&&◌, ◌||◌, length, slice_index, bit_and};
+ghost use Rattle.std.specs.Prelude.{◌≡◌, ◌↔◌, ◌≤◌, IsTrue, ℕ, ◌<◌, ◌^◌, ◌-◌, ◌+◌, ◌*◌, Bool, cond, ◌&&◌, ◌||◌, length, slice_index, bit_and};
 ghost use Rattle.std.specs.Int.Bits.{bit_or, bit_xor};
 ghost use Rattle.std.specs.Simd.Lanes.{zip2};
 ghost use Rattle.paris_plane.specs.Bits.{word_bit, ByBit, ByBit3, borrow_bit, borrow_word, carry_word, differ, sum_word};
@@ -272,4 +272,36 @@ pub(crate) fn same_words(xs: &[u64], ys: &[u64], count: usize) -> bool
         }
     }
     true
+}
+
+/// Bit `k` of each of the 64 numbers from `64 * block` on, the first of them lowest.
+fn stripe_word(k: u32, block: usize) -> u64
+    requires { k < 64 }
+    ensures { (i : ℕ) → i < 64 → word_bit result i ≡ word_bit (64 * block + i) k }
+{
+    match k {
+        0 => 0xAAAA_AAAA_AAAA_AAAA,
+        1 => 0xCCCC_CCCC_CCCC_CCCC,
+        2 => 0xF0F0_F0F0_F0F0_F0F0,
+        3 => 0xFF00_FF00_FF00_FF00,
+        4 => 0xFFFF_0000_FFFF_0000,
+        5 => 0xFFFF_FFFF_0000_0000,
+        _ => {
+            if (block >> (k - 6)) & 1 == 1 {
+                u64::MAX
+            } else {
+                0
+            }
+        }
+    }
+}
+
+/// Writes bit `k` of each place's number into the place.
+pub(crate) fn fill_stripes(xs: &mut [u64], k: u32)
+    requires { k < 64 }
+    ensures { (i j : ℕ) → i < length xs.old → j < 64 → word_bit (slice_index xs.new i) j ≡ word_bit (64 * i + j) k }
+{
+    for i in 0..xs.len() {
+        xs[i] = stripe_word(k, i);
+    }
 }

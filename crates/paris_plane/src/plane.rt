@@ -2,11 +2,11 @@
 
 ghost use Rattle.std.specs.Prelude.{◌≡◌, ◌≢◌, ◌↔◌, ℕ, ◌+◌, ◌*◌, ◌/◌, IfOk, IsTrue, cond, length, map, not, ◌<◌, replicate, slice_index, slice_index_or, slice_set, true, false, ◌&&◌, ◌||◌};
 ghost use Rattle.std.specs.Simd.Lanes.{zip2};
-ghost use Rattle.paris_plane.specs.Bits.{borrow_bit, carry_bit, differ, sum_bit, word_bit, words_for, zip3};
+ghost use Rattle.paris_plane.specs.Bits.{borrow_bit, carry_bit, differ, stripes, sum_bit, word_bit, words_for, zip3};
 
 use crate::kernel::{
-    And, Or, Select, TripleOp, WordOp, Xor, add_words, invert_words, put_triples, put_words,
-    same_words, subtract_words,
+    And, Or, Select, TripleOp, WordOp, Xor, add_words, fill_stripes, invert_words, put_triples,
+    put_words, same_words, subtract_words,
 };
 use std::alloc::{AllocError, Global};
 use std::marker::Model;
@@ -54,6 +54,16 @@ impl Plane {
         ensures { IfOk result (λ p. p ≡ replicate len true) }
     {
         let words = Vec::from_elem(alloc, u64::MAX, words_needed(len))?;
+        Ok(Plane { words, len })
+    }
+
+    /// A plane of `len` bits, of which that of each processor is bit `k` of its own number. Fails only for want of memory.
+    pub fn stripes(alloc: Global, k: u32, len: usize) -> Result<Plane, AllocError>
+        requires { k < 64 }
+        ensures { IfOk result (λ p. p ≡ stripes k len) }
+    {
+        let mut words = Vec::from_elem(alloc, 0u64, words_needed(len))?;
+        fill_stripes(&mut words, k);
         Ok(Plane { words, len })
     }
 
