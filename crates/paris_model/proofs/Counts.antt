@@ -1,5 +1,5 @@
 -- What an action leaves at a key that it writes has one number for each processor.
-use Rattle.std.proofs.Common.{◌≡◌, ℕ, ◌==◌, Bool, true, false, List, [], ◌∷◌, ◌++◌, length, cond, Some, None, refl, sym, ◌∙◌}
+use Rattle.std.proofs.Common.{◌≡◌, ℕ, ◌==◌, Bool, true, false, List, length, cond, Some, None, sym, ◌∙◌}
 use Rattle.paris_names.specs.declared.keys.Key.{Key}
 use Rattle.paris_names.specs.declared.keys.Key.TheVariants.{Field, Flag}
 use Rattle.paris_names.specs.Keys.{has_key}
@@ -8,9 +8,7 @@ use Rattle.paris_model.specs.declared.actions.Operand.{Operand}
 use Rattle.paris_model.specs.declared.actions.Conditional.{Conditional}
 use Rattle.paris_model.specs.declared.actions.Conditional.TheVariants.{Binary, Unary, MoveConstant, Resize, Compare, MyCoordinate, MyAddress, SetTest, ClearTest, LoadTest, StoreTest}
 use Rattle.paris_model.specs.declared.actions.News.{News}
-use Rattle.paris_model.specs.declared.actions.News.TheVariants as News
 use Rattle.paris_model.specs.declared.actions.Mail.{Mail}
-use Rattle.paris_model.specs.declared.actions.Mail.TheVariants as Mail
 use Rattle.paris_model.specs.declared.actions.Action.{Action}
 use Rattle.paris_model.specs.declared.actions.Action.TheVariants.{OnSelected, OnAll, ByNews, AlongLine, ByMail}
 use Rattle.paris_model.specs.Frame.{Frame, World, put_where}

@@ -1,11 +1,11 @@
 -- A run is the one in which each instruction sees the whole world.
-use Rattle.std.proofs.Common.{◌≡◌, ℕ, ◌<◌, ◌^◌, Bool, true, false, cond, List, [], ◌∷◌, Option, Some, None, All, sym, ap, ◌∙◌, subst, refl}
+use Rattle.std.proofs.Common.{◌≡◌, ℕ, Bool, true, false, cond, List, [], ◌∷◌, Option, Some, None, sym, ap, ◌∙◌, subst, refl}
 use Rattle.std.specs.Prelude.{◌||◌}
 use Rattle.paris_names.specs.declared.keys.Key.{Key}
 use Rattle.paris_names.specs.Keys.{has_key}
 use Rattle.paris_model.specs.declared.actions.Refusal.{Refusal}
 use Rattle.paris_model.specs.Frame.{World}
-use Rattle.paris_model.specs.Instructions.{Plan, reads, writes, key_width, refusal, after, one}
+use Rattle.paris_model.specs.Instructions.{Plan, reads, writes, refusal, after, one}
 use Rattle.paris_model.specs.Run.{run, direct_in, direct_one, direct_run}
 use Rattle.paris_model.specs.Laws.{ReadsFit, UnreadFit, WorldFits, PlanFits, PlansFit}
 use Rattle.paris_model.proofs.Worlds.{or_true_second, leaves}

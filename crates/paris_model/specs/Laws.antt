@@ -143,7 +143,7 @@ CopyScanIsUncut = (m : Frame) (D A G : Operand) (X L : ℕ) (direction : Directi
     → combined_values m (CopyScan D A X L direction (Some G)) v ≡ combined_values m (CopyScan D A X L direction None) v
 
 -- a row of a program: its id, the number of the edit that set its instruction, and its plan
-pub record Row : Type 0 where
+pub record EditedRow : Type 0 where
   pub id : ℕ
   pub number : ℕ
   pub plan : Plan
@@ -161,23 +161,23 @@ recipe_values b End ks = []
 recipe_values b (And a c) ks = recipe_values b a (take 1 ks) ++ recipe_values b c (drop 1 ks)
 
 -- the recipes of the keys give the world
-abbrev pub Means : Edits → (Key → Recipe) → World → Type 0
-Means b q w = (k : Key) → recipe_values b (q k) (k ∷ []) ≡ w k ∷ []
+abbrev pub RecipesGive : Edits → (Key → Recipe) → World → Type 0
+RecipesGive b q w = (k : Key) → recipe_values b (q k) (k ∷ []) ≡ w k ∷ []
 
 -- the edits gave the rows their plans
-abbrev pub Explains : Edits → List Row → Type 0
+abbrev pub Explains : Edits → List EditedRow → Type 0
 Explains b [] = Unit {0}
 Explains b (r ∷ rs) = (b.plan r.id r.number ≡ r.plan) × Explains b rs
 
 -- the recipe of each key after rows
-abbrev pub past_rows : (Key → Recipe) → List Row → Key → Recipe
+abbrev pub past_rows : (Key → Recipe) → List EditedRow → Key → Recipe
 past_rows q [] = q
 past_rows q (r ∷ rs) = past_rows (past q r.id r.number r.plan) rs
 
-abbrev pub plans_of : List Row → List Plan
-plans_of rows = map (λ (r : Row). r.plan) rows
+abbrev pub plans_of : List EditedRow → List Plan
+plans_of rows = map (λ (r : EditedRow). r.plan) rows
 
 -- the same recipe gives the same numbers: in two programs that one book of edits explains, a key has the same numbers wherever its recipes are the same
 abbrev pub SameRecipeSameValue : Type 0
-SameRecipeSameValue = (b : Edits) (q q' : Key → Recipe) (w w' : World) (rows rows' : List Row) → Means b q w → Means b q' w' → Explains b rows → Explains b rows'
+SameRecipeSameValue = (b : Edits) (q q' : Key → Recipe) (w w' : World) (rows rows' : List EditedRow) → RecipesGive b q w → RecipesGive b q' w' → Explains b rows → Explains b rows'
     → (k : Key) → past_rows q rows k ≡ past_rows q' rows' k → run w (plans_of rows) k ≡ run w' (plans_of rows') k

@@ -8,7 +8,9 @@ use paris_names::{FieldNo, Name};
 /// A field operand with its whole width in bits.
 #[derive(Clone, Copy, PartialEq, Eq, Debug)]
 pub struct Operand {
+    /// The number of the field.
     pub field: FieldNo,
+    /// The whole width of the field, in bits.
     pub width: u64,
 }
 

@@ -56,11 +56,17 @@ pub enum UnaryOperator {
 /// A comparison of two sources.
 #[derive(Clone, Copy, PartialEq, Eq, Debug)]
 pub enum Comparison {
+    /// Whether the two have the same bits.
     Equal,
+    /// Whether they differ in a bit.
     NotEqual,
+    /// Whether the left number is below the right one.
     Less(Sign),
+    /// Whether it is not above it.
     LessOrEqual(Sign),
+    /// Whether it is above it.
     Greater(Sign),
+    /// Whether it is not below it.
     GreaterOrEqual(Sign),
 }
 
