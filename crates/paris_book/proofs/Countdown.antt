@@ -11,9 +11,8 @@ use Rattle.paris_machine.specs.State.{Row, Inputs, State}
 use Rattle.paris_machine.specs.Show.{origin_at}
 use Rattle.paris_machine.specs.Orders.{is_firm, is_ready, next_ready, order_of, take_reply, taken, after_take, recalled_status, recalled_row, after_release}
 use Rattle.paris_machine.specs.Settling.{unsettled_rows, settled_row, all_settled, after_run, ran_orders}
-use Rattle.paris_book.specs.Kept.{row_of}
 use Rattle.paris_book.specs.Whole.{IdsApart, ids_of, IsWhole}
-use Rattle.paris_book.specs.Entries.{Entry}
+use Rattle.paris_book.specs.Entries.{Entry, row_of}
 use Rattle.paris_events.specs.declared.rows.Status.{Status}
 use Rattle.paris_events.specs.declared.rows.Status.TheVariants.{Waiting, Out, Settled}
 use Rattle.std.specs.List.{enumerate_from}
@@ -149,7 +148,7 @@ ran_left n s apart few =
 -- the ids of the rows of a book
 pub ids_seen : (es : List Entry) → row_ids (map row_of es) ≡ ids_of es
 ids_seen [] = refl
-ids_seen (e ∷ es) = ap (λ is. e.id.0 ∷ is) (ids_seen es)
+ids_seen (e ∷ es) = ap (λ is. e.0 ∷ is) (ids_seen es)
 
 pub rows_apart : (b : Board) (n m : ℕ) (inputs : Inputs) (es : List Entry) (s : State) → state_of b n m inputs es ≡ s → IsWhole b n m inputs es → IdsApart (row_ids s.rows)
 rows_apart b n m inputs es s y w = subst (λ (z : State). IdsApart (row_ids z.rows)) y (subst IdsApart (sym (ids_seen es)) w.ids_apart)

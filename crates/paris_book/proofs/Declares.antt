@@ -18,12 +18,13 @@ use Rattle.paris_model.specs.Instructions.{Plan, reads, writes, key_width}
 use Rattle.paris_model.specs.Recipe.{same}
 use Rattle.paris_machine.specs.State.{Row, Inputs, flag_input, input_of, numbers_in, number_in, start_world, start_recipe, declared_input, declared_flags}
 use Rattle.paris_machine.specs.Edits.{known_rows, edited, set_added, field_added}
-use Rattle.paris_book.specs.Kept.{row_of, Sound}
+use Rattle.paris_book.specs.Marks.{stale_data}
+use Rattle.paris_book.specs.Kept.{Sound}
 use Rattle.paris_depends.specs.Changes.{Differ}
 use Rattle.paris_depends.specs.Sweeps.{touches, spread}
-use Rattle.paris_book.proofs.Swept.{stale, swept_entries}
+use Rattle.paris_book.proofs.Swept.{swept_entries}
 use Rattle.paris_book.specs.Whole.{shape_on, shape_of, shape_in, Shaped, InputsBelow, Fitted, AllFitted, IsWhole}
-use Rattle.paris_book.specs.Entries.{Entry}
+use Rattle.paris_book.specs.Entries.{Entry, row_of, with_data}
 use Rattle.paris_machine.specs.declared.inputs.Input.{Input}
 use Rattle.paris_machine.specs.declared.inputs.FlagInputs.{FlagInputs}
 use Rattle.std.specs.Prelude.{nat_lt}
@@ -90,13 +91,13 @@ pub swept_quiet : (n : ℕ) (old : Inputs) (d : Key → Bool) (es : List Entry) 
 unfolding spread
 swept_quiet n old d [] none f = refl
 swept_quiet n old d (e ∷ es) none f =
-    let quiet = untouched old d e.plan none f.0 in
-    ap₂ (λ x xs. x ∷ xs) (ap (λ b. cond b (stale n e) e) quiet) (swept_quiet n old (spread d e.plan) es (λ k t. none k (less k quiet t)) f.1)
+    let quiet = untouched old d e.1.plan none f.0 in
+    ap₂ (λ x xs. x ∷ xs) (ap (λ b. cond b (with_data (stale_data n) e) e) quiet) (swept_quiet n old (spread d e.1.plan) es (λ k t. none k (less k quiet t)) f.1)
   where
-    less : (k : Key) → touches d e.plan ≡ false → spread d e.plan k ≡ true → d k ≡ true
-    less k quiet t = by_has (has_key (writes e.plan) k) t
+    less : (k : Key) → touches d e.1.plan ≡ false → spread d e.1.plan k ≡ true → d k ≡ true
+    less k quiet t = by_has (has_key (writes e.1.plan) k) t
       where
-        by_has : (b : Bool) → cond b (touches d e.plan) (d k) ≡ true → d k ≡ true
+        by_has : (b : Bool) → cond b (touches d e.1.plan) (d k) ≡ true → d k ≡ true
         by_has true h = absurd (let x : false ≡ true = sym quiet ∙ h in cc)
         by_has false h = h
 

@@ -13,9 +13,8 @@ use Rattle.paris_model.specs.Laws.{WorldFits, PlansFit, RunIsDirect}
 use Rattle.paris_field.specs.Fields.{AllFit}
 use Rattle.paris_machine.specs.declared.inputs.Input.{Input}
 use Rattle.paris_machine.specs.declared.inputs.FlagInputs.{FlagInputs}
-use Rattle.paris_book.specs.Entries.{Entry}
+use Rattle.paris_book.specs.Entries.{Entry, plan_of, row_of}
 use Rattle.paris_machine.specs.State.{Row, Inputs, State, flag_input, input_of, numbers_in, start_world, row_plan}
-use Rattle.paris_book.specs.Kept.{row_of, plan_of}
 use Rattle.paris_book.specs.Whole.{shape_of, shape_in, AllFitted, IsWhole}
 use Rattle.paris_book.specs.Among.{width_in_shape}
 use Rattle.paris_book.specs.Laws.{InputFits, FlagsFit, InputsFit, ActionFits, ActionsFit, NowIsDirect}

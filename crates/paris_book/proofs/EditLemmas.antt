@@ -10,12 +10,11 @@ use Rattle.paris_model.specs.Recipe.{Recipe, chain, past, same}
 use Rattle.paris_model.specs.Recipe.Recipe.{Start, Made, End, And}
 use Rattle.paris_machine.specs.State.{Row}
 use Rattle.paris_machine.specs.Edits.{Known, row_recipe, past_row, known, unsettled, judged, set_first}
-use Rattle.paris_book.specs.Kept.{row_of}
 use Rattle.paris_depends.specs.Changes.{Differ}
 use Rattle.paris_book.proofs.Swept.{swept}
 use Rattle.paris_book.specs.Whole.{RowsBelow, ids_of}
 use Rattle.paris_book.specs.Marks.{writes_either}
-use Rattle.paris_book.specs.Entries.{Entry}
+use Rattle.paris_book.specs.Entries.{Entry, row_of}
 use Rattle.paris_depends.proofs.Recipes.{same_self}
 use Rattle.paris_book.proofs.Recipes.{past_all, judged_front, judged_swept}
 
@@ -61,7 +60,7 @@ below_past n q r b h f = by_has (has_key (writes r.plan) f)
 
 pub below_all : (n m : ℕ) (q : Key → Recipe) (es : List Entry) → Below (n + 1) q → RowsBelow n m es → Below (n + 1) (past_all q (map row_of es))
 below_all n m q [] b h = b
-below_all n m q (e ∷ es) b h = below_all n m (past_row q (row_of e)) es (below_past (n + 1) q (row_of e) b (let x : e.set_by ≤ n = h.0 in omega arith)) h.2
+below_all n m q (e ∷ es) b h = below_all n m (past_row q (row_of e)) es (below_past (n + 1) q (row_of e) b (let x : e.1.set_by ≤ n = h.0 in omega arith)) h.2
 
 pub or_first : (a b : Bool) → (a || b) ≡ false → a ≡ false
 or_first true b h = h
@@ -108,10 +107,10 @@ eqb_flip i j h = by_test (eqb i j) refl
 pub not_of_all : (i : ℕ) (q : Key → Recipe) (es : List Entry) → NotOf i q → list_any (λ j. eqb j i) (ids_of es) ≡ false → NotOf i (past_all q (map row_of es))
 unfolding past
 not_of_all i q [] h a = h
-not_of_all i q (e ∷ es) h a = not_of_all i (past_row q (row_of e)) es (λ f. by_has f (has_key (writes e.plan) f)) (or_second (eqb e.id.0 i) (list_any (λ j. eqb j i) (ids_of es)) a)
+not_of_all i q (e ∷ es) h a = not_of_all i (past_row q (row_of e)) es (λ f. by_has f (has_key (writes e.1.plan) f)) (or_second (eqb e.0 i) (list_any (λ j. eqb j i) (ids_of es)) a)
   where
     by_has : (f : Key) (c : Bool) → is_of i (cond c (row_recipe q (row_of e)) (q f)) ≡ false
-    by_has f true = eqb_flip i e.id.0 (or_first (eqb e.id.0 i) (list_any (λ j. eqb j i) (ids_of es)) a)
+    by_has f true = eqb_flip i e.0 (or_first (eqb e.0 i) (list_any (λ j. eqb j i) (ids_of es)) a)
     by_has f false = h f
 
 -- an instruction that is taken out changes what it wrote

@@ -6,8 +6,11 @@ use Rattle.std.proofs.lemmas.Option.{slice_get-map}
 use Rattle.std.specs.Option.{option_map, unwrap_or}
 use Rattle.std.specs.List.{find, enumerate_from}
 use Rattle.paris_machine.specs.State.{Row, find_id}
-use Rattle.paris_book.specs.Kept.{row_of}
-use Rattle.paris_book.specs.Entries.{Entry}
+use Rattle.paris_book.specs.Entries.{Entry, row_of}
+
+pub none_of : {A : Type 0} {B : Type 0} (f : A → B) (o : Option A) → None ≡ option_map f o → o ≡ None
+none_of f None h = refl
+none_of f (Some x) h = absurd (cc)
 
 -- none so far, and this one passes
 pub find_here : {X : Type 0} (p : ℕ × X → Bool) (xs : List X) (n i m : ℕ) (x : X) → m ≡ n + i → find p (enumerate_from n (take i xs)) ≡ None → slice_get xs i ≡ Some x → p (m, x) ≡ true → find p (enumerate_from n xs) ≡ Some (m, x)

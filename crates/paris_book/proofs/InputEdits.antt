@@ -14,11 +14,10 @@ use Rattle.paris_board.specs.Board.{Board}
 use Rattle.paris_model.specs.Recipe.{same}
 use Rattle.paris_machine.specs.State.{Row, Inputs, flag_input, with_flag_input, input_of, numbers_in, number_in, start_world, start_recipe, set_flags, with_input}
 use Rattle.paris_machine.specs.Edits.{known_rows, edited}
-use Rattle.paris_book.specs.Kept.{row_of}
 use Rattle.paris_depends.specs.Changes.{Differ}
 use Rattle.paris_book.proofs.Swept.{swept_entries}
 use Rattle.paris_book.specs.Whole.{shape_of, shape_in, InputsBelow, IsWhole}
-use Rattle.paris_book.specs.Entries.{Entry}
+use Rattle.paris_book.specs.Entries.{Entry, row_of}
 use Rattle.paris_machine.specs.declared.inputs.Input.{Input}
 use Rattle.paris_machine.specs.declared.inputs.FlagInputs.{FlagInputs}
 use Rattle.paris_depends.proofs.Recipes.{eqb_self}

@@ -14,12 +14,12 @@ use Rattle.paris_model.proofs.Worlds.{one_is}
 use Rattle.paris_events.specs.Rows.{is_settled}
 use Rattle.paris_machine.specs.State.{Row, Inputs, State, input_of, number_in, start_world, start_recipe}
 use Rattle.paris_machine.specs.Edits.{new_row, row_inserted}
-use Rattle.paris_book.specs.Kept.{row_of, plan_of, ripen, Right, Sound}
+use Rattle.paris_book.specs.Kept.{ripen, Right, Sound}
 use Rattle.paris_depends.specs.Sweeps.{touches, spread}
-use Rattle.paris_book.proofs.Swept.{swept, stale, swept_entries}
+use Rattle.paris_book.proofs.Swept.{swept, swept_entries}
 use Rattle.paris_book.specs.Whole.{shape_in, InputsBelow, RowsBelow, IdsApart, ids_of, Fitted, AllFitted, IsWhole}
-use Rattle.paris_book.specs.Entries.{Entry}
-use Rattle.paris_events.specs.declared.rows.Status.TheVariants.{Waiting}
+use Rattle.paris_book.specs.Entries.{Entry, plan_of, row_of, with_data}
+use Rattle.paris_book.specs.Marks.{fresh_data, stale_data}
 use Rattle.paris_book.proofs.Values.{Agree, sound_swept, swept_rows}
 use Rattle.paris_book.proofs.Origins.{ripe, sound-take}
 use Rattle.paris_book.proofs.Recipes.{past_all}
@@ -29,13 +29,13 @@ pub sound-drop : (w : World) (h : Key → Bool) (es : List Entry) (p : ℕ) → 
 sound-drop w h [] zero s = tt
 sound-drop w h [] (suc p) s = tt
 sound-drop w h (e ∷ es) zero s = s
-sound-drop w h (e ∷ es) (suc p) s = sound-drop (one e.plan w) (ripen h e) es p s.1
+sound-drop w h (e ∷ es) (suc p) s = sound-drop (one e.1.plan w) (ripen h e) es p s.1
 
 pub sound-join : (w : World) (h : Key → Bool) (xs ys : List Entry) → Sound w h xs → Sound (run w (map plan_of xs)) (ripe h xs) ys → Sound w h (xs ++ ys)
 sound-join w h [] ys s t = t
-sound-join w h (e ∷ es) ys s t = (s.0, sound-join (one e.plan w) (ripen h e) es ys s.1 t)
+sound-join w h (e ∷ es) ys s t = (s.0, sound-join (one e.1.plan w) (ripen h e) es ys s.1 t)
 
-pub right_unsettled : (w : World) (h : Key → Bool) (e : Entry) → is_settled e.status ≡ false → Right w h e
+pub right_unsettled : (w : World) (h : Key → Bool) (e : Entry) → is_settled e.1.status ≡ false → Right w h e
 right_unsettled w h e u = record { kept = λ s. absurd (let x : true ≡ false = sym s ∙ u in cc); origins = λ s. absurd (let x : true ≡ false = sym s ∙ u in cc) }
 
 pub agree_one : (p : Plan) (w : World) → Agree (has_key (writes p)) w (one p w)
@@ -44,20 +44,20 @@ agree_one p w f t = sym (one_is p w f ∙ rw t refl)
 pub agree_one_back : (p : Plan) (w : World) → Agree (has_key (writes p)) (one p w) w
 agree_one_back p w f t = one_is p w f ∙ rw t refl
 
-pub agree_ripen : (h : Key → Bool) (e : Entry) → Agree (has_key (writes e.plan)) h (ripen h e)
+pub agree_ripen : (h : Key → Bool) (e : Entry) → Agree (has_key (writes e.1.plan)) h (ripen h e)
 unfolding ripen
 agree_ripen h e f t = rw t refl
 
-pub sound_insert : (n : ℕ) (w : World) (h : Key → Bool) (es : List Entry) (p : ℕ) (e : Entry) → Sound w h es → is_settled e.status ≡ false → Sound w h (take p es ++ e ∷ swept_entries n (has_key (writes e.plan)) (drop p es))
+pub sound_insert : (n : ℕ) (w : World) (h : Key → Bool) (es : List Entry) (p : ℕ) (e : Entry) → Sound w h es → is_settled e.1.status ≡ false → Sound w h (take p es ++ e ∷ swept_entries n (has_key (writes e.1.plan)) (drop p es))
 sound_insert n w h es p e s u =
     let w' = run w (map plan_of (take p es)) in
     let h' = ripe h (take p es) in
-    sound-join w h (take p es) (e ∷ swept_entries n (has_key (writes e.plan)) (drop p es)) (sound-take w h es p s)
-    (right_unsettled w' h' e u, sound_swept n (has_key (writes e.plan)) w' (one e.plan w') h' (ripen h' e) (agree_one e.plan w') (agree_ripen h' e) (drop p es) (sound-drop w h es p s))
+    sound-join w h (take p es) (e ∷ swept_entries n (has_key (writes e.1.plan)) (drop p es)) (sound-take w h es p s)
+    (right_unsettled w' h' e u, sound_swept n (has_key (writes e.1.plan)) w' (one e.1.plan w') h' (ripen h' e) (agree_one e.1.plan w') (agree_ripen h' e) (drop p es) (sound-drop w h es p s))
 
 pub rows_up : (n m n' m' : ℕ) (es : List Entry) → n ≤ n' → m ≤ m' → RowsBelow n m es → RowsBelow n' m' es
 rows_up n m n' m' [] a b h = tt
-rows_up n m n' m' (e ∷ es) a b h = (let x : e.set_by ≤ n = h.0 in omega arith, let x : e.id.0 < m = h.1 in omega arith, rows_up n m n' m' es a b h.2)
+rows_up n m n' m' (e ∷ es) a b h = (let x : e.1.set_by ≤ n = h.0 in omega arith, let x : e.0 < m = h.1 in omega arith, rows_up n m n' m' es a b h.2)
 
 pub rows-take : (n m : ℕ) (es : List Entry) (p : ℕ) → RowsBelow n m es → RowsBelow n m (take p es)
 rows-take n m [] zero h = tt
@@ -77,9 +77,9 @@ rows-join n m (e ∷ es) ys h k = (h.0, h.1, rows-join n m es ys h.2 k)
 
 pub rows_swept : (n m x : ℕ) (d : Key → Bool) (es : List Entry) → RowsBelow n m es → RowsBelow n m (swept_entries x d es)
 rows_swept n m x d [] h = tt
-rows_swept n m x d (e ∷ es) h = by_touch (rows_swept n m x (spread d e.plan) es h.2) (touches d e.plan)
+rows_swept n m x d (e ∷ es) h = by_touch (rows_swept n m x (spread d e.1.plan) es h.2) (touches d e.1.plan)
   where
-    by_touch : RowsBelow n m (swept_entries x (spread d e.plan) es) → (b : Bool) → RowsBelow n m (cond b (stale x e) e ∷ swept_entries x (spread d e.plan) es)
+    by_touch : RowsBelow n m (swept_entries x (spread d e.1.plan) es) → (b : Bool) → RowsBelow n m (cond b (with_data (stale_data x) e) e ∷ swept_entries x (spread d e.1.plan) es)
     by_touch r true = (h.0, h.1, r)
     by_touch r false = (h.0, h.1, r)
 
@@ -88,9 +88,9 @@ inputs_up n n' inputs a h k = let y : number_in (input_of inputs k) ≤ n = h k 
 
 pub ids_swept : (x : ℕ) (d : Key → Bool) (es : List Entry) → ids_of (swept_entries x d es) ≡ ids_of es
 ids_swept x d [] = refl
-ids_swept x d (e ∷ es) = rw (ids_swept x (spread d e.plan) es) (by_touch (touches d e.plan))
+ids_swept x d (e ∷ es) = rw (ids_swept x (spread d e.1.plan) es) (by_touch (touches d e.1.plan))
   where
-    by_touch : (b : Bool) → ((cond b (stale x e) e).id.0 ∷ ids_of es) ≡ (e.id.0 ∷ ids_of es)
+    by_touch : (b : Bool) → ((cond b (with_data (stale_data x) e) e).0 ∷ ids_of es) ≡ (e.0 ∷ ids_of es)
     by_touch true = refl
     by_touch false = refl
 
@@ -99,7 +99,7 @@ pub has_insert : (i j : ℕ) (xs : List Entry) (p : ℕ) (ys : List ℕ) → lis
 has_insert i j [] zero ys h ne e = rw (e, ne) refl
 has_insert i j [] (suc p) ys h ne e = rw (e, ne) refl
 has_insert i j (x ∷ xs) zero ys h ne e = rw (e, ne) h
-has_insert i j (x ∷ xs) (suc p) ys h ne e = rw (or_first (eqb x.id.0 i) (list_any (λ j. eqb j i) (ids_of xs)) h) (has_insert i j xs p ys (or_second (eqb x.id.0 i) (list_any (λ j. eqb j i) (ids_of xs)) h) ne e)
+has_insert i j (x ∷ xs) (suc p) ys h ne e = rw (or_first (eqb x.0 i) (list_any (λ j. eqb j i) (ids_of xs)) h) (has_insert i j xs p ys (or_second (eqb x.0 i) (list_any (λ j. eqb j i) (ids_of xs)) h) ne e)
 
 eqb_below : (i j : ℕ) → i < j → eqb i j ≡ false
 eqb_below i j h = by_test (eqb i j) refl
@@ -118,13 +118,13 @@ eqb_above i j h = by_test (eqb j i) refl
 -- no row has the next id
 pub next_new : (n j : ℕ) (xs : List Entry) → RowsBelow n j xs → list_any (λ k. eqb k j) (ids_of xs) ≡ false
 next_new n j [] b = refl
-next_new n j (x ∷ xs) b = rw (eqb_below x.id.0 j b.1) (next_new n j xs b.2)
+next_new n j (x ∷ xs) b = rw (eqb_below x.0 j b.1) (next_new n j xs b.2)
 
 pub apart_insert : (j n : ℕ) (xs : List Entry) (p : ℕ) (ys : List ℕ) → IdsApart (ids_of xs) → RowsBelow n j xs → ys ≡ ids_of (drop p xs) → IdsApart (ids_of (take p xs) ++ j ∷ ys)
 apart_insert j n [] zero ys a b e = rw e (refl, tt)
 apart_insert j n [] (suc p) ys a b e = rw e (refl, tt)
 apart_insert j n (x ∷ xs) zero ys a b e = rw e (next_new n j (x ∷ xs) b, a)
-apart_insert j n (x ∷ xs) (suc p) ys a b e = (has_insert x.id.0 j xs p ys a.0 (eqb_above x.id.0 j b.1) e, apart_insert j n xs p ys a.1 b.2 e)
+apart_insert j n (x ∷ xs) (suc p) ys a b e = (has_insert x.0 j xs p ys a.0 (eqb_above x.0 j b.1) e, apart_insert j n xs p ys a.1 b.2 e)
 
 -- the numbers that the start recipes name are not above the count of edits
 pub start_below : (n : ℕ) (inputs : Inputs) (k : Key) → InputsBelow n inputs → number_in (input_of inputs k) < n + 1
@@ -132,7 +132,7 @@ start_below n inputs k h = let y : number_in (input_of inputs k) ≤ n = h k in 
 
 pub fitted_up : (b b' : Inputs) (es : List Entry) → ((k : Key) (s : ℕ × ℕ) → shape_in b k ≡ Some s → shape_in b' k ≡ Some s) → AllFitted b es → AllFitted b' es
 fitted_up b b' [] up h = tt
-fitted_up b b' (e ∷ es) up h = (λ k t. up k (key_width e.plan k, processor_count e.plan.axes) (h.0 k t), fitted_up b b' es up h.1)
+fitted_up b b' (e ∷ es) up h = (λ k t. up k (key_width e.1.plan k, processor_count e.1.plan.axes) (h.0 k t), fitted_up b b' es up h.1)
 
 pub fitted-take : (b : Inputs) (es : List Entry) (p : ℕ) → AllFitted b es → AllFitted b (take p es)
 fitted-take b [] zero h = tt
@@ -152,19 +152,15 @@ fitted-join b (e ∷ es) ys h k = (h.0, fitted-join b es ys h.1 k)
 
 pub fitted_swept : (b : Inputs) (x : ℕ) (d : Key → Bool) (es : List Entry) → AllFitted b es → AllFitted b (swept_entries x d es)
 fitted_swept b x d [] h = tt
-fitted_swept b x d (e ∷ es) h = by_touch (fitted_swept b x (spread d e.plan) es h.1) (touches d e.plan)
+fitted_swept b x d (e ∷ es) h = by_touch (fitted_swept b x (spread d e.1.plan) es h.1) (touches d e.1.plan)
   where
-    by_touch : AllFitted b (swept_entries x (spread d e.plan) es) → (c : Bool) → AllFitted b (cond c (stale x e) e ∷ swept_entries x (spread d e.plan) es)
+    by_touch : AllFitted b (swept_entries x (spread d e.1.plan) es) → (c : Bool) → AllFitted b (cond c (with_data (stale_data x) e) e ∷ swept_entries x (spread d e.1.plan) es)
     by_touch r true = (h.0, r)
     by_touch r false = (h.0, r)
 
--- a row that was just put in
-abbrev pub fresh : ℕ → ℕ → Plan → Entry
-fresh n m p = record { id = record { 0 = m }; plan = p; set_by = n + 1; edition = record { 0 = n + 1 }; status = Waiting; done = None }
-
 -- the rows after an insert
 abbrev pub inserted_rows : ℕ → ℕ → List Entry → ℕ → Plan → List Entry
-inserted_rows n m es p x = take p es ++ fresh n m x ∷ swept_entries (n + 1) (has_key (writes x)) (drop p es)
+inserted_rows n m es p x = take p es ++ (m, fresh_data x (n + 1)) ∷ swept_entries (n + 1) (has_key (writes x)) (drop p es)
 
 -- the state of a book
 abbrev pub state_of : Board → ℕ → ℕ → Inputs → List Entry → State
@@ -173,7 +169,7 @@ state_of board edits next inputs es = record { board = board; edits = edits; inp
 pub insert_whole : (b : Board) (n m : ℕ) (inputs : Inputs) (es zs : List Entry) (p : ℕ) (x : Plan) → n < 9223372036854775807 → Fitted inputs x → IsWhole b n m inputs es → zs ≡ inserted_rows n m es p x → IsWhole b (n + 1) (m + 1) inputs zs
 insert_whole b n m inputs es zs p x few fit w z =
     let d : Key → Bool = has_key (writes x) in
-    let e : Entry = fresh n m x in
+    let e : Entry = (m, fresh_data x (n + 1)) in
     let back : List Entry = swept_entries (n + 1) d (drop p es) in
     let rows : RowsBelow (n + 1) (m + 1) es = rows_up n m (n + 1) (m + 1) es (omega arith) (omega arith) w.rows_below in
     let less : m ≤ n + 1 = w.next_few in
@@ -185,7 +181,7 @@ insert_whole b n m inputs es zs p x few fit w z =
       shaped = w.shaped;
       inputs_below = inputs_up n (n + 1) inputs (omega arith) w.inputs_below;
       rows_below = rows-join (n + 1) (m + 1) (take p es) (e ∷ back) (rows-take (n + 1) (m + 1) es p rows) (omega arith, omega arith, rows_swept (n + 1) (m + 1) (n + 1) d (drop p es) (rows-drop (n + 1) (m + 1) es p rows));
-      ids_apart = rw (map-append (λ (y : Entry). y.id.0) (take p es) (e ∷ back)) (apart_insert m n es p (ids_of back) w.ids_apart w.rows_below (ids_swept (n + 1) d (drop p es)));
+      ids_apart = rw (map-append (λ (y : Entry). y.0) (take p es) (e ∷ back)) (apart_insert m n es p (ids_of back) w.ids_apart w.rows_below (ids_swept (n + 1) d (drop p es)));
       fitted = fitted-join inputs (take p es) (e ∷ back) (fitted-take inputs es p w.fitted) (fit, fitted_swept inputs (n + 1) d (drop p es) (fitted-drop inputs es p w.fitted));
       sound = sound_insert (n + 1) (start_world inputs) (λ _. true) es p e w.sound refl;
     })
@@ -198,7 +194,7 @@ insert_view b n m inputs es zs s p x w z v =
     let below = below_all n m (start_recipe inputs) (take p es) (λ k. start_below n inputs k w.inputs_below) (rows-take n m es p w.rows_below) in
     ap (λ (ys : List Entry). state_of b (n + 1) (m + 1) inputs ys) z
     ∙ ap (λ (rs : List Row). record { board = b; edits = n + 1; inputs = inputs; next = m + 1; rows = rs })
-    (map-append row_of (take p es) (fresh n m x ∷ swept_entries (n + 1) d (drop p es))
+    (map-append row_of (take p es) ((m, fresh_data x (n + 1)) ∷ swept_entries (n + 1) d (drop p es))
     ∙ ap (λ ys. map row_of (take p es) ++ r ∷ ys) (swept_rows (n + 1) d (drop p es))
     ∙ ap (λ ys. ys ++ r ∷ swept (n + 1) d (map row_of (drop p es))) (sym (take-map row_of p es))
     ∙ ap (λ ys. take p rows ++ r ∷ swept (n + 1) d ys) (sym (drop-map row_of p es))

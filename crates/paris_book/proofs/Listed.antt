@@ -10,21 +10,21 @@ use Rattle.paris_model.specs.Frame.{World}
 use Rattle.paris_model.specs.Instructions.{one}
 use Rattle.paris_machine.specs.State.{Inputs, State, start_world}
 use Rattle.paris_machine.specs.Lists.{listed_in, list_of}
-use Rattle.paris_book.specs.Kept.{row_of, ripen, Sound}
+use Rattle.paris_book.specs.Kept.{ripen, Sound}
 use Rattle.paris_book.specs.Whole.{IsWhole}
 use Rattle.paris_book.specs.Among.{listed_entry, looks_kept}
-use Rattle.paris_book.specs.Entries.{Entry}
+use Rattle.paris_book.specs.Entries.{Entry, id_of, row_of}
 use Rattle.paris_events.specs.declared.rows.RowLook.{RowLook}
 use Rattle.paris_book.proofs.Inserts.{state_of}
 use Rattle.paris_book.proofs.RefusedRows.{cause_is}
 
 -- a row with a cause, as it is listed
 abbrev look_with : Entry → Option Refusal → RowLook
-look_with e o = record { id = e.id; edition = e.edition; status = e.status; instr = e.plan.instr; cause = o }
+look_with e o = record { id = id_of e; edition = e.1.edition; status = e.1.status; instr = e.1.plan.instr; cause = o }
 
 looks_are : (w : World) (h : Key → Bool) (es : List Entry) → Sound w h es → looks_kept es ≡ listed_in w (map row_of es)
 looks_are w h [] s = refl
-looks_are w h (e ∷ es) s = ap₂ (λ o looks. look_with e o ∷ looks) (cause_is w h e s.0) (looks_are (one e.plan w) (ripen h e) es s.1)
+looks_are w h (e ∷ es) s = ap₂ (λ o looks. look_with e o ∷ looks) (cause_is w h e s.0) (looks_are (one e.1.plan w) (ripen h e) es s.1)
 
 -- one row further
 pub looks_more : (es : List Entry) (i : ℕ) (e : Entry) → slice_get es i ≡ Some e → looks_kept (take (i + 1) es) ≡ looks_kept (take i es) ++ listed_entry e ∷ []

@@ -15,10 +15,10 @@ use Rattle.paris_exec.specs.declared.orders.Outcome.TheVariants.{Values, Refused
 use Rattle.paris_events.specs.Rows.{is_settled}
 use Rattle.paris_machine.specs.State.{Inputs, State, start_world}
 use Rattle.paris_machine.specs.Lists.{cause_in, fault_by, faults_in, faults_of}
-use Rattle.paris_book.specs.Kept.{row_of, last_kept, ripen, Right, Sound}
+use Rattle.paris_book.specs.Kept.{last_kept, ripen, Right, Sound}
 use Rattle.paris_book.specs.Whole.{IsWhole}
 use Rattle.paris_book.specs.Among.{cause_told, cause_kept, faults_kept}
-use Rattle.paris_book.specs.Entries.{Entry}
+use Rattle.paris_book.specs.Entries.{Entry, id_of, row_of}
 use Rattle.paris_book.proofs.Inserts.{state_of}
 use Rattle.paris_book.proofs.RefusalHere.{refusal_here}
 
@@ -40,37 +40,37 @@ values_told p inputs values h = by_refusal (refusal p (value_at (reads p) inputs
     by_refusal (Some c) x = absurd (cc)
 
 -- the cause of a settled entry is that of the result that it keeps
-pub kept_cause : (e : Entry) (t : Task) (o : Option Refusal) → is_settled e.status ≡ true → e.done ≡ Some t → refusal t.plan (value_at (reads t.plan) (numbers_of t.inputs)) ≡ o → o ≡ cause_kept e
+pub kept_cause : (e : Entry) (t : Task) (o : Option Refusal) → is_settled e.1.status ≡ true → e.1.done ≡ Some t → refusal t.plan (value_at (reads t.plan) (numbers_of t.inputs)) ≡ o → o ≡ cause_kept e
 kept_cause e t o settled done is = sym (ap₂ (λ b d. cond b (cause_told d) None) settled done ∙ is)
 
 -- one row further
-faults-push : (es : List Entry) (e : Entry) → faults_kept (es ++ e ∷ []) ≡ faults_kept es ++ fault_by e.id (cause_kept e)
-faults-push [] e = append-nil (fault_by e.id (cause_kept e))
-faults-push (x ∷ es) e = ap (λ fs. fault_by x.id (cause_kept x) ++ fs) (faults-push es e) ∙ sym (append_assoc (fault_by x.id (cause_kept x)) (faults_kept es) (fault_by e.id (cause_kept e)))
+faults-push : (es : List Entry) (e : Entry) → faults_kept (es ++ e ∷ []) ≡ faults_kept es ++ fault_by (id_of e) (cause_kept e)
+faults-push [] e = append-nil (fault_by (id_of e) (cause_kept e))
+faults-push (x ∷ es) e = ap (λ fs. fault_by (id_of x) (cause_kept x) ++ fs) (faults-push es e) ∙ sym (append_assoc (fault_by (id_of x) (cause_kept x)) (faults_kept es) (fault_by (id_of e) (cause_kept e)))
 
-pub faults_more : (es : List Entry) (i : ℕ) (e : Entry) (o : Option Refusal) → slice_get es i ≡ Some e → o ≡ cause_kept e → faults_kept (take (i + 1) es) ≡ faults_kept (take i es) ++ fault_by e.id o
+pub faults_more : (es : List Entry) (i : ℕ) (e : Entry) (o : Option Refusal) → slice_get es i ≡ Some e → o ≡ cause_kept e → faults_kept (take (i + 1) es) ≡ faults_kept (take i es) ++ fault_by (id_of e) o
 faults_more es i e o at is =
     ap faults_kept (take_more es i e (slice_get_within es i e at) ∙ ap (λ x. take i es ++ x ∷ []) (get_or_from_slice_get es i e e at))
     ∙ faults-push (take i es) e
-    ∙ ap (λ c. faults_kept (take i es) ++ fault_by e.id c) (sym is)
+    ∙ ap (λ c. faults_kept (take i es) ++ fault_by (id_of e) c) (sym is)
 
 -- a settled row's result was refused exactly where the run refuses the row
 pub cause_is : (w : World) (h : Key → Bool) (e : Entry) → Right w h e → cause_kept e ≡ cause_in w (row_of e)
-cause_is w h e r = by_status (is_settled e.status) refl
+cause_is w h e r = by_status (is_settled e.1.status) refl
   where
-    by_done : (d : Option Task) → last_kept d ≡ Some (e.plan, map w (reads e.plan)) → cause_told d ≡ refusal e.plan w
+    by_done : (d : Option Task) → last_kept d ≡ Some (e.1.plan, map w (reads e.1.plan)) → cause_told d ≡ refusal e.1.plan w
     by_done None x = absurd (cc)
     by_done (Some t) x =
-        let pair : (t.plan, numbers_of t.inputs) ≡ (e.plan, map w (reads e.plan)) = ap (λ o. unwrap_or o (t.plan, numbers_of t.inputs)) x in
-        ap (λ (p : Plan × List (List ℕ)). refusal p.0 (value_at (reads p.0) p.1)) pair ∙ refusal_here e.plan w
+        let pair : (t.plan, numbers_of t.inputs) ≡ (e.1.plan, map w (reads e.1.plan)) = ap (λ o. unwrap_or o (t.plan, numbers_of t.inputs)) x in
+        ap (λ (p : Plan × List (List ℕ)). refusal p.0 (value_at (reads p.0) p.1)) pair ∙ refusal_here e.1.plan w
 
-    by_status : (b : Bool) → is_settled e.status ≡ b → cond b (cause_told e.done) None ≡ cond b (refusal e.plan w) None
-    by_status true t = by_done e.done (r.kept t)
+    by_status : (b : Bool) → is_settled e.1.status ≡ b → cond b (cause_told e.1.done) None ≡ cond b (refusal e.1.plan w) None
+    by_status true t = by_done e.1.done (r.kept t)
     by_status false t = refl
 
 faults_are : (w : World) (h : Key → Bool) (es : List Entry) → Sound w h es → faults_kept es ≡ faults_in w (map row_of es)
 faults_are w h [] s = refl
-faults_are w h (e ∷ es) s = ap₂ (λ o fs. fault_by e.id o ++ fs) (cause_is w h e s.0) (faults_are (one e.plan w) (ripen h e) es s.1)
+faults_are w h (e ∷ es) s = ap₂ (λ o fs. fault_by (id_of e) o ++ fs) (cause_is w h e s.0) (faults_are (one e.1.plan w) (ripen h e) es s.1)
 
 -- those of a book
 pub faults_seen : (b : Board) (n m : ℕ) (inputs : Inputs) (es : List Entry) (s : State) → state_of b n m inputs es ≡ s → IsWhole b n m inputs es → faults_kept es ≡ faults_of s

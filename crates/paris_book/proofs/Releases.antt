@@ -8,12 +8,10 @@ use Rattle.paris_model.specs.Instructions.{writes, one}
 use Rattle.paris_events.specs.Rows.{is_settled}
 use Rattle.paris_machine.specs.State.{Row, Inputs, State, start_world}
 use Rattle.paris_machine.specs.Orders.{recalled_status, recalled_row, after_release}
-use Rattle.paris_book.specs.Kept.{row_of, ripen, Sound}
+use Rattle.paris_book.specs.Kept.{ripen, Sound}
 use Rattle.paris_book.specs.Whole.{RowsBelow, ids_of, AllFitted, IsWhole}
-use Rattle.paris_book.specs.Among.{recalled_entry}
-use Rattle.paris_book.specs.Entries.{Entry, entry_of, entries_of}
-use Rattle.paris_book.specs.Marks.{recalled_pair}
-use Rattle.paris_book.specs.declared.rows.RowData.{RowData}
+use Rattle.paris_book.specs.Entries.{Entry, row_of, with_data}
+use Rattle.paris_book.specs.Marks.{recalled_data}
 use Rattle.paris_events.specs.declared.rows.Status.{Status}
 use Rattle.paris_events.specs.declared.rows.Status.TheVariants.{Waiting, Out, Settled}
 use Rattle.paris_book.proofs.Inserts.{state_of}
@@ -25,31 +23,31 @@ settled_same Waiting = refl
 settled_same Out = refl
 settled_same Settled = refl
 
-ripen_same : (h : Key → Bool) (e : Entry) (f : Key) → ripen h (recalled_entry e) f ≡ ripen h e f
+ripen_same : (h : Key → Bool) (e : Entry) (f : Key) → ripen h (with_data recalled_data e) f ≡ ripen h e f
 unfolding ripen
-ripen_same h e f = ap (λ b. cond (has_key (writes e.plan) f) b (h f)) (settled_same e.status)
+ripen_same h e f = ap (λ b. cond (has_key (writes e.1.plan) f) b (h f)) (settled_same e.1.status)
 
-sound_recalled : (w : World) (h : Key → Bool) (es : List Entry) → Sound w h es → Sound w h (map recalled_entry es)
+sound_recalled : (w : World) (h : Key → Bool) (es : List Entry) → Sound w h es → Sound w h (map (with_data recalled_data) es)
 sound_recalled w h [] s = tt
 sound_recalled w h (e ∷ es) s =
-    let same = settled_same e.status in (
+    let same = settled_same e.1.status in (
       record { kept = λ t. s.0.kept (sym same ∙ t); origins = λ t. s.0.origins (sym same ∙ t) },
-      sound_more (one e.plan w) (ripen h e) (ripen h (recalled_entry e)) (λ f t. ripen_same h e f ∙ t) (map recalled_entry es) (sound_recalled (one e.plan w) (ripen h e) es s.1),
+      sound_more (one e.1.plan w) (ripen h e) (ripen h (with_data recalled_data e)) (λ f t. ripen_same h e f ∙ t) (map (with_data recalled_data) es) (sound_recalled (one e.1.plan w) (ripen h e) es s.1),
     )
 
-rows_recalled : (n m : ℕ) (es : List Entry) → RowsBelow n m es → RowsBelow n m (map recalled_entry es)
+rows_recalled : (n m : ℕ) (es : List Entry) → RowsBelow n m es → RowsBelow n m (map (with_data recalled_data) es)
 rows_recalled n m [] r = tt
 rows_recalled n m (e ∷ es) r = (r.0, r.1, rows_recalled n m es r.2)
 
-ids_recalled : (es : List Entry) → ids_of (map recalled_entry es) ≡ ids_of es
+ids_recalled : (es : List Entry) → ids_of (map (with_data recalled_data) es) ≡ ids_of es
 ids_recalled [] = refl
-ids_recalled (e ∷ es) = ap (λ is. e.id.0 ∷ is) (ids_recalled es)
+ids_recalled (e ∷ es) = ap (λ is. e.0 ∷ is) (ids_recalled es)
 
-fitted_recalled : (inputs : Inputs) (es : List Entry) → AllFitted inputs es → AllFitted inputs (map recalled_entry es)
+fitted_recalled : (inputs : Inputs) (es : List Entry) → AllFitted inputs es → AllFitted inputs (map (with_data recalled_data) es)
 fitted_recalled inputs [] f = tt
 fitted_recalled inputs (e ∷ es) f = (f.0, fitted_recalled inputs es f.1)
 
-pub release_whole : (b : Board) (n m : ℕ) (inputs : Inputs) (es : List Entry) → IsWhole b n m inputs es → IsWhole b n m inputs (map recalled_entry es)
+pub release_whole : (b : Board) (n m : ℕ) (inputs : Inputs) (es : List Entry) → IsWhole b n m inputs es → IsWhole b n m inputs (map (with_data recalled_data) es)
 release_whole b n m inputs es w = record {
   next_few = w.next_few;
   edits_few = w.edits_few;
@@ -63,16 +61,11 @@ release_whole b n m inputs es w = record {
   sound = sound_recalled (start_world inputs) (λ _. true) es w.sound;
 }
 
--- the entries of the rows that are recalled
-pub entries_recalled : (rows : List (ℕ × RowData)) → entries_of (map recalled_pair rows) ≡ map recalled_entry (entries_of rows)
-entries_recalled [] = refl
-entries_recalled (r ∷ rows) = ap (λ es. recalled_entry (entry_of r) ∷ es) (entries_recalled rows)
-
-view_recalled : (es : List Entry) → map row_of (map recalled_entry es) ≡ map recalled_row (map row_of es)
+view_recalled : (es : List Entry) → map row_of (map (with_data recalled_data) es) ≡ map recalled_row (map row_of es)
 view_recalled [] = refl
 view_recalled (e ∷ es) = ap (λ rs. recalled_row (row_of e) ∷ rs) (view_recalled es)
 
-pub release_view : (b : Board) (n m : ℕ) (inputs : Inputs) (es zs : List Entry) (s : State) → zs ≡ map recalled_entry es → state_of b n m inputs es ≡ s → state_of b n m inputs zs ≡ after_release s
+pub release_view : (b : Board) (n m : ℕ) (inputs : Inputs) (es zs : List Entry) (s : State) → zs ≡ map (with_data recalled_data) es → state_of b n m inputs es ≡ s → state_of b n m inputs zs ≡ after_release s
 release_view b n m inputs es zs s z y =
     ap (λ (rs : List Row). record { board = b; edits = n; inputs = inputs; next = m; rows = rs }) (ap (map row_of) z ∙ view_recalled es)
     ∙ ap after_release y

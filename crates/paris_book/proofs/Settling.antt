@@ -7,7 +7,6 @@ use Rattle.std.specs.Option.{option_map}
 use Rattle.std.specs.List.{list_all}
 use Rattle.std.specs.Cmp.Lexicographic.{pointwise}
 use Rattle.paris_names.specs.declared.keys.Key.{Key}
-use Rattle.paris_names.specs.declared.ids.RowId.{RowId}
 use Rattle.paris_names.specs.Keys.{has_key}
 use Rattle.paris_board.specs.Board.{Board}
 use Rattle.paris_model.specs.Frame.{World}
@@ -19,11 +18,12 @@ use Rattle.paris_exec.specs.Tasks.{Task, numbers_of, field_of}
 use Rattle.paris_events.specs.Rows.{is_settled}
 use Rattle.paris_machine.specs.State.{Inputs, start_world}
 use Rattle.paris_machine.specs.Orders.{is_firm}
-use Rattle.paris_book.specs.Kept.{row_of, plan_of, ripen, Sound, present}
+use Rattle.paris_book.specs.Marks.{out_data, kept_data}
+use Rattle.paris_book.specs.Kept.{ripen, Sound, present}
 use Rattle.paris_book.specs.Whole.{RowsBelow, ids_of, Fitted, AllFitted, IsWhole}
-use Rattle.paris_book.specs.Entries.{Entry}
+use Rattle.paris_book.specs.Entries.{Entry, plan_of, row_of, with_data}
 use Rattle.paris_events.specs.declared.verdicts.Verdict.TheVariants.{Stale, Repeated, Foreign, Kept}
-use Rattle.paris_book.specs.Among.{origin_among, firm_among, inputs_among, out_entry, kept_entry}
+use Rattle.paris_book.specs.Among.{origin_among, firm_among, inputs_among}
 use Rattle.std.proofs.lemmas.Slice.Eq.{bytes_eq-Decides}
 use Rattle.paris_book.proofs.Origins.{ripe, ripe_is, is_firm_or}
 use Rattle.paris_book.proofs.Inserts.{right_unsettled}
@@ -43,74 +43,74 @@ all_more h h' m (f ∷ fs) t = rw (m f (and_first (h f) (list_all h fs) t)) (all
 
 ripen_more : (h h' : Key → Bool) (e : Entry) → ((f : Key) → h f ≡ true → h' f ≡ true) → (f : Key) → ripen h e f ≡ true → ripen h' e f ≡ true
 unfolding ripen
-ripen_more h h' e m f t = by_has (has_key (writes e.plan) f) t
+ripen_more h h' e m f t = by_has (has_key (writes e.1.plan) f) t
   where
-    by_has : (b : Bool) → cond b (is_settled e.status) (h f) ≡ true → cond b (is_settled e.status) (h' f) ≡ true
+    by_has : (b : Bool) → cond b (is_settled e.1.status) (h f) ≡ true → cond b (is_settled e.1.status) (h' f) ≡ true
     by_has true x = x
     by_has false x = m f x
 
 pub sound_more : (w : World) (h h' : Key → Bool) → ((f : Key) → h f ≡ true → h' f ≡ true) → (es : List Entry) → Sound w h es → Sound w h' es
 sound_more w h h' m [] s = tt
-sound_more w h h' m (e ∷ es) s = (record { kept = s.0.kept; origins = λ t. all_more h h' m (reads e.plan) (s.0.origins t) }, sound_more (one e.plan w) (ripen h e) (ripen h' e) (ripen_more h h' e m) es s.1)
+sound_more w h h' m (e ∷ es) s = (record { kept = s.0.kept; origins = λ t. all_more h h' m (reads e.1.plan) (s.0.origins t) }, sound_more (one e.1.plan w) (ripen h e) (ripen h' e) (ripen_more h h' e m) es s.1)
 
-settle_more : (h : Key → Bool) (e : Entry) (t : Task) → (f : Key) → ripen h e f ≡ true → ripen h (kept_entry e t) f ≡ true
+settle_more : (h : Key → Bool) (e : Entry) (t : Task) → (f : Key) → ripen h e f ≡ true → ripen h (with_data (kept_data t) e) f ≡ true
 unfolding ripen
-settle_more h e t f x = by_has (has_key (writes e.plan) f) x
+settle_more h e t f x = by_has (has_key (writes e.1.plan) f) x
   where
-    by_has : (b : Bool) → cond b (is_settled e.status) (h f) ≡ true → cond b true (h f) ≡ true
+    by_has : (b : Bool) → cond b (is_settled e.1.status) (h f) ≡ true → cond b true (h f) ≡ true
     by_has true y = refl
     by_has false y = y
 
-out_more : (h : Key → Bool) (e : Entry) → is_settled e.status ≡ false → (f : Key) → ripen h e f ≡ true → ripen h (out_entry e) f ≡ true
+out_more : (h : Key → Bool) (e : Entry) → is_settled e.1.status ≡ false → (f : Key) → ripen h e f ≡ true → ripen h (with_data out_data e) f ≡ true
 unfolding ripen
-out_more h e u f x = by_has (has_key (writes e.plan) f) x
+out_more h e u f x = by_has (has_key (writes e.1.plan) f) x
   where
-    by_has : (b : Bool) → cond b (is_settled e.status) (h f) ≡ true → cond b false (h f) ≡ true
+    by_has : (b : Bool) → cond b (is_settled e.1.status) (h f) ≡ true → cond b false (h f) ≡ true
     by_has true y = absurd (let z : true ≡ false = sym y ∙ u in cc)
     by_has false y = y
 
-pub sound_kept : (w : World) (h : Key → Bool) (es : List Entry) (k : ℕ) (e : Entry) (t : Task) → slice_get es k ≡ Some e → t.plan ≡ e.plan → list_all (ripe h (take k es)) (reads e.plan) ≡ true → numbers_of t.inputs ≡ map (run w (map plan_of (take k es))) (reads e.plan) → Sound w h es → Sound w h (set es k (kept_entry e t))
+pub sound_kept : (w : World) (h : Key → Bool) (es : List Entry) (k : ℕ) (e : Entry) (t : Task) → slice_get es k ≡ Some e → t.plan ≡ e.1.plan → list_all (ripe h (take k es)) (reads e.1.plan) ≡ true → numbers_of t.inputs ≡ map (run w (map plan_of (take k es))) (reads e.1.plan) → Sound w h es → Sound w h (set es k (with_data (kept_data t) e))
 sound_kept w h [] k e t x p a b s = absurd (cc)
 sound_kept w h (y ∷ es) zero e t x p a b s =
     let same : y ≡ e = cc in
-    let rest : Sound (one e.plan w) (ripen h e) es = subst (λ (z : Entry). Sound (one z.plan w) (ripen h z) es) same s.1 in
-    (record { kept = λ _. ap Some (ap₂ (λ u v. (u, v)) p b); origins = λ _. a }, sound_more (one e.plan w) (ripen h e) (ripen h (kept_entry e t)) (settle_more h e t) es rest)
-sound_kept w h (y ∷ es) (suc k) e t x p a b s = (s.0, sound_kept (one y.plan w) (ripen h y) es k e t x p a b s.1)
+    let rest : Sound (one e.1.plan w) (ripen h e) es = subst (λ (z : Entry). Sound (one z.1.plan w) (ripen h z) es) same s.1 in
+    (record { kept = λ _. ap Some (ap₂ (λ u v. (u, v)) p b); origins = λ _. a }, sound_more (one e.1.plan w) (ripen h e) (ripen h (with_data (kept_data t) e)) (settle_more h e t) es rest)
+sound_kept w h (y ∷ es) (suc k) e t x p a b s = (s.0, sound_kept (one y.1.plan w) (ripen h y) es k e t x p a b s.1)
 
-sound_out : (w : World) (h : Key → Bool) (es : List Entry) (k : ℕ) (e : Entry) → slice_get es k ≡ Some e → is_settled e.status ≡ false → Sound w h es → Sound w h (set es k (out_entry e))
+sound_out : (w : World) (h : Key → Bool) (es : List Entry) (k : ℕ) (e : Entry) → slice_get es k ≡ Some e → is_settled e.1.status ≡ false → Sound w h es → Sound w h (set es k (with_data out_data e))
 sound_out w h [] k e x u s = absurd (cc)
 sound_out w h (y ∷ es) zero e x u s =
     let same : y ≡ e = cc in
-    let rest : Sound (one e.plan w) (ripen h e) es = subst (λ (z : Entry). Sound (one z.plan w) (ripen h z) es) same s.1 in
-    (right_unsettled w h (out_entry e) refl, sound_more (one e.plan w) (ripen h e) (ripen h (out_entry e)) (out_more h e u) es rest)
-sound_out w h (y ∷ es) (suc k) e x u s = (s.0, sound_out (one y.plan w) (ripen h y) es k e x u s.1)
+    let rest : Sound (one e.1.plan w) (ripen h e) es = subst (λ (z : Entry). Sound (one z.1.plan w) (ripen h z) es) same s.1 in
+    (right_unsettled w h (with_data out_data e) refl, sound_more (one e.1.plan w) (ripen h e) (ripen h (with_data out_data e)) (out_more h e u) es rest)
+sound_out w h (y ∷ es) (suc k) e x u s = (s.0, sound_out (one y.1.plan w) (ripen h y) es k e x u s.1)
 
 -- an entry with the same id, plan and number in the place of another
-module _ (x e : Entry) (same_id : x.id ≡ e.id) (same_plan : x.plan ≡ e.plan) (same_set : x.set_by ≡ e.set_by) where
+module _ (x e : Entry) (same_id : x.0 ≡ e.0) (same_plan : x.1.plan ≡ e.1.plan) (same_set : x.1.set_by ≡ e.1.set_by) where
   pub rows_put : (n m : ℕ) (es : List Entry) (k : ℕ) → slice_get es k ≡ Some e → RowsBelow n m es → RowsBelow n m (set es k x)
   rows_put n m [] k at r = tt
   rows_put n m (y ∷ es) zero at r =
       let same : y ≡ e = cc in
-      let number : x.set_by ≡ y.set_by = same_set ∙ sym (ap (λ (z : Entry). z.set_by) same) in
-      let id : x.id.0 ≡ y.id.0 = ap (λ (i : RowId). i.0) (same_id ∙ sym (ap (λ (z : Entry). z.id) same)) in
-      let a : y.set_by ≤ n = r.0 in
-      let b : y.id.0 < m = r.1 in
+      let number : x.1.set_by ≡ y.1.set_by = same_set ∙ sym (ap (λ (z : Entry). z.1.set_by) same) in
+      let id : x.0 ≡ y.0 = same_id ∙ sym (ap (λ (z : Entry). z.0) same) in
+      let a : y.1.set_by ≤ n = r.0 in
+      let b : y.0 < m = r.1 in
       (rw number a, rw id b, r.2)
   rows_put n m (y ∷ es) (suc k) at r = (r.0, r.1, rows_put n m es k at r.2)
 
   pub ids_put : (es : List Entry) (k : ℕ) → slice_get es k ≡ Some e → ids_of (set es k x) ≡ ids_of es
   ids_put [] k at = refl
-  ids_put (y ∷ es) zero at = let same : y ≡ e = cc in ap (λ (i : RowId). i.0 ∷ ids_of es) (same_id ∙ sym (ap (λ (z : Entry). z.id) same))
-  ids_put (y ∷ es) (suc k) at = ap (λ is. y.id.0 ∷ is) (ids_put es k at)
+  ids_put (y ∷ es) zero at = let same : y ≡ e = cc in ap (λ i. i ∷ ids_of es) (same_id ∙ sym (ap (λ (z : Entry). z.0) same))
+  ids_put (y ∷ es) (suc k) at = ap (λ is. y.0 ∷ is) (ids_put es k at)
 
   pub fitted_put : (inputs : Inputs) (es : List Entry) (k : ℕ) → slice_get es k ≡ Some e → AllFitted inputs es → AllFitted inputs (set es k x)
   fitted_put inputs [] k at f = tt
   fitted_put inputs (y ∷ es) zero at f =
       let same : y ≡ e = cc in
-      (subst (Fitted inputs) (ap (λ (z : Entry). z.plan) same ∙ sym same_plan) f.0, f.1)
+      (subst (Fitted inputs) (ap (λ (z : Entry). z.1.plan) same ∙ sym same_plan) f.0, f.1)
   fitted_put inputs (y ∷ es) (suc k) at f = (f.0, fitted_put inputs es k at f.1)
 
-pub take_whole : (b : Board) (n m : ℕ) (inputs : Inputs) (es : List Entry) (k : ℕ) (e : Entry) → slice_get es k ≡ Some e → is_settled e.status ≡ false → IsWhole b n m inputs es → IsWhole b n m inputs (set es k (out_entry e))
+pub take_whole : (b : Board) (n m : ℕ) (inputs : Inputs) (es : List Entry) (k : ℕ) (e : Entry) → slice_get es k ≡ Some e → is_settled e.1.status ≡ false → IsWhole b n m inputs es → IsWhole b n m inputs (set es k (with_data out_data e))
 take_whole b n m inputs es k e x u w = record {
   next_few = w.next_few;
   edits_few = w.edits_few;
@@ -118,9 +118,9 @@ take_whole b n m inputs es k e x u w = record {
   as_many_flags = w.as_many_flags;
   shaped = w.shaped;
   inputs_below = w.inputs_below;
-  rows_below = rows_put (out_entry e) e refl refl refl n m es k x w.rows_below;
-  ids_apart = rw (ids_put (out_entry e) e refl refl refl es k x) w.ids_apart;
-  fitted = fitted_put (out_entry e) e refl refl refl inputs es k x w.fitted;
+  rows_below = rows_put (with_data out_data e) e refl refl refl n m es k x w.rows_below;
+  ids_apart = rw (ids_put (with_data out_data e) e refl refl refl es k x) w.ids_apart;
+  fitted = fitted_put (with_data out_data e) e refl refl refl inputs es k x w.fitted;
   sound = sound_out (start_world inputs) (λ _. true) es k e x u w.sound;
 }
 
@@ -152,19 +152,19 @@ firm_ripe es place (k ∷ ks) h =
     by_origin (Some e) t = t
 
 kept_means : (inputs : Inputs) (es : List Entry) (place : ℕ) (e : Entry) (t : Task) → verdict_among inputs es place e t ≡ Kept → present_among inputs es place e t ≡ true
-kept_means inputs es place e t h = go (eqb e.edition.0 t.edition.0) (is_settled e.status) (present_among inputs es place e t) h
+kept_means inputs es place e t h = go (eqb e.1.edition.0 t.edition.0) (is_settled e.1.status) (present_among inputs es place e t) h
   where
-    go : (a b c : Bool) → cond a (cond b Repeated (cond c Kept Foreign)) (Stale e.edition) ≡ Kept → c ≡ true
+    go : (a b c : Bool) → cond a (cond b Repeated (cond c Kept Foreign)) (Stale e.1.edition) ≡ Kept → c ≡ true
     go a b true x = refl
     go true true false x = absurd (cc)
     go true false false x = absurd (cc)
     go false b false x = absurd (cc)
 
-pub bring_whole : (b : Board) (n m : ℕ) (inputs : Inputs) (es : List Entry) (k : ℕ) (e : Entry) (t : Task) → slice_get es k ≡ Some e → verdict_among inputs es k e t ≡ Kept → e.plan ≡ t.plan → IsWhole b n m inputs es → IsWhole b n m inputs (set es k (kept_entry e t))
+pub bring_whole : (b : Board) (n m : ℕ) (inputs : Inputs) (es : List Entry) (k : ℕ) (e : Entry) (t : Task) → slice_get es k ≡ Some e → verdict_among inputs es k e t ≡ Kept → e.1.plan ≡ t.plan → IsWhole b n m inputs es → IsWhole b n m inputs (set es k (with_data (kept_data t) e))
 bring_whole b n m inputs es k e t x v p w =
-    let rest = and_second (plan_eq e.plan t.plan) _ (kept_means inputs es k e t v) in
-    let firm : list_all (firm_among es k) (reads e.plan) ≡ true = and_first (list_all (firm_among es k) (reads e.plan)) (pointwise field_eq (inputs_among inputs es k e.plan) t.inputs) rest in
-    let values : inputs_among inputs es k e.plan ≡ t.inputs = same_values (inputs_among inputs es k e.plan) t.inputs (and_second (list_all (firm_among es k) (reads e.plan)) (pointwise field_eq (inputs_among inputs es k e.plan) t.inputs) rest) in
+    let rest = and_second (plan_eq e.1.plan t.plan) _ (kept_means inputs es k e t v) in
+    let firm : list_all (firm_among es k) (reads e.1.plan) ≡ true = and_first (list_all (firm_among es k) (reads e.1.plan)) (pointwise field_eq (inputs_among inputs es k e.1.plan) t.inputs) rest in
+    let values : inputs_among inputs es k e.1.plan ≡ t.inputs = same_values (inputs_among inputs es k e.1.plan) t.inputs (and_second (list_all (firm_among es k) (reads e.1.plan)) (pointwise field_eq (inputs_among inputs es k e.1.plan) t.inputs) rest) in
     record {
       next_few = w.next_few;
       edits_few = w.edits_few;
@@ -172,8 +172,8 @@ bring_whole b n m inputs es k e t x v p w =
       as_many_flags = w.as_many_flags;
       shaped = w.shaped;
       inputs_below = w.inputs_below;
-      rows_below = rows_put (kept_entry e t) e refl refl refl n m es k x w.rows_below;
-      ids_apart = rw (ids_put (kept_entry e t) e refl refl refl es k x) w.ids_apart;
-      fitted = fitted_put (kept_entry e t) e refl refl refl inputs es k x w.fitted;
-      sound = sound_kept (start_world inputs) (λ _. true) es k e t x (sym p) (firm_ripe es k (reads e.plan) firm) (ap numbers_of (sym values) ∙ numbers_among inputs es k e.plan (reads e.plan)) w.sound;
+      rows_below = rows_put (with_data (kept_data t) e) e refl refl refl n m es k x w.rows_below;
+      ids_apart = rw (ids_put (with_data (kept_data t) e) e refl refl refl es k x) w.ids_apart;
+      fitted = fitted_put (with_data (kept_data t) e) e refl refl refl inputs es k x w.fitted;
+      sound = sound_kept (start_world inputs) (λ _. true) es k e t x (sym p) (firm_ripe es k (reads e.1.plan) firm) (ap numbers_of (sym values) ∙ numbers_among inputs es k e.1.plan (reads e.1.plan)) w.sound;
     }

@@ -21,9 +21,9 @@ use Rattle.paris_events.specs.Rows.{is_settled}
 use Rattle.paris_machine.specs.State.{Row, Inputs, input_of, numbers_in, start_world, row_plan}
 use Rattle.paris_machine.specs.Show.{now, origin_at, shown_of, show_at}
 use Rattle.paris_machine.specs.Orders.{is_firm}
-use Rattle.paris_book.specs.Kept.{row_of, plan_of, last_kept, Sound, present}
+use Rattle.paris_book.specs.Kept.{last_kept, Sound, present}
 use Rattle.paris_book.specs.Whole.{shape_on, shape_of, shape_in, Shaped, Fitted, AllFitted}
-use Rattle.paris_book.specs.Entries.{Entry}
+use Rattle.paris_book.specs.Entries.{Entry, id_of, plan_of, row_of}
 use Rattle.paris_machine.specs.declared.inputs.Input.{Input}
 use Rattle.paris_machine.specs.declared.events.Shown.TheVariants.{Settled as ShownSettled, Pending}
 use Rattle.paris_book.specs.Among.{origin_among, width_in_shape, value_among, look_among, look_shown, LookFits, firm_among}
@@ -35,7 +35,7 @@ use Rattle.paris_book.proofs.Inserts.{state_of}
 
 pub map-row : (es : List Entry) → map row_plan (map row_of es) ≡ map plan_of es
 map-row [] = refl
-map-row (e ∷ es) = ap (λ x. e.plan ∷ x) (map-row es)
+map-row (e ∷ es) = ap (λ x. e.1.plan ∷ x) (map-row es)
 
 pub now_is : (b : Board) (n m : ℕ) (inputs : Inputs) (es : List Entry) (place : ℕ) → now (state_of b n m inputs es) place ≡ present inputs es place
 now_is b n m inputs es place = ap (λ (rs : List Row). run (start_world inputs) (map row_plan rs)) (take-map row_of place es) ∙ ap (run (start_world inputs)) (map-row (take place es))
@@ -69,38 +69,38 @@ look_start inputs es k place x s o e =
     (rw o (ap ShownSettled (λ i. record { width = sym width i; numbers = sym numbers i })), shape)
 
 -- a settled origin has a result
-pub origin_kept : (inputs : Inputs) (es : List Entry) (k : Key) (place : ℕ) (e : Entry) → Sound (start_world inputs) (λ _. true) es → origin_among es place k ≡ Some e → is_settled e.status ≡ true → e.done ≡ None → ⊥
+pub origin_kept : (inputs : Inputs) (es : List Entry) (k : Key) (place : ℕ) (e : Entry) → Sound (start_world inputs) (λ _. true) es → origin_among es place k ≡ Some e → is_settled e.1.status ≡ true → e.1.done ≡ None → ⊥
 origin_kept inputs es k place e s o t none =
     let told = (tells_at inputs es k place (Some e) s o).1 t in
     let nothing : Option (Plan × List (List ℕ)) = None in
-    let wrong : nothing ≡ Some (e.plan, told.0) = ap last_kept (sym none) ∙ told.1 in
+    let wrong : nothing ≡ Some (e.1.plan, told.0) = ap last_kept (sym none) ∙ told.1 in
     absurd (cc)
 
-fitted_entry : (inputs : Inputs) (es : List Entry) (k : Key) (place : ℕ) (e : Entry) → AllFitted inputs es → origin_among es place k ≡ Some e → Fitted inputs e.plan
+fitted_entry : (inputs : Inputs) (es : List Entry) (k : Key) (place : ℕ) (e : Entry) → AllFitted inputs es → origin_among es place k ≡ Some e → Fitted inputs e.1.plan
 fitted_entry inputs [] k zero e f o = absurd (cc)
 fitted_entry inputs [] k (suc place) e f o = absurd (cc)
 fitted_entry inputs (x ∷ es) k zero e f o = absurd (cc)
-fitted_entry inputs (x ∷ es) k (suc place) e f o = by_rest (fitted_entry inputs es k place e f.1) (origin plan_of k (take place es)) refl (has_key (writes x.plan) k) o
+fitted_entry inputs (x ∷ es) k (suc place) e f o = by_rest (fitted_entry inputs es k place e f.1) (origin plan_of k (take place es)) refl (has_key (writes x.1.plan) k) o
   where
-    by_rest : (origin_among es place k ≡ Some e → Fitted inputs e.plan) → (r : Option Entry) → origin plan_of k (take place es) ≡ r → (b : Bool) → option_or r (cond b (Some x) None) ≡ Some e → Fitted inputs e.plan
+    by_rest : (origin_among es place k ≡ Some e → Fitted inputs e.1.plan) → (r : Option Entry) → origin plan_of k (take place es) ≡ r → (b : Bool) → option_or r (cond b (Some x) None) ≡ Some e → Fitted inputs e.1.plan
     by_rest rest (Some y) q b h = rest (q ∙ h)
-    by_rest rest None q true h = let same : x ≡ e = cc in subst (λ (z : Entry). Fitted inputs z.plan) same f.0
+    by_rest rest None q true h = let same : x ≡ e = cc in subst (λ (z : Entry). Fitted inputs z.1.plan) same f.0
     by_rest rest None q false h = absurd (cc)
 
 -- a settled origin's result holds the present value
-pub look_settled : (inputs : Inputs) (es : List Entry) (k : Key) (place : ℕ) (e : Entry) (d : Task) (v : FieldNumbers) → Sound (start_world inputs) (λ _. true) es → AllFitted inputs es → origin_among es place k ≡ Some e → is_settled e.status ≡ true → e.done ≡ Some d
+pub look_settled : (inputs : Inputs) (es : List Entry) (k : Key) (place : ℕ) (e : Entry) (d : Task) (v : FieldNumbers) → Sound (start_world inputs) (λ _. true) es → AllFitted inputs es → origin_among es place k ≡ Some e → is_settled e.1.status ≡ true → e.1.done ≡ Some d
     → v ≡ task_value d k → length v.numbers ≡ processor_count d.plan.axes
     → (ShownSettled v ≡ look_among inputs es place k) × (shape_in inputs k ≡ Some (v.width, length v.numbers))
 look_settled inputs es k place e d v s f o t x value count =
     let tells = tells_at inputs es k place (Some e) s o in
     let told = tells.1 t in
-    let pair : (d.plan, numbers_of d.inputs) ≡ (e.plan, told.0) = ap (λ o. unwrap_or o (d.plan, numbers_of d.inputs)) (sym (ap last_kept x) ∙ told.1) in
-    let plan : d.plan ≡ e.plan = ap (λ (p : Plan × List (List ℕ)). p.0) pair in
+    let pair : (d.plan, numbers_of d.inputs) ≡ (e.1.plan, told.0) = ap (λ o. unwrap_or o (d.plan, numbers_of d.inputs)) (sym (ap last_kept x) ∙ told.1) in
+    let plan : d.plan ≡ e.1.plan = ap (λ (p : Plan × List (List ℕ)). p.0) pair in
     let held : given d.plan (numbers_of d.inputs) k ≡ present inputs es place k = ap (λ (p : Plan × List (List ℕ)). given p.0 p.1 k) pair ∙ told.2 in
-    let shape : shape_in inputs k ≡ Some (key_width e.plan k, processor_count e.plan.axes) = fitted_entry inputs es k place e f o k (written k e.plan tells.0) in
-    let width : v.width ≡ key_width e.plan k = ap (λ (y : FieldNumbers). y.width) value ∙ ap (λ p. key_width p k) plan in
+    let shape : shape_in inputs k ≡ Some (key_width e.1.plan k, processor_count e.1.plan.axes) = fitted_entry inputs es k place e f o k (written k e.1.plan tells.0) in
+    let width : v.width ≡ key_width e.1.plan k = ap (λ (y : FieldNumbers). y.width) value ∙ ap (λ p. key_width p k) plan in
     let numbers : v.numbers ≡ present inputs es place k = ap (λ (y : FieldNumbers). y.numbers) value ∙ held in
-    let long : length v.numbers ≡ processor_count e.plan.axes = count ∙ ap (λ (p : Plan). processor_count p.axes) plan in
+    let long : length v.numbers ≡ processor_count e.1.plan.axes = count ∙ ap (λ (p : Plan). processor_count p.axes) plan in
     (rw (o, t) (ap ShownSettled (λ i. record { width = (width ∙ sym (ap width_in_shape shape)) i; numbers = numbers i })), shape ∙ ap Some (ap₂ (λ a b. (a, b)) (sym width) (sym long)))
   where
     written : (k : Key) (p : Plan) → has_key (writes p) k ≡ true → (has_key (reads p) k || has_key (writes p) k) ≡ true
@@ -111,21 +111,21 @@ look_settled inputs es k place e d v s f o t x value count =
         by_first false = h
 
 -- the key that a settled origin's result is asked for is one that it writes
-pub done_writes : (inputs : Inputs) (es : List Entry) (k : Key) (place : ℕ) (e : Entry) (d : Task) → Sound (start_world inputs) (λ _. true) es → origin_among es place k ≡ Some e → is_settled e.status ≡ true → e.done ≡ Some d → has_key (writes d.plan) k ≡ true
+pub done_writes : (inputs : Inputs) (es : List Entry) (k : Key) (place : ℕ) (e : Entry) (d : Task) → Sound (start_world inputs) (λ _. true) es → origin_among es place k ≡ Some e → is_settled e.1.status ≡ true → e.1.done ≡ Some d → has_key (writes d.plan) k ≡ true
 done_writes inputs es k place e d s o t x =
     let tells = tells_at inputs es k place (Some e) s o in
     let told = tells.1 t in
-    let pair : (d.plan, numbers_of d.inputs) ≡ (e.plan, told.0) = ap (λ o. unwrap_or o (d.plan, numbers_of d.inputs)) (sym (ap last_kept x) ∙ told.1) in
+    let pair : (d.plan, numbers_of d.inputs) ≡ (e.1.plan, told.0) = ap (λ o. unwrap_or o (d.plan, numbers_of d.inputs)) (sym (ap last_kept x) ∙ told.1) in
     ap (λ (p : Plan × List (List ℕ)). has_key (writes p.0) k) pair ∙ tells.0
 
-pub look_pending : (inputs : Inputs) (es : List Entry) (k : Key) (place : ℕ) (e : Entry) → origin_among es place k ≡ Some e → is_settled e.status ≡ false → Pending e.id ≡ look_among inputs es place k
+pub look_pending : (inputs : Inputs) (es : List Entry) (k : Key) (place : ℕ) (e : Entry) → origin_among es place k ≡ Some e → is_settled e.1.status ≡ false → Pending (id_of e) ≡ look_among inputs es place k
 look_pending inputs es k place e o t = rw (o, t) refl
 
 -- an origin keeps a result where it is settled
 pub kept_for : (inputs : Inputs) (es : List Entry) (k : Key) (place : ℕ) (e : Entry) → Sound (start_world inputs) (λ _. true) es → origin_among es place k ≡ Some e → KeptFor e k
-kept_for inputs es k place e s o t = by_done e.done refl
+kept_for inputs es k place e s o t = by_done e.1.done refl
   where
-    by_done : (d : Option Task) → e.done ≡ d → (d : Task) × (e.done ≡ Some d) × (has_key (writes d.plan) k ≡ true)
+    by_done : (d : Option Task) → e.1.done ≡ d → (d : Task) × (e.1.done ≡ Some d) × (has_key (writes d.plan) k ≡ true)
     by_done None x = absurd (origin_kept inputs es k place e s o t x)
     by_done (Some d) x = (d, x, done_writes inputs es k place e d s o t x)
 
@@ -191,9 +191,9 @@ all_at test (j ∷ js) (suc i) k a e h = all_at test js i k (omega arith) e (sec
     second true t = t
     second false t = absurd (let x : false ≡ true = t in cc)
 
-pub fitted_at : (inputs : Inputs) (es : List Entry) (place : ℕ) (e : Entry) → AllFitted inputs es → slice_get es place ≡ Some e → Fitted inputs e.plan
+pub fitted_at : (inputs : Inputs) (es : List Entry) (place : ℕ) (e : Entry) → AllFitted inputs es → slice_get es place ≡ Some e → Fitted inputs e.1.plan
 fitted_at inputs [] place e f x = absurd (cc)
-fitted_at inputs (y ∷ es) zero e f x = let same : y ≡ e = cc in subst (λ (z : Entry). Fitted inputs z.plan) same f.0
+fitted_at inputs (y ∷ es) zero e f x = let same : y ≡ e = cc in subst (λ (z : Entry). Fitted inputs z.1.plan) same f.0
 fitted_at inputs (y ∷ es) (suc place) e f x = fitted_at inputs es place e f.1 x
 
 fits-append : (p : Plan) (ks : List Key) (xs : List FieldNumbers) (k : Key) (x : FieldNumbers) → fits_keys p ks xs ≡ true → fits_key p k x ≡ true → fits_keys p (ks ++ k ∷ []) (xs ++ x ∷ []) ≡ true

@@ -1,21 +1,17 @@
 -- The rows after a sweep forward from keys whose recipes changed.
 use Rattle.std.specs.Prelude.{ℕ, List, [], ◌∷◌, Bool, if◌then◌else◌}
 use Rattle.paris_names.specs.declared.keys.Key.{Key}
-use Rattle.paris_depends.specs.Sweeps.{touches, spread}
-use Rattle.paris_book.specs.Entries.{Entry}
+use Rattle.paris_depends.specs.Sweeps.{touches, spread, swept as swept_by}
+use Rattle.paris_book.specs.Entries.{Entry, with_data}
+use Rattle.paris_book.specs.Marks.{data_plan, stale_data}
 use Rattle.paris_machine.specs.State.{Row}
 use Rattle.paris_machine.specs.Edits.{unsettled}
-use Rattle.paris_events.specs.declared.rows.Status.TheVariants.{Waiting}
 
 -- the rows after a sweep from changed keys
 abbrev pub swept : ℕ → (Key → Bool) → List Row → List Row
 swept n d [] = []
 swept n d (r ∷ rs) = (if touches d r.plan then unsettled n r else r) ∷ swept n (spread d r.plan) rs
 
--- the same of the entries
-abbrev pub stale : ℕ → Entry → Entry
-stale n e = record e { edition = record { 0 = n }; status = Waiting }
-
+-- the same of a book's rows
 abbrev pub swept_entries : ℕ → (Key → Bool) → List Entry → List Entry
-swept_entries n d [] = []
-swept_entries n d (e ∷ es) = (if touches d e.plan then stale n e else e) ∷ swept_entries n (spread d e.plan) es
+swept_entries n d es = swept_by data_plan (with_data (stale_data n)) (λ e. e) d es

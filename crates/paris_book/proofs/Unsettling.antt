@@ -1,4 +1,4 @@
--- The rows after an edit, and a sweep over their entries.
+-- The rows after an edit, and a sweep over them.
 use Rattle.std.proofs.Common.{◌≡◌, ℕ, ◌+◌, List, [], ◌∷◌, ◌++◌, Bool, true, false, cond, Option, Some, None, nat_eq, refl, sym, ap, ◌∙◌, subst, map, set, take, drop, insert, remove, zero, suc, add-one, append_assoc, length, ◌<◌, get_or, slice_get}
 use Rattle.std.proofs.lemmas.List.{take-map, drop-map, map-append, map-id, take_more}
 use Rattle.std.proofs.lemmas.Option.{slice_get-map}
@@ -15,139 +15,127 @@ use Rattle.paris_program.specs.Program.{place_of, id_at, with_row}
 use Rattle.paris_program.proofs.CallerLemmas.{row_there}
 use Rattle.paris_depends.specs.Sweeps.{touches, spread, touched, swept as swept_rows}
 use Rattle.paris_depends.proofs.ByIds.{by_ids-front, by_ids-swept, by_ids-more, by_ids-absent}
-use Rattle.paris_book.proofs.Swept.{stale, swept_entries}
-use Rattle.paris_book.specs.Entries.{entry_of, entries_of}
-use Rattle.paris_book.specs.Marks.{data_plan, fresh_data, stale_row, stale_pair, unsettled_by_ids, ids_in, writes_either}
+use Rattle.paris_book.specs.Entries.{Entry, with_data}
+use Rattle.paris_book.proofs.Swept.{swept_entries}
+use Rattle.paris_book.specs.Marks.{data_plan, fresh_data, unsettled_by_ids, ids_in, writes_either, stale_data}
 use Rattle.paris_book.specs.declared.rows.RowData.{RowData}
-use Rattle.paris_book.proofs.Inserts.{fresh, inserted_rows}
+use Rattle.paris_book.proofs.Inserts.{inserted_rows}
 
 -- ---- no id, and one more
 
-pub unsettled_none : (n : ℕ) (rows : List (ℕ × RowData)) → rows ≡ unsettled_by_ids n [] rows
+pub unsettled_none : (n : ℕ) (rows : List Entry) → rows ≡ unsettled_by_ids n [] rows
 unsettled_none n rows = sym (map-id rows)
 
-ids_stay : (n : ℕ) (ids : List ℕ) (rows : List (ℕ × RowData)) → keys_of (unsettled_by_ids n ids rows) ≡ keys_of rows
+ids_stay : (n : ℕ) (ids : List ℕ) (rows : List Entry) → keys_of (unsettled_by_ids n ids rows) ≡ keys_of rows
 ids_stay n ids [] = refl
 ids_stay n ids (r ∷ rows) = rw (ids_stay n ids rows) (by_test (list_any (nat_eq r.0) ids))
   where
-    by_test : (b : Bool) → ((cond b (stale_pair n r) r).0 ∷ keys_of rows) ≡ (r.0 ∷ keys_of rows)
+    by_test : (b : Bool) → ((cond b (with_data (stale_data n) r) r).0 ∷ keys_of rows) ≡ (r.0 ∷ keys_of rows)
     by_test true = refl
     by_test false = refl
 
-stale_once : (n : ℕ) (b : Bool) (r : ℕ × RowData) → stale_row n (cond b (stale_pair n r) r).1 ≡ stale_row n r.1
+stale_once : (n : ℕ) (b : Bool) (r : Entry) → stale_data n (cond b (with_data (stale_data n) r) r).1 ≡ stale_data n r.1
 stale_once n true r = refl
 stale_once n false r = refl
 
-own_id : (n : ℕ) (b : Bool) (r : ℕ × RowData) → (cond b (stale_pair n r) r).0 ≡ r.0
+own_id : (n : ℕ) (b : Bool) (r : Entry) → (cond b (with_data (stale_data n) r) r).0 ≡ r.0
 own_id n true r = refl
 own_id n false r = refl
 
-id_there : (rows : List (ℕ × RowData)) (place : ℕ) (r : ℕ × RowData) → slice_get rows place ≡ Some r → id_at rows place ≡ r.0
+id_there : (rows : List Entry) (place : ℕ) (r : Entry) → slice_get rows place ≡ Some r → id_at rows place ≡ r.0
 id_there [] place r at = absurd (cc)
-id_there (x ∷ rows) zero r at = let same : x ≡ r = cc in ap (λ (e : ℕ × RowData). e.0) same
+id_there (x ∷ rows) zero r at = let same : x ≡ r = cc in ap (λ (e : Entry). e.0) same
 id_there (x ∷ rows) (suc place) r at = id_there rows place r at
 
 pub ids_more : (ids : List RowId) (i : ℕ) (d : RowId) → i < length ids → ids_in (take (i + 1) ids) ≡ ids_in (take i ids) ++ (get_or ids i d).0 ∷ []
 ids_more ids i d within = ap ids_in (take_more ids i d within) ∙ map-append (λ (id : RowId). id.0) (take i ids) (get_or ids i d ∷ [])
 
-pub unsettle_more : (n : ℕ) (old now new : List (ℕ × RowData)) (ids : List ℕ) (i place : ℕ) (x y : RowData) → IsDistinct nat_eq (keys_of old) → now ≡ unsettled_by_ids n ids old → place_of now i ≡ Some place
-    → slice_get now place ≡ Some (id_at now place, x) → y ≡ stale_row n x → new ≡ with_row now place y → new ≡ unsettled_by_ids n (ids ++ i ∷ []) old
+pub unsettle_more : (n : ℕ) (old now new : List Entry) (ids : List ℕ) (i place : ℕ) (x y : RowData) → IsDistinct nat_eq (keys_of old) → now ≡ unsettled_by_ids n ids old → place_of now i ≡ Some place
+    → slice_get now place ≡ Some (id_at now place, x) → y ≡ stale_data n x → new ≡ with_row now place y → new ≡ unsettled_by_ids n (ids ++ i ∷ []) old
 unsettle_more n old now new ids i place x y distinct is at here stale_is written =
     let there : place_of old i ≡ Some place = sym (ap (λ ks. place_in ks i) (ap keys_of is ∙ ids_stay n ids old)) ∙ at in
     let row = row_there old i place there in
     let marked : Bool = list_any (nat_eq i) ids in
-    let found : slice_get now place ≡ Some (cond marked (stale_pair n (i, row.0)) (i, row.0)) =
-    ap (λ rows. slice_get rows place) is ∙ slice_get-map (λ r. cond (list_any (nat_eq r.0) ids) (stale_pair n r) r) old place ∙ ap (option_map (λ r. cond (list_any (nat_eq r.0) ids) (stale_pair n r) r)) row.1 in
-    let id : id_at now place ≡ i = id_there now place (cond marked (stale_pair n (i, row.0)) (i, row.0)) found ∙ own_id n marked (i, row.0) in
-    let same : x ≡ (cond marked (stale_pair n (i, row.0)) (i, row.0)).1 = ap (λ (o : Option (ℕ × RowData)). (unwrap_or o (i, x)).1) (sym here ∙ found) in
-    let made : y ≡ stale_row n row.0 = stale_is ∙ ap (stale_row n) same ∙ stale_once n marked (i, row.0) in
+    let found : slice_get now place ≡ Some (cond marked (with_data (stale_data n) (i, row.0)) (i, row.0)) =
+    ap (λ rows. slice_get rows place) is ∙ slice_get-map (λ r. cond (list_any (nat_eq r.0) ids) (with_data (stale_data n) r) r) old place ∙ ap (option_map (λ r. cond (list_any (nat_eq r.0) ids) (with_data (stale_data n) r) r)) row.1 in
+    let id : id_at now place ≡ i = id_there now place (cond marked (with_data (stale_data n) (i, row.0)) (i, row.0)) found ∙ own_id n marked (i, row.0) in
+    let same : x ≡ (cond marked (with_data (stale_data n) (i, row.0)) (i, row.0)).1 = ap (λ (o : Option (Entry)). (unwrap_or o (i, x)).1) (sym here ∙ found) in
+    let made : y ≡ stale_data n row.0 = stale_is ∙ ap (stale_data n) same ∙ stale_once n marked (i, row.0) in
     written
     ∙ ap (λ j. set now place (j, y)) id
     ∙ ap (λ z. set now place (i, z)) made
-    ∙ ap (λ rows. set rows place (i, stale_row n row.0)) is
-    ∙ sym (by_ids-more (stale_pair n) (λ r. r) i row.0 ids old place distinct there row.1)
+    ∙ ap (λ rows. set rows place (i, stale_data n row.0)) is
+    ∙ sym (by_ids-more (with_data (stale_data n)) (λ r. r) i row.0 ids old place distinct there row.1)
   where
     place_in : List ℕ → ℕ → Option ℕ
     place_in ks i = position (nat_eq i) ks
 
-pub unsettle_none : (n : ℕ) (old now : List (ℕ × RowData)) (ids : List ℕ) (i : ℕ) → now ≡ unsettled_by_ids n ids old → None ≡ place_of now i → now ≡ unsettled_by_ids n (ids ++ i ∷ []) old
+pub unsettle_none : (n : ℕ) (old now : List Entry) (ids : List ℕ) (i : ℕ) → now ≡ unsettled_by_ids n ids old → None ≡ place_of now i → now ≡ unsettled_by_ids n (ids ++ i ∷ []) old
 unsettle_none n old now ids i is none =
     let absent : place_of old i ≡ None = sym (none ∙ ap (λ ks. position (nat_eq i) ks) (ap keys_of is ∙ ids_stay n ids old)) in
-    is ∙ sym (by_ids-absent (stale_pair n) (λ r. r) i ids old absent)
+    is ∙ sym (by_ids-absent (with_data (stale_data n)) (λ r. r) i ids old absent)
 
 -- ---- all ids of a sweep
 
-swept_pairs : (n : ℕ) (d : Key → Bool) (rows : List (ℕ × RowData)) → entries_of (swept_rows data_plan (stale_pair n) (λ r. r) d rows) ≡ swept_entries n d (entries_of rows)
-swept_pairs n d [] = refl
-swept_pairs n d (r ∷ rows) = rw (swept_pairs n (spread d (data_plan r.1)) rows) (by_touch (touches d (data_plan r.1)))
-  where
-    by_touch : (b : Bool) → (entry_of (cond b (stale_pair n r) r) ∷ swept_entries n (spread d (data_plan r.1)) (entries_of rows)) ≡ (cond b (stale n (entry_of r)) (entry_of r) ∷ swept_entries n (spread d (data_plan r.1)) (entries_of rows))
-    by_touch true = refl
-    by_touch false = refl
-
 -- rows of which those behind a place are swept
-pub unsettled_behind : (n : ℕ) (d : Key → Bool) (front back : List (ℕ × RowData)) → IsDistinct nat_eq (keys_of (front ++ back))
-    → entries_of (unsettled_by_ids n (touched data_plan d back) (front ++ back)) ≡ entries_of front ++ swept_entries n d (entries_of back)
+pub unsettled_behind : (n : ℕ) (d : Key → Bool) (front back : List Entry) → IsDistinct nat_eq (keys_of (front ++ back))
+    → unsettled_by_ids n (touched data_plan d back) (front ++ back) ≡ front ++ swept_entries n d back
 unsettled_behind n d front back distinct =
-    ap entries_of (by_ids-front data_plan (stale_pair n) (λ r. r) d front back distinct)
-    ∙ map-append entry_of (map (λ r. r) front) (swept_rows data_plan (stale_pair n) (λ r. r) d back)
-    ∙ ap (λ rows. entries_of rows ++ entries_of (swept_rows data_plan (stale_pair n) (λ r. r) d back)) (map-id front)
-    ∙ ap (λ es. entries_of front ++ es) (swept_pairs n d back)
+    by_ids-front data_plan (with_data (stale_data n)) (λ r. r) d front back distinct
+    ∙ ap (λ rows. rows ++ swept_entries n d back) (map-id front)
 
 -- all rows, after input data is given
-pub input_rows : (n : ℕ) (k : Key) (old new : List (ℕ × RowData)) (ids : List ℕ) → IsDistinct nat_eq (keys_of old) → ids ≡ touched data_plan (has_key (k ∷ [])) old → new ≡ unsettled_by_ids n ids old
-    → entries_of new ≡ swept_entries n (has_key (k ∷ [])) (entries_of old)
+pub input_rows : (n : ℕ) (k : Key) (old new : List Entry) (ids : List ℕ) → IsDistinct nat_eq (keys_of old) → ids ≡ touched data_plan (has_key (k ∷ [])) old → new ≡ unsettled_by_ids n ids old
+    → new ≡ swept_entries n (has_key (k ∷ [])) old
 input_rows n k old new ids distinct which is =
-    ap entries_of (is ∙ ap (λ js. unsettled_by_ids n js old) which ∙ by_ids-swept data_plan (stale_pair n) (λ r. r) (has_key (k ∷ [])) old distinct) ∙ swept_pairs n (has_key (k ∷ [])) old
+    is ∙ ap (λ js. unsettled_by_ids n js old) which ∙ by_ids-swept data_plan (with_data (stale_data n)) (λ r. r) (has_key (k ∷ [])) old distinct
 
 -- the rows after an insert
-pub insert_rows : (n m place : ℕ) (x : Plan) (old more new : List (ℕ × RowData)) (ids : List ℕ) → more ≡ insert old place (m, fresh_data x (n + 1)) → IsDistinct nat_eq (keys_of more) → ids ≡ touched data_plan (has_key (writes x)) (drop place old)
-    → new ≡ unsettled_by_ids (n + 1) ids more → entries_of new ≡ inserted_rows n m (entries_of old) place x
+pub insert_rows : (n m place : ℕ) (x : Plan) (old more new : List Entry) (ids : List ℕ) → more ≡ insert old place (m, fresh_data x (n + 1)) → IsDistinct nat_eq (keys_of more) → ids ≡ touched data_plan (has_key (writes x)) (drop place old)
+    → new ≡ unsettled_by_ids (n + 1) ids more → new ≡ inserted_rows n m old place x
 insert_rows n m place x old more new ids put distinct which is =
-    let row : ℕ × RowData = (m, fresh_data x (n + 1)) in
-    let front : List (ℕ × RowData) = take place old ++ row ∷ [] in
-    let back : List (ℕ × RowData) = drop place old in
+    let row : Entry = (m, fresh_data x (n + 1)) in
+    let front : List Entry = take place old ++ row ∷ [] in
+    let back : List Entry = drop place old in
     let d : Key → Bool = has_key (writes x) in
     let whole : more ≡ front ++ back = put ∙ sym (append_assoc (take place old) (row ∷ []) back) in
-    ap entries_of (is ∙ ap (λ js. unsettled_by_ids (n + 1) js more) which ∙ ap (unsettled_by_ids (n + 1) (touched data_plan d back)) whole)
+    is
+    ∙ ap (λ js. unsettled_by_ids (n + 1) js more) which
+    ∙ ap (unsettled_by_ids (n + 1) (touched data_plan d back)) whole
     ∙ unsettled_behind (n + 1) d front back (subst (λ rows. IsDistinct nat_eq (keys_of rows)) whole distinct)
-    ∙ ap (λ es. es ++ swept_entries (n + 1) d (entries_of back)) (map-append entry_of (take place old) (row ∷ []))
-    ∙ append_assoc (entries_of (take place old)) (fresh n m x ∷ []) (swept_entries (n + 1) d (entries_of back))
-    ∙ ap (λ es. es ++ fresh n m x ∷ swept_entries (n + 1) d (entries_of back)) (sym (take-map entry_of place old))
-    ∙ ap (λ es. take place (entries_of old) ++ fresh n m x ∷ swept_entries (n + 1) d es) (sym (drop-map entry_of place old))
+    ∙ append_assoc (take place old) (row ∷ []) (swept_entries (n + 1) d back)
 
 -- the rows after a delete
-pub delete_rows : (n place : ℕ) (d : Key → Bool) (old fewer new : List (ℕ × RowData)) (ids : List ℕ) → fewer ≡ remove old place → IsDistinct nat_eq (keys_of fewer) → ids ≡ touched data_plan d (drop (place + 1) old)
-    → new ≡ unsettled_by_ids n ids fewer → entries_of new ≡ take place (entries_of old) ++ swept_entries n d (drop (place + 1) (entries_of old))
+pub delete_rows : (n place : ℕ) (d : Key → Bool) (old fewer new : List Entry) (ids : List ℕ) → fewer ≡ remove old place → IsDistinct nat_eq (keys_of fewer) → ids ≡ touched data_plan d (drop (place + 1) old)
+    → new ≡ unsettled_by_ids n ids fewer → new ≡ take place old ++ swept_entries n d (drop (place + 1) old)
 delete_rows n place d old fewer new ids cut distinct which is =
-    let front : List (ℕ × RowData) = take place old in
-    let back : List (ℕ × RowData) = drop (place + 1) old in
+    let front : List Entry = take place old in
+    let back : List Entry = drop (place + 1) old in
     let whole : fewer ≡ front ++ back = cut ∙ ap (λ k. take place old ++ drop k old) (sym (add-one place)) in
-    ap entries_of (is ∙ ap (λ js. unsettled_by_ids n js fewer) which ∙ ap (unsettled_by_ids n (touched data_plan d back)) whole)
+    is
+    ∙ ap (λ js. unsettled_by_ids n js fewer) which
+    ∙ ap (unsettled_by_ids n (touched data_plan d back)) whole
     ∙ unsettled_behind n d front back (subst (λ rows. IsDistinct nat_eq (keys_of rows)) whole distinct)
-    ∙ ap (λ es. es ++ swept_entries n d (entries_of back)) (sym (take-map entry_of place old))
-    ∙ ap (λ es. take place (entries_of old) ++ swept_entries n d es) (sym (drop-map entry_of (place + 1) old))
 
-row_put : (rows : List (ℕ × RowData)) (place i : ℕ) (x y : RowData) → slice_get rows place ≡ Some (i, x) → with_row rows place y ≡ take place rows ++ (i, y) ∷ drop (suc place) rows
+row_put : (rows : List Entry) (place i : ℕ) (x y : RowData) → slice_get rows place ≡ Some (i, x) → with_row rows place y ≡ take place rows ++ (i, y) ∷ drop (suc place) rows
 row_put [] place i x y at = absurd (cc)
-row_put (r ∷ rows) zero i x y at = let same : r ≡ (i, x) = cc in ap (λ (e : ℕ × RowData). (e.0, y) ∷ rows) same
+row_put (r ∷ rows) zero i x y at = let same : r ≡ (i, x) = cc in ap (λ (e : Entry). (e.0, y) ∷ rows) same
 row_put (r ∷ rows) (suc place) i x y at = ap (λ rs. r ∷ rs) (row_put rows place i x y at)
 
 -- the rows after a replace
-pub replace_rows : (n place i : ℕ) (d : Key → Bool) (x : Plan) (row : RowData) (old other new : List (ℕ × RowData)) (ids : List ℕ) → slice_get old place ≡ Some (i, row) → other ≡ with_row old place (fresh_data x (n + 1)) → IsDistinct nat_eq (keys_of other)
-    → ids ≡ touched data_plan d (drop (place + 1) old) → new ≡ unsettled_by_ids (n + 1) ids other → entries_of new ≡ take place (entries_of old) ++ fresh n i x ∷ swept_entries (n + 1) d (drop (place + 1) (entries_of old))
+pub replace_rows : (n place i : ℕ) (d : Key → Bool) (x : Plan) (row : RowData) (old other new : List Entry) (ids : List ℕ) → slice_get old place ≡ Some (i, row) → other ≡ with_row old place (fresh_data x (n + 1)) → IsDistinct nat_eq (keys_of other)
+    → ids ≡ touched data_plan d (drop (place + 1) old) → new ≡ unsettled_by_ids (n + 1) ids other → new ≡ take place old ++ (i, fresh_data x (n + 1)) ∷ swept_entries (n + 1) d (drop (place + 1) old)
 replace_rows n place i d x row old other new ids at put distinct which is =
-    let new_row : ℕ × RowData = (i, fresh_data x (n + 1)) in
-    let front : List (ℕ × RowData) = take place old ++ new_row ∷ [] in
-    let back : List (ℕ × RowData) = drop (place + 1) old in
+    let new_row : Entry = (i, fresh_data x (n + 1)) in
+    let front : List Entry = take place old ++ new_row ∷ [] in
+    let back : List Entry = drop (place + 1) old in
     let whole : other ≡ front ++ back =
     put ∙ row_put old place i row (fresh_data x (n + 1)) at ∙ ap (λ k. take place old ++ new_row ∷ drop k old) (sym (add-one place)) ∙ sym (append_assoc (take place old) (new_row ∷ []) back) in
-    ap entries_of (is ∙ ap (λ js. unsettled_by_ids (n + 1) js other) which ∙ ap (unsettled_by_ids (n + 1) (touched data_plan d back)) whole)
+    is
+    ∙ ap (λ js. unsettled_by_ids (n + 1) js other) which
+    ∙ ap (unsettled_by_ids (n + 1) (touched data_plan d back)) whole
     ∙ unsettled_behind (n + 1) d front back (subst (λ rows. IsDistinct nat_eq (keys_of rows)) whole distinct)
-    ∙ ap (λ es. es ++ swept_entries (n + 1) d (entries_of back)) (map-append entry_of (take place old) (new_row ∷ []))
-    ∙ append_assoc (entries_of (take place old)) (fresh n i x ∷ []) (swept_entries (n + 1) d (entries_of back))
-    ∙ ap (λ es. es ++ fresh n i x ∷ swept_entries (n + 1) d (entries_of back)) (sym (take-map entry_of place old))
-    ∙ ap (λ es. take place (entries_of old) ++ fresh n i x ∷ swept_entries (n + 1) d es) (sym (drop-map entry_of (place + 1) old))
+    ∙ append_assoc (take place old) (new_row ∷ []) (swept_entries (n + 1) d back)
 
 -- what holds of a value, of what follows from it
 pub if_ok_more : {A E : Type 0} (P Q : A → Type 0) (r : Result A E) → ((a : A) → P a → Q a) → IfOk r P → IfOk r Q

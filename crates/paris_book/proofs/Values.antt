@@ -9,10 +9,11 @@ use Rattle.paris_model.specs.Instructions.{Plan, reads, writes, one, given}
 use Rattle.paris_model.proofs.Worlds.{one_is}
 use Rattle.paris_events.specs.Rows.{is_settled}
 use Rattle.paris_machine.specs.Edits.{unsettled}
-use Rattle.paris_book.specs.Kept.{row_of, ripen, Right, Sound}
+use Rattle.paris_book.specs.Marks.{stale_data}
+use Rattle.paris_book.specs.Kept.{ripen, Right, Sound}
 use Rattle.paris_depends.specs.Sweeps.{touches, spread}
-use Rattle.paris_book.proofs.Swept.{swept, stale, swept_entries}
-use Rattle.paris_book.specs.Entries.{Entry}
+use Rattle.paris_book.proofs.Swept.{swept, swept_entries}
+use Rattle.paris_book.specs.Entries.{Entry, row_of, with_data}
 
 -- two functions of keys that agree on the keys that did not change
 abbrev pub Agree : {X : Type 0} → (Key → Bool) → (Key → X) → (Key → X) → Type 0
@@ -45,37 +46,37 @@ one_agree d w w' h p f t = one_is p w f ∙ by_has (has_key (writes p) f) (touch
 
 pub swept_rows : (n : ℕ) (d : Key → Bool) (es : List Entry) → map row_of (swept_entries n d es) ≡ swept n d (map row_of es)
 swept_rows n d [] = refl
-swept_rows n d (e ∷ es) = rw (swept_rows n (spread d e.plan) es) (by_touch (touches d e.plan))
+swept_rows n d (e ∷ es) = rw (swept_rows n (spread d e.1.plan) es) (by_touch (touches d e.1.plan))
   where
-    by_touch : (b : Bool) → (row_of (cond b (stale n e) e) ∷ swept n (spread d e.plan) (map row_of es)) ≡ (cond b (unsettled n (row_of e)) (row_of e) ∷ swept n (spread d e.plan) (map row_of es))
+    by_touch : (b : Bool) → (row_of (cond b (with_data (stale_data n) e) e) ∷ swept n (spread d e.1.plan) (map row_of es)) ≡ (cond b (unsettled n (row_of e)) (row_of e) ∷ swept n (spread d e.1.plan) (map row_of es))
     by_touch true = refl
     by_touch false = refl
 
-pub right_swept : (n : ℕ) (d : Key → Bool) (w w' : World) (h h' : Key → Bool) → Agree d w w' → Agree d h h' → (e : Entry) → Right w h e → Right w' h' (cond (touches d e.plan) (stale n e) e)
-right_swept n d w w' h h' a b e r = by_touch (touches d e.plan) refl
+pub right_swept : (n : ℕ) (d : Key → Bool) (w w' : World) (h h' : Key → Bool) → Agree d w w' → Agree d h h' → (e : Entry) → Right w h e → Right w' h' (cond (touches d e.1.plan) (with_data (stale_data n) e) e)
+right_swept n d w w' h h' a b e r = by_touch (touches d e.1.plan) refl
   where
-    by_touch : (t : Bool) → touches d e.plan ≡ t → Right w' h' (cond t (stale n e) e)
+    by_touch : (t : Bool) → touches d e.1.plan ≡ t → Right w' h' (cond t (with_data (stale_data n) e) e)
     by_touch true t = record { kept = λ s. absurd (let x : false ≡ true = s in cc); origins = λ s. absurd (let x : false ≡ true = s in cc) }
     by_touch false t = record {
-      kept = λ s. rw (← map_agree d w w' a (reads e.plan) t) (r.kept s);
-      origins = λ s. rw (← all_agree d h h' b (reads e.plan) t) (r.origins s);
+      kept = λ s. rw (← map_agree d w w' a (reads e.1.plan) t) (r.kept s);
+      origins = λ s. rw (← all_agree d h h' b (reads e.1.plan) t) (r.origins s);
     }
 
-pub ripen_agree : (n : ℕ) (d : Key → Bool) (h h' : Key → Bool) → Agree d h h' → (e : Entry) → Agree (spread d e.plan) (ripen h e) (ripen h' (cond (touches d e.plan) (stale n e) e))
+pub ripen_agree : (n : ℕ) (d : Key → Bool) (h h' : Key → Bool) → Agree d h h' → (e : Entry) → Agree (spread d e.1.plan) (ripen h e) (ripen h' (cond (touches d e.1.plan) (with_data (stale_data n) e) e))
 unfolding spread ripen
-ripen_agree n d h h' a e f t = by_both (has_key (writes e.plan) f) refl (touches d e.plan) t
+ripen_agree n d h h' a e f t = by_both (has_key (writes e.1.plan) f) refl (touches d e.1.plan) t
   where
-    by_both : (b : Bool) → has_key (writes e.plan) f ≡ b → (c : Bool) → cond b c (d f) ≡ false → cond b (is_settled e.status) (h f) ≡ ripen h' (cond c (stale n e) e) f
+    by_both : (b : Bool) → has_key (writes e.1.plan) f ≡ b → (c : Bool) → cond b c (d f) ≡ false → cond b (is_settled e.1.status) (h f) ≡ ripen h' (cond c (with_data (stale_data n) e) e) f
     by_both true x true s = absurd (let x : true ≡ false = s in cc)
     by_both true x false s = rw x refl
     by_both false x true s = rw x (a f s)
     by_both false x false s = rw x (a f s)
 
-pub plan_swept : (n : ℕ) (b : Bool) (e : Entry) → (cond b (stale n e) e).plan ≡ e.plan
+pub plan_swept : (n : ℕ) (b : Bool) (e : Entry) → (cond b (with_data (stale_data n) e) e).1.plan ≡ e.1.plan
 plan_swept n true e = refl
 plan_swept n false e = refl
 
 -- what a sweep does not mark stays right
 pub sound_swept : (n : ℕ) (d : Key → Bool) (w w' : World) (h h' : Key → Bool) → Agree d w w' → Agree d h h' → (es : List Entry) → Sound w h es → Sound w' h' (swept_entries n d es)
 sound_swept n d w w' h h' a b [] s = tt
-sound_swept n d w w' h h' a b (e ∷ es) s = (right_swept n d w w' h h' a b e s.0, rw (plan_swept n (touches d e.plan) e) (sound_swept n (spread d e.plan) (one e.plan w) (one e.plan w') (ripen h e) (ripen h' (cond (touches d e.plan) (stale n e) e)) (one_agree d w w' a e.plan) (ripen_agree n d h h' b e) es s.1))
+sound_swept n d w w' h h' a b (e ∷ es) s = (right_swept n d w w' h h' a b e s.0, rw (plan_swept n (touches d e.1.plan) e) (sound_swept n (spread d e.1.plan) (one e.1.plan w) (one e.1.plan w') (ripen h e) (ripen h' (cond (touches d e.1.plan) (with_data (stale_data n) e) e)) (one_agree d w w' a e.1.plan) (ripen_agree n d h h' b e) es s.1))

@@ -8,16 +8,15 @@ use Rattle.paris_model.specs.Instructions.{Plan, reads, refusal, value_at}
 use Rattle.paris_model.specs.Recipe.{origin}
 use Rattle.paris_field.specs.Fields.{FieldNumbers}
 use Rattle.paris_exec.specs.Tasks.{Task, field_of, numbers_of}
-use Rattle.paris_book.specs.Kept.{row_of, plan_of, present}
+use Rattle.paris_book.specs.Kept.{present}
 use Rattle.paris_events.specs.Rows.{is_waiting, is_settled}
 use Rattle.paris_machine.specs.State.{Inputs, Row}
 use Rattle.paris_machine.specs.Show.{shown_of}
-use Rattle.paris_machine.specs.Orders.{is_firm, recalled_status}
+use Rattle.paris_machine.specs.Orders.{is_firm}
 use Rattle.paris_machine.specs.Lists.{fault_by}
 use Rattle.paris_book.specs.Whole.{shape_in}
 use Rattle.paris_book.specs.declared.inputs.InputData.{InputData}
-use Rattle.paris_book.specs.Entries.{Entry}
-use Rattle.paris_events.specs.declared.rows.Status.TheVariants.{Out, Settled}
+use Rattle.paris_book.specs.Entries.{Entry, id_of, plan_of, row_of}
 use Rattle.paris_book.specs.declared.look.Look.{Look}
 use Rattle.paris_book.specs.declared.look.Look.TheVariants.{Settled as LookSettled, Pending as LookPending}
 use Rattle.paris_events.specs.declared.rows.RowFault.{RowFault}
@@ -69,19 +68,7 @@ abbrev pub inputs_among : Inputs → List Entry → ℕ → Plan → List FieldN
 inputs_among inputs es place p = map (λ k. field_of p k (present inputs es place k)) (reads p)
 
 abbrev pub order_among : Inputs → List Entry → ℕ → Entry → Task
-order_among inputs es place e = record { id = e.id; edition = e.edition; plan = e.plan; inputs = inputs_among inputs es place e.plan }
-
--- an entry of which an order is out
-abbrev pub out_entry : Entry → Entry
-out_entry e = record e { status = Out }
-
--- an entry with the result that it keeps
-abbrev pub kept_entry : Entry → Task → Entry
-kept_entry e t = record e { status = Settled; done = Some t }
-
--- an entry of which no order is out any more
-abbrev pub recalled_entry : Entry → Entry
-recalled_entry e = record e { status = recalled_status e.status }
+order_among inputs es place e = record { id = id_of e; edition = e.1.edition; plan = e.1.plan; inputs = inputs_among inputs es place e.1.plan }
 
 -- why a result was refused, if it was
 abbrev pub cause_told : Option Task → Option Refusal
@@ -90,16 +77,16 @@ cause_told (Some t) = refusal t.plan (value_at (reads t.plan) (numbers_of t.inpu
 
 -- why the result that a settled entry keeps was refused, if it was
 abbrev pub cause_kept : Entry → Option Refusal
-cause_kept e = if is_settled e.status then cause_told e.done else None
+cause_kept e = if is_settled e.1.status then cause_told e.1.done else None
 
 -- the settled entries whose results were refused
 abbrev pub faults_kept : List Entry → List RowFault
 faults_kept [] = []
-faults_kept (e ∷ es) = fault_by e.id (cause_kept e) ++ faults_kept es
+faults_kept (e ∷ es) = fault_by (id_of e) (cause_kept e) ++ faults_kept es
 
 -- the entries as they are listed
 abbrev pub listed_entry : Entry → RowLook
-listed_entry e = record { id = e.id; edition = e.edition; status = e.status; instr = e.plan.instr; cause = cause_kept e }
+listed_entry e = record { id = id_of e; edition = e.1.edition; status = e.1.status; instr = e.1.plan.instr; cause = cause_kept e }
 
 abbrev pub looks_kept : List Entry → List RowLook
 looks_kept es = map listed_entry es

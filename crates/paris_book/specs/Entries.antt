@@ -1,28 +1,24 @@
--- The rows as the book keeps them, each with its id.
-use Rattle.std.specs.Prelude.{ℕ, List, map, Option}
+-- The rows as the book keeps them: each with its id, as a program's rows are.
+use Rattle.std.specs.Prelude.{ℕ}
 use Rattle.paris_names.specs.declared.ids.RowId.{RowId}
-use Rattle.paris_names.specs.declared.ids.Edition.{Edition}
 use Rattle.paris_model.specs.Instructions.{Plan}
-use Rattle.paris_program.specs.Program.{Program}
-use Rattle.paris_exec.specs.Tasks.{Task}
-use Rattle.paris_events.specs.declared.rows.Status.{Status}
+use Rattle.paris_machine.specs.State.{Row}
 use Rattle.paris_book.specs.declared.rows.RowData.{RowData}
 
--- a row's id, and what the book keeps of it
-pub record Entry : Type 0 where
-  pub id : RowId
-  pub plan : Plan
-  pub set_by : ℕ
-  pub edition : Edition
-  pub status : Status
-  pub done : Option Task
+-- a row's id, and what the book keeps of the row
+abbrev pub Entry : Type 0
+Entry = ℕ × RowData
 
-abbrev pub entry_of : ℕ × RowData → Entry
-entry_of r = record { id = record { 0 = r.0 }; plan = r.1.plan; set_by = r.1.set_by; edition = r.1.edition; status = r.1.status; done = r.1.done }
+abbrev pub id_of : Entry → RowId
+id_of e = record { 0 = e.0 }
 
--- the rows of a program in order
-abbrev pub entries_of : List (ℕ × RowData) → List Entry
-entries_of rows = map entry_of rows
+abbrev pub plan_of : Entry → Plan
+plan_of e = e.1.plan
 
-abbrev pub entries : Program RowData → List Entry
-entries p = entries_of p.rows
+-- what the machine sees of a row
+abbrev pub row_of : Entry → Row
+row_of e = record { id = id_of e; plan = e.1.plan; set_by = e.1.set_by; edition = e.1.edition; status = e.1.status }
+
+-- a row with its data changed, under its id
+abbrev pub with_data : (RowData → RowData) → Entry → Entry
+with_data change e = (e.0, change e.1)

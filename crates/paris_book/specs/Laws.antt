@@ -27,7 +27,7 @@ pub record InputsFit (inputs : Inputs) : Type 0 where
 
 -- the plan of an entry fits its set's axes and its operands' widths
 abbrev pub ActionFits : Entry → Type 0
-ActionFits e = IsFit e.plan.axes e.plan.action
+ActionFits e = IsFit e.1.plan.axes e.1.plan.action
 
 abbrev pub ActionsFit : List Entry → Type 0
 ActionsFit es = All ActionFits es

@@ -12,7 +12,7 @@ use Rattle.paris_exec.specs.Tasks.{Task, task_value}
 use Rattle.paris_events.specs.Rows.{is_settled}
 use Rattle.paris_machine.specs.State.{Inputs}
 use Rattle.paris_book.specs.Among.{firm_among, inputs_among}
-use Rattle.paris_book.specs.Entries.{Entry}
+use Rattle.paris_book.specs.Entries.{Entry, id_of}
 use Rattle.paris_book.specs.declared.look.Look.{Look}
 use Rattle.paris_book.specs.declared.look.Look.TheVariants.{Settled, Pending}
 use Rattle.paris_events.specs.declared.verdicts.Verdict.{Verdict}
@@ -20,19 +20,19 @@ use Rattle.paris_events.specs.declared.verdicts.Verdict.TheVariants.{Stale, Repe
 
 -- a settled row keeps a result that holds the key
 abbrev pub KeptFor : Entry → Key → Type 0
-KeptFor e k = is_settled e.status ≡ true → (d : Task) × (e.done ≡ Some d) × (has_key (writes d.plan) k ≡ true)
+KeptFor e k = is_settled e.1.status ≡ true → (d : Task) × (e.1.done ≡ Some d) × (has_key (writes d.plan) k ≡ true)
 
 -- a look at a row: its result's value where it is settled, else its id
 abbrev pub LooksAt : Look → Entry → Key → Type 0
-LooksAt (Settled v) e k = (is_settled e.status ≡ true) × ((d : Task) × (e.done ≡ Some d) × (v.now ≡ task_value d k) × (length v.now.numbers ≡ processor_count d.plan.axes))
-LooksAt (Pending id) e k = (is_settled e.status ≡ false) × (id ≡ e.id)
+LooksAt (Settled v) e k = (is_settled e.1.status ≡ true) × ((d : Task) × (e.1.done ≡ Some d) × (v.now ≡ task_value d k) × (length v.now.numbers ≡ processor_count d.plan.axes))
+LooksAt (Pending id) e k = (is_settled e.1.status ≡ false) × (id ≡ id_of e)
 
 -- whether a result is of the entry's plan and of the present values
 abbrev pub present_among : Inputs → List Entry → ℕ → Entry → Task → Bool
-present_among inputs es place e t = plan_eq e.plan t.plan && (list_all (firm_among es place) (reads e.plan) && pointwise field_eq (inputs_among inputs es place e.plan) t.inputs)
+present_among inputs es place e t = plan_eq e.1.plan t.plan && (list_all (firm_among es place) (reads e.1.plan) && pointwise field_eq (inputs_among inputs es place e.1.plan) t.inputs)
 
 abbrev pub verdict_among : Inputs → List Entry → ℕ → Entry → Task → Verdict
 verdict_among inputs es place e t =
-    if e.edition.0 == t.edition.0
-    then (if is_settled e.status then Repeated else (if present_among inputs es place e t then Kept else Foreign))
-    else Stale e.edition
+    if e.1.edition.0 == t.edition.0
+    then (if is_settled e.1.status then Repeated else (if present_among inputs es place e t then Kept else Foreign))
+    else Stale e.1.edition

@@ -33,7 +33,7 @@ InputsBelow n inputs = (k : Key) → number_in (input_of inputs k) ≤ n
 
 abbrev pub RowsBelow : ℕ → ℕ → List Entry → Type 0
 RowsBelow n next [] = Unit {0}
-RowsBelow n next (e ∷ es) = (e.set_by ≤ n) × (e.id.0 < next) × RowsBelow n next es
+RowsBelow n next (e ∷ es) = (e.1.set_by ≤ n) × (e.0 < next) × RowsBelow n next es
 
 -- each id stands once
 abbrev pub IdsApart : List ℕ → Type 0
@@ -41,7 +41,7 @@ IdsApart [] = Unit {0}
 IdsApart (i ∷ is) = (list_any (λ j. j == i) is ≡ false) × IdsApart is
 
 abbrev pub ids_of : List Entry → List ℕ
-ids_of es = map (λ (e : Entry). e.id.0) es
+ids_of es = map (λ (e : Entry). e.0) es
 
 -- the keys of a plan have input data, of the plan's widths and its number of processors
 abbrev pub Fitted : Inputs → Plan → Type 0
@@ -49,7 +49,7 @@ Fitted inputs p = (k : Key) → (has_key (reads p) k || has_key (writes p) k) �
 
 abbrev pub AllFitted : Inputs → List Entry → Type 0
 AllFitted inputs [] = Unit {0}
-AllFitted inputs (e ∷ es) = Fitted inputs e.plan × AllFitted inputs es
+AllFitted inputs (e ∷ es) = Fitted inputs e.1.plan × AllFitted inputs es
 
 pub record IsWhole (board : Board) (edits next : ℕ) (inputs : Inputs) (rows : List Entry) : Type 0 where
   pub next_few : next ≤ edits + 1

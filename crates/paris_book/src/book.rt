@@ -12,10 +12,9 @@ ghost use Rattle.paris_machine.specs.Results.{verdict_of, after_bring};
 ghost use Rattle.paris_machine.specs.Edits.{edit_fault, edit_answer, accepted};
 ghost use Rattle.paris_machine.specs.Settling.{unsettled_rows};
 ghost use Rattle.paris_machine.specs.declared.events.Event.TheVariants as EventCase;
-ghost use Rattle.paris_book.specs.Kept.{row_of};
 ghost use Rattle.paris_machine.specs.Events.{reply_to, after, replies_to, after_all, has_value, grows};
 ghost use Rattle.paris_book.specs.Among.{look_shown};
-ghost use Rattle.paris_book.specs.Entries.{entries};
+ghost use Rattle.paris_book.specs.Entries.{row_of};
 ghost use Rattle.paris_book.specs.Marks.{out_data, kept_data};
 ghost use Rattle.paris_names.specs.declared.limits.TheConstants.{MAX_EDITS};
 
@@ -49,14 +48,13 @@ impl Model for Book {
 
     ghost Value = { State };
 
-    ghost use Rattle.paris_book.specs.Kept.{row_of};
+    ghost use Rattle.paris_book.specs.Entries.{row_of};
     ghost use Rattle.paris_book.specs.Among.{inputs_of};
-    ghost use Rattle.paris_book.specs.Entries.{entries};
     ghost use Rattle.paris_book.specs.Whole.{IsWhole};
 
-    ghost view = { λ a. record { board = a.board; edits = a.edits; inputs = inputs_of a.inputs; next = a.rows.next_id; rows = map row_of (entries a.rows) } };
+    ghost view = { λ a. record { board = a.board; edits = a.edits; inputs = inputs_of a.inputs; next = a.rows.next_id; rows = map row_of a.rows.rows } };
 
-    ghost invariant = { λ a. IsWhole a.board a.edits a.rows.next_id (inputs_of a.inputs) (entries a.rows) };
+    ghost invariant = { λ a. IsWhole a.board a.edits a.rows.next_id (inputs_of a.inputs) a.rows.rows };
 }
 
 impl Book {
@@ -281,7 +279,7 @@ fn hand_out(row: &mut RowData)
 
 /// Settles a row by a result.
 fn keep(row: &mut RowData, done: Done)
-    ensures { row.new ≡ kept_data row.old done }
+    ensures { row.new ≡ kept_data done row.old }
 {
     row.status = Status::Settled;
     row.done = Some(done);
@@ -289,7 +287,7 @@ fn keep(row: &mut RowData, done: Done)
 
 /// How many of these rows are unsettled.
 pub(crate) fn count_unsettled(rows: &Program<RowData>) -> usize
-    ensures { result ≡ unsettled_rows (map row_of (entries rows.now)) }
+    ensures { result ≡ unsettled_rows (map row_of rows.now.rows) }
 {
     let mut count = 0;
     for place in 0..rows.len() {

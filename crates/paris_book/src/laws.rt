@@ -5,7 +5,6 @@ ghost use Rattle.std.specs.Prelude.{◌≡◌, ℕ, ◌<◌, All, IsSome};
 ghost use Rattle.paris_machine.specs.Orders.{after_release, take_reply};
 ghost use Rattle.paris_machine.specs.Settling.{all_settled, ran_orders, unsettled_rows};
 ghost use Rattle.paris_book.specs.Among.{inputs_of};
-ghost use Rattle.paris_book.specs.Entries.{entry_of, entries};
 ghost use Rattle.paris_book.specs.Laws.{InputFits, FlagsFit, InputsFit, ActionFits, ActionsFit, NowIsDirect};
 
 use crate::book::Book;
@@ -61,14 +60,14 @@ fn inputs_fit(inputs: &InputData)
 
 /// The plan of a row fits its set's axes and its operands' widths.
 fn action_fits(id: RowId, row: &RowData)
-    ensures { ActionFits (entry_of (id.0, row.now)) }
+    ensures { ActionFits (id.0, row.now) }
 {
     row.plan.action();
 }
 
 /// So do those of all rows.
 fn actions_fit(rows: &Program<RowData>)
-    ensures { ActionsFit (entries rows.now) }
+    ensures { ActionsFit rows.now.rows }
 {
     for place in 0..rows.len() {
         let (id, row) = rows.at(place);

@@ -3,7 +3,6 @@
 ghost use Rattle.std.specs.Prelude.{◌≡◌, IfOk};
 ghost use Rattle.paris_machine.specs.Lists.{list_of};
 ghost use Rattle.paris_book.specs.Among.{listed_entry, looks_kept};
-ghost use Rattle.paris_book.specs.Entries.{entry_of, entries};
 
 use crate::book::Book;
 use crate::refusals::cause_of;
@@ -15,7 +14,7 @@ use std::alloc::{AllocError, Global};
 
 /// A row as it is listed.
 fn listed(id: RowId, row: &RowData) -> RowLook
-    ensures { result ≡ listed_entry (entry_of (id.0, row.now)) }
+    ensures { result ≡ listed_entry (id.0, row.now) }
 {
     RowLook {
         id,
@@ -28,7 +27,7 @@ fn listed(id: RowId, row: &RowData) -> RowLook
 
 /// The rows as they are listed, in order.
 fn listed_among(alloc: Global, rows: &Program<RowData>) -> Result<Vec<RowLook>, AllocError>
-    ensures { IfOk result (λ looks. looks.items ≡ looks_kept (entries rows.now)) }
+    ensures { IfOk result (λ looks. looks.items ≡ looks_kept rows.now.rows) }
 {
     let mut looks = Vec::new(alloc);
     for place in 0..rows.len() {

@@ -9,11 +9,11 @@ ghost use Rattle.paris_field.specs.Fields.{field_eq};
 ghost use Rattle.paris_exec.specs.Tasks.{fits};
 ghost use Rattle.paris_machine.specs.State.{input_of, start_world};
 ghost use Rattle.paris_machine.specs.Show.{shown_of};
-ghost use Rattle.paris_book.specs.Kept.{Sound, row_of, present};
+ghost use Rattle.paris_book.specs.Kept.{Sound, present};
 ghost use Rattle.paris_book.specs.Whole.{AllFitted, Fitted, shape_in};
 ghost use Rattle.paris_book.specs.Among.{inputs_of, look_among, look_shown, LookFits, firm_among, ready_among, next_among, inputs_among, order_among};
 ghost use Rattle.paris_book.specs.Verdicts.{KeptFor, LooksAt, verdict_among};
-ghost use Rattle.paris_book.specs.Entries.{Entry, entry_of, entries};
+ghost use Rattle.paris_book.specs.Entries.{Entry, row_of};
 
 use crate::inputs::{InputData, input_at};
 use crate::look::Look;
@@ -36,9 +36,9 @@ pub(crate) fn look_at<'a>(
 ) -> Look<'a>
     requires known { IsSome (input_of (inputs_of inputs.now) key.now) }
     requires within { place ≤ length rows.now.rows }
-    requires sound { Sound (start_world (inputs_of inputs.now)) (λ _. true) (entries rows.now) }
-    requires fitted { AllFitted (inputs_of inputs.now) (entries rows.now) }
-    ensures shown { look_shown result ≡ look_among (inputs_of inputs.entry.now) (entries rows.entry.now) place key.now }
+    requires sound { Sound (start_world (inputs_of inputs.now)) (λ _. true) rows.now.rows }
+    requires fitted { AllFitted (inputs_of inputs.now) rows.now.rows }
+    ensures shown { look_shown result ≡ look_among (inputs_of inputs.entry.now) rows.entry.now.rows place key.now }
     ensures fits { LookFits result (shape_in (inputs_of inputs.entry.now) key.now) }
 {
     match origin(rows, place, *key) {
@@ -55,8 +55,8 @@ pub(crate) fn look_at<'a>(
 
 /// What a row, as the origin of a key, shows of it.
 fn look_at_row<'a>(id: RowId, row: &'a RowData, key: &Key) -> Look<'a>
-    requires kept { KeptFor (entry_of (id.0, row.now)) key.now }
-    ensures { LooksAt result (entry_of (id.0, row.entry.now)) key.now }
+    requires kept { KeptFor (id.0, row.now) key.now }
+    ensures { LooksAt result (id.0, row.entry.now) key.now }
 {
     if !row.status.is_settled() {
         return Look::Pending(id);
@@ -70,7 +70,7 @@ fn look_at_row<'a>(id: RowId, row: &'a RowData, key: &Key) -> Look<'a>
 /// Whether the origin of a key at a place is the start or a settled row.
 fn is_firm_at(rows: &Program<RowData>, place: usize, key: &Key) -> bool
     requires { place ≤ length rows.now.rows }
-    ensures { result ≡ firm_among (entries rows.now) place key.now }
+    ensures { result ≡ firm_among rows.now.rows place key.now }
 {
     match origin(rows, place, *key) {
         None => true,
@@ -84,7 +84,7 @@ fn is_firm_at(rows: &Program<RowData>, place: usize, key: &Key) -> bool
 /// Whether that holds of all keys.
 fn are_firm_at(rows: &Program<RowData>, place: usize, keys: &[Key]) -> bool
     requires { place ≤ length rows.now.rows }
-    ensures { result ≡ list_all (firm_among (entries rows.now) place) keys.now }
+    ensures { result ≡ list_all (firm_among rows.now.rows place) keys.now }
 {
     for key in keys {
         if !is_firm_at(rows, place, key) {
@@ -97,7 +97,7 @@ fn are_firm_at(rows: &Program<RowData>, place: usize, keys: &[Key]) -> bool
 /// Whether the row at a place waits, and the keys that it reads have the start or settled rows as origins.
 fn is_ready_at(rows: &Program<RowData>, place: usize) -> bool
     requires { place < length rows.now.rows }
-    ensures { (e : Entry) → slice_get (entries rows.now) place ≡ Some e → result ≡ ready_among (entries rows.now) (place, row_of e) }
+    ensures { (e : Entry) → slice_get rows.now.rows place ≡ Some e → result ≡ ready_among rows.now.rows (place, row_of e) }
 {
     let (_, row) = rows.at(place);
     row.status.is_waiting() && are_firm_at(rows, place, row.plan.reads())
@@ -105,7 +105,7 @@ fn is_ready_at(rows: &Program<RowData>, place: usize) -> bool
 
 /// The place of the first ready row.
 pub(crate) fn first_ready(rows: &Program<RowData>) -> Option<usize>
-    ensures { result ≡ option_map (λ e. e.0) (next_among (entries rows.now)) }
+    ensures { result ≡ option_map (λ e. e.0) (next_among rows.now.rows) }
 {
     for i in 0..rows.len() {
         if is_ready_at(rows, i) {
@@ -124,11 +124,11 @@ fn present_inputs(
     plan: &Plan,
 ) -> Result<Vec<FieldValue>, AllocError>
     requires within { place ≤ length rows.now.rows }
-    requires sound { Sound (start_world (inputs_of inputs.now)) (λ _. true) (entries rows.now) }
-    requires fitted { AllFitted (inputs_of inputs.now) (entries rows.now) }
+    requires sound { Sound (start_world (inputs_of inputs.now)) (λ _. true) rows.now.rows }
+    requires fitted { AllFitted (inputs_of inputs.now) rows.now.rows }
     requires plan_fitted { Fitted (inputs_of inputs.now) plan.now }
-    requires firm { list_all (firm_among (entries rows.now) place) (reads plan.now) ≡ true }
-    ensures values { IfOk result (λ values. values.items ≡ inputs_among (inputs_of inputs.now) (entries rows.now) place plan.now) }
+    requires firm { list_all (firm_among rows.now.rows place) (reads plan.now) ≡ true }
+    ensures values { IfOk result (λ values. values.items ≡ inputs_among (inputs_of inputs.now) rows.now.rows place plan.now) }
     ensures fit { IfOk result (λ values. fits plan.now values.items ≡ true) }
 {
     let mut values = Vec::new(alloc);
@@ -149,10 +149,10 @@ pub(crate) fn order_at(
     place: usize,
 ) -> Result<Order, AllocError>
     requires within { place < length rows.now.rows }
-    requires sound { Sound (start_world (inputs_of inputs.now)) (λ _. true) (entries rows.now) }
-    requires fitted { AllFitted (inputs_of inputs.now) (entries rows.now) }
-    requires firm { (e : Entry) → slice_get (entries rows.now) place ≡ Some e → list_all (firm_among (entries rows.now) place) (reads e.plan) ≡ true }
-    ensures { IfOk result (λ order. (e : Entry) → slice_get (entries rows.now) place ≡ Some e → order ≡ order_among (inputs_of inputs.now) (entries rows.now) place e) }
+    requires sound { Sound (start_world (inputs_of inputs.now)) (λ _. true) rows.now.rows }
+    requires fitted { AllFitted (inputs_of inputs.now) rows.now.rows }
+    requires firm { (e : Entry) → slice_get rows.now.rows place ≡ Some e → list_all (firm_among rows.now.rows place) (reads e.1.plan) ≡ true }
+    ensures { IfOk result (λ order. (e : Entry) → slice_get rows.now.rows place ≡ Some e → order ≡ order_among (inputs_of inputs.now) rows.now.rows place e) }
 {
     let (id, row) = rows.at(place);
     let plan = row.plan.copy()?;
@@ -172,11 +172,11 @@ fn agree(
     values: &[FieldValue],
 ) -> bool
     requires within { place ≤ length rows.now.rows }
-    requires sound { Sound (start_world (inputs_of inputs.now)) (λ _. true) (entries rows.now) }
-    requires fitted { AllFitted (inputs_of inputs.now) (entries rows.now) }
+    requires sound { Sound (start_world (inputs_of inputs.now)) (λ _. true) rows.now.rows }
+    requires fitted { AllFitted (inputs_of inputs.now) rows.now.rows }
     requires plan_fitted { Fitted (inputs_of inputs.now) plan.now }
-    requires firm { list_all (firm_among (entries rows.now) place) (reads plan.now) ≡ true }
-    ensures { result ≡ pointwise field_eq (inputs_among (inputs_of inputs.now) (entries rows.now) place plan.now) values.now }
+    requires firm { list_all (firm_among rows.now.rows place) (reads plan.now) ≡ true }
+    ensures { result ≡ pointwise field_eq (inputs_among (inputs_of inputs.now) rows.now.rows place plan.now) values.now }
 {
     let keys = plan.reads();
     if keys.len() != values.len() {
@@ -203,10 +203,10 @@ pub(crate) fn judge(
     done: &Done,
 ) -> Verdict
     requires within { place < length rows.now.rows }
-    requires sound { Sound (start_world (inputs_of inputs.now)) (λ _. true) (entries rows.now) }
-    requires fitted { AllFitted (inputs_of inputs.now) (entries rows.now) }
-    ensures verdict { (e : Entry) → slice_get (entries rows.now) place ≡ Some e → result ≡ verdict_among (inputs_of inputs.now) (entries rows.now) place e done.now }
-    ensures plan { (e : Entry) → slice_get (entries rows.now) place ≡ Some e → result ≡ Verdict.Kept → e.plan ≡ done.now.plan }
+    requires sound { Sound (start_world (inputs_of inputs.now)) (λ _. true) rows.now.rows }
+    requires fitted { AllFitted (inputs_of inputs.now) rows.now.rows }
+    ensures verdict { (e : Entry) → slice_get rows.now.rows place ≡ Some e → result ≡ verdict_among (inputs_of inputs.now) rows.now.rows place e done.now }
+    ensures plan { (e : Entry) → slice_get rows.now.rows place ≡ Some e → result ≡ Verdict.Kept → e.1.plan ≡ done.now.plan }
 {
     let (_, row) = rows.at(place);
     let order = done.order();

@@ -5,7 +5,7 @@ ghost use Rattle.paris_names.specs.declared.keys.Key.{Key as AnyKey};
 ghost use Rattle.paris_names.specs.Keys.{has_key};
 ghost use Rattle.paris_program.specs.Program.{IsProgram, place_of, row_of};
 ghost use Rattle.paris_depends.specs.Sweeps.{touched};
-ghost use Rattle.paris_book.specs.Marks.{stale_row, unsettled_by_ids, ids_in, data_plan, writes_either};
+ghost use Rattle.paris_book.specs.Marks.{stale_data, unsettled_by_ids, ids_in, data_plan, writes_either};
 ghost use Rattle.paris_book.specs.declared.rows.RowData.{RowData as RowShape};
 
 use crate::rows::RowData;
@@ -18,7 +18,7 @@ use std::alloc::{AllocError, Global};
 
 /// Makes a row unsettled by the edit of this number.
 fn unsettle(row: &mut RowData, number: u64)
-    ensures { row.new ≡ stale_row number row.old }
+    ensures { row.new ≡ stale_data number row.old }
 {
     row.edition = Edition(number);
     row.status = Status::Waiting;

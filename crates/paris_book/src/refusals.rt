@@ -3,7 +3,6 @@
 ghost use Rattle.std.specs.Prelude.{◌≡◌, IfOk};
 ghost use Rattle.paris_machine.specs.Lists.{faults_of};
 ghost use Rattle.paris_book.specs.Among.{cause_kept, faults_kept};
-ghost use Rattle.paris_book.specs.Entries.{entry_of, entries};
 
 use crate::book::Book;
 use crate::rows::RowData;
@@ -16,7 +15,7 @@ use std::alloc::{AllocError, Global};
 
 /// Why the result that a settled row keeps was refused, if it was.
 pub(crate) fn cause_of(id: RowId, row: &RowData) -> Option<Refusal>
-    ensures { result ≡ cause_kept (entry_of (id.0, row.now)) }
+    ensures { result ≡ cause_kept (id.0, row.now) }
 {
     if !row.status.is_settled() {
         return None;
@@ -32,7 +31,7 @@ pub(crate) fn cause_of(id: RowId, row: &RowData) -> Option<Refusal>
 
 /// The settled rows whose results were refused, in order, with the cause.
 fn faults_among(alloc: Global, rows: &Program<RowData>) -> Result<Vec<RowFault>, AllocError>
-    ensures { IfOk result (λ faults. faults.items ≡ faults_kept (entries rows.now)) }
+    ensures { IfOk result (λ faults. faults.items ≡ faults_kept rows.now.rows) }
 {
     let mut faults = Vec::new(alloc);
     for place in 0..rows.len() {

@@ -4,7 +4,8 @@ ghost use Rattle.std.specs.Prelude.{◌≡◌, ◌<◌, ◌+◌, ◌⊎◌, map,
 ghost use Rattle.paris_machine.specs.Orders.{after_release, after_take};
 ghost use Rattle.paris_machine.specs.Results.{after_bring};
 ghost use Rattle.paris_machine.specs.Settling.{after_run, ran_orders, all_settled, unsettled_rows};
-ghost use Rattle.paris_book.specs.Marks.{recalled_data, recalled_pair};
+ghost use Rattle.paris_book.specs.Marks.{recalled_data};
+ghost use Rattle.paris_book.specs.Entries.{with_data};
 
 use crate::book::{Book, count_unsettled};
 use crate::rows::RowData;
@@ -34,7 +35,7 @@ fn recall(row: &mut RowData)
 
 /// Makes every row wait of which an order is out.
 fn recall_all(rows: &mut Program<RowData>)
-    ensures rows { rows.new.rows ≡ map recalled_pair rows.old.rows }
+    ensures rows { rows.new.rows ≡ map (with_data recalled_data) rows.old.rows }
     ensures next_id { rows.new.next_id ≡ rows.old.next_id }
 {
     for place in 0..rows.len() {

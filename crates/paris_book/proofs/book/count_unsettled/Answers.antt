@@ -2,32 +2,29 @@ use Rattle.std.proofs.Common.{◌≡◌, ◌+◌, cond, sym, ap, ◌∙◌, arit
 use Rattle.std.proofs.Math.Seq.{take-length}
 use Rattle.std.proofs.lemmas.List.{length-map, length-take-le}
 use Rattle.std.proofs.lemmas.Option.{slice_get_within, get_or_from_slice_get}
-use Rattle.paris_book.specs.Entries.{entry_of, entries}
-use Rattle.paris_book.specs.Kept.{row_of}
 use Rattle.paris_events.specs.Rows.{is_settled}
 use Rattle.paris_machine.specs.Settling.{unsettled_rows}
+use Rattle.paris_book.specs.Entries.{Entry, row_of}
 use Rattle.paris_book.proofs.Calls.{unsettled_few, unsettled_more}
-use Rattle.paris_book.proofs.Entering.{entry_place}
 use Rattle.paris_book.proofs.book.count_unsettled.Goals as goal
 use Rattle.paris_book.proofs.book.count_unsettled.Goals.{then-not-is_settled, else-not-is_settled}
 
 pub overflow_add-count : goal.overflow_add-count
 overflow_add-count c =
-    let rows = entries c.args.rows.now in
+    let rows = c.args.rows.now.rows in
     let few = unsettled_few (map row_of (take c.loop-place.place rows)) in
     let long = length-map (take c.loop-place.place rows) row_of in
-    let all : length rows ≡ length c.args.rows.now.rows = length-map c.args.rows.now.rows entry_of in
-    let within = length-take-le c.loop-place.place rows (omega (arith, all)) in
-    omega (arith, few, long, within, all, c.loop-place.invariant)
+    let within = length-take-le c.loop-place.place rows (omega arith) in
+    omega (arith, few, long, within, c.loop-place.invariant)
 
 pub loop-place-preserved : goal.loop-place-preserved
 loop-place-preserved c =
-    let rows = entries c.args.rows.now in
+    let rows = c.args.rows.now.rows in
     let i = c.loop-place.place in
-    let e = entry_of (c.at.result.0.0, c.at.result.1.now) in
-    let there = entry_place c.args.rows.now.rows i (c.at.result.0.0, c.at.result.1.now) c.at.ensures.value in
+    let e : Entry = (c.at.result.0.0, c.at.result.1.now) in
+    let there = c.at.ensures.value in
     let more = unsettled_more rows i e (slice_get_within rows i e there) (sym (get_or_from_slice_get rows i e e there)) in
-    let same : is_settled e.status ≡ c.is_settled.result = sym c.is_settled.ensures in
+    let same : is_settled e.1.status ≡ c.is_settled.result = sym c.is_settled.ensures in
     let before = unsettled_rows (map row_of (take i rows)) in
     elim c.if-not-is_settled.branch [
       | then-not-is_settled w ↦
@@ -42,7 +39,6 @@ loop-place-preserved c =
 
 pub returns : goal.returns
 returns c =
-    let rows = entries c.args.rows.now in
-    let all : length rows ≡ length c.args.rows.now.rows = length-map c.args.rows.now.rows entry_of in
-    let last : c.loop-place.place ≡ length rows = omega (arith, all) in
+    let rows = c.args.rows.now.rows in
+    let last : c.loop-place.place ≡ length rows = omega arith in
     c.loop-place.invariant ∙ ap (λ xs. unsettled_rows (map row_of xs)) (ap (λ k. take k rows) last ∙ take-length rows)

@@ -3,11 +3,10 @@ use Rattle.std.proofs.Common.{◌≡◌, drop, map}
 use Rattle.std.specs.Cmp.Lexicographic.{pointwise}
 use Rattle.paris_field.specs.Fields.{field_eq}
 use Rattle.paris_exec.specs.Tasks.{field_of}
-use Rattle.paris_book.specs.Entries.{entries}
 use Rattle.paris_book.specs.Kept.{present}
 use Rattle.paris_book.specs.Among.{inputs_of, inputs_among}
 use Rattle.paris_book.proofs.looks.agree.Given as goal
 
 abbrev pub invariant-loop-i : goal.invariant-loop-i
-invariant-loop-i l = pointwise field_eq (inputs_among (inputs_of l.inputs) (entries l.rows) l.place l.plan) l.values
-    ≡ pointwise field_eq (map (λ k. field_of l.plan k (present (inputs_of l.inputs) (entries l.rows) l.place k)) (drop l.i l.keys)) (drop l.i l.values)
+invariant-loop-i l = pointwise field_eq (inputs_among (inputs_of l.inputs) l.rows.rows l.place l.plan) l.values
+    ≡ pointwise field_eq (map (λ k. field_of l.plan k (present (inputs_of l.inputs) l.rows.rows l.place k)) (drop l.i l.keys)) (drop l.i l.values)

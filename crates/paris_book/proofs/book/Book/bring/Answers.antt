@@ -1,11 +1,12 @@
 use Rattle.std.proofs.Common.{◌≡◌, List, sym, ap, ◌∙◌, subst}
 use Rattle.paris_names.specs.declared.ids.RowId.{RowId}
 use Rattle.paris_exec.specs.Tasks.{Task}
-use Rattle.paris_book.specs.Entries.{Entry, entries}
+use Rattle.paris_book.specs.Entries.{Entry}
 use Rattle.paris_book.specs.Whole.{IsWhole}
 use Rattle.paris_events.specs.declared.verdicts.Verdict.TheVariants.{Kept}
 use Rattle.paris_book.specs.Among.{inputs_of}
-use Rattle.paris_book.proofs.Entering.{entries_kept}
+use Rattle.paris_book.specs.Marks.{kept_data}
+use Rattle.paris_book.proofs.Entering.{data_changed}
 use Rattle.paris_book.proofs.Inserts.{state_of}
 use Rattle.paris_book.proofs.Settling.{bring_whole}
 use Rattle.paris_book.proofs.Brings.{found_entry, found_none, kept_verdict, answer_found, answer_none, state_none, state_other, state_kept}
@@ -15,39 +16,39 @@ pub invariant_of-self : goal.invariant_of-self
 invariant_of-self c =
     let found = found_entry c.args.done.id.0 c.id.result.0 c.self.inside.rows.rows c.in-Some.place (ap (λ (r : RowId). r.0) c.id.ensures ∙ ap (λ (t : Task). t.id.0) c.order.ensures) c.in-Some.ensures.value in
     let by = c.judge-verdict.ensures.verdict found.0 found.2 in
-    let put = entries_kept c.self.inside.rows.rows c.in-Some.place c.at_mut.result.now c.keep.new.row found.0 c.args.done c.at_mut.ensures.value found.2 c.keep.ensures in
+    let put = data_changed (kept_data c.args.done) c.self.inside.rows.rows c.in-Some.place c.at_mut.result.now c.keep.new.row found.0 c.at_mut.ensures.value found.2 c.keep.ensures in
     let kept : c.judge-verdict.result ≡ Kept = kept_verdict c.judge-verdict.result (sym c.is_kept.ensures ∙ c.if-not-is_kept.false) in
-    let plan : found.0.plan ≡ c.args.done.plan = c.judge-verdict.ensures.plan found.0 found.2 kept in
-    subst (IsWhole c.self.inside.board c.self.inside.edits c.self.inside.rows.next_id (inputs_of c.self.inside.inputs)) (sym put) (bring_whole c.self.inside.board c.self.inside.edits c.self.inside.rows.next_id (inputs_of c.self.inside.inputs) (entries c.self.inside.rows) c.in-Some.place found.0 c.args.done found.2 (sym by ∙ kept) plan c.self.invariant)
+    let plan : found.0.1.plan ≡ c.args.done.plan = c.judge-verdict.ensures.plan found.0 found.2 kept in
+    subst (IsWhole c.self.inside.board c.self.inside.edits c.self.inside.rows.next_id (inputs_of c.self.inside.inputs)) (sym put) (bring_whole c.self.inside.board c.self.inside.edits c.self.inside.rows.next_id (inputs_of c.self.inside.inputs) c.self.inside.rows.rows c.in-Some.place found.0 c.args.done found.2 (sym by ∙ kept) plan c.self.invariant)
 
 pub returns-in-None-clause-answer : goal.returns-in-None-clause-answer
 returns-in-None-clause-answer c =
-    sym (answer_none c.self.inside.board c.self.inside.edits c.self.inside.rows.next_id (inputs_of c.self.inside.inputs) (entries c.self.inside.rows) c.args.self.now c.args.done c.self.view_is (found_none c.args.done.id.0 c.id.result.0 c.self.inside.rows.rows (ap (λ (r : RowId). r.0) c.id.ensures ∙ ap (λ (t : Task). t.id.0) c.order.ensures) c.in-None.ensures.value))
+    sym (answer_none c.self.inside.board c.self.inside.edits c.self.inside.rows.next_id (inputs_of c.self.inside.inputs) c.self.inside.rows.rows c.args.self.now c.args.done c.self.view_is (found_none c.args.done.id.0 c.id.result.0 c.self.inside.rows.rows (ap (λ (r : RowId). r.0) c.id.ensures ∙ ap (λ (t : Task). t.id.0) c.order.ensures) c.in-None.ensures.value))
 
 pub returns-in-None-clause-state : goal.returns-in-None-clause-state
 returns-in-None-clause-state c =
-    sym (state_none c.self.inside.board c.self.inside.edits c.self.inside.rows.next_id (inputs_of c.self.inside.inputs) (entries c.self.inside.rows) c.args.self.now c.args.done c.self.view_is (found_none c.args.done.id.0 c.id.result.0 c.self.inside.rows.rows (ap (λ (r : RowId). r.0) c.id.ensures ∙ ap (λ (t : Task). t.id.0) c.order.ensures) c.in-None.ensures.value))
+    sym (state_none c.self.inside.board c.self.inside.edits c.self.inside.rows.next_id (inputs_of c.self.inside.inputs) c.self.inside.rows.rows c.args.self.now c.args.done c.self.view_is (found_none c.args.done.id.0 c.id.result.0 c.self.inside.rows.rows (ap (λ (r : RowId). r.0) c.id.ensures ∙ ap (λ (t : Task). t.id.0) c.order.ensures) c.in-None.ensures.value))
 
 pub returns-then-not-is_kept-clause-answer : goal.returns-then-not-is_kept-clause-answer
 returns-then-not-is_kept-clause-answer c =
     let found = found_entry c.args.done.id.0 c.id.result.0 c.self.inside.rows.rows c.in-Some.place (ap (λ (r : RowId). r.0) c.id.ensures ∙ ap (λ (t : Task). t.id.0) c.order.ensures) c.in-Some.ensures.value in
-    c.judge-verdict.ensures.verdict found.0 found.2 ∙ sym (answer_found c.self.inside.board c.self.inside.edits c.self.inside.rows.next_id (inputs_of c.self.inside.inputs) (entries c.self.inside.rows) c.args.self.now c.in-Some.place found.0 c.args.done c.self.view_is found.1)
+    c.judge-verdict.ensures.verdict found.0 found.2 ∙ sym (answer_found c.self.inside.board c.self.inside.edits c.self.inside.rows.next_id (inputs_of c.self.inside.inputs) c.self.inside.rows.rows c.args.self.now c.in-Some.place found.0 c.args.done c.self.view_is found.1)
 
 pub returns-then-not-is_kept-clause-state : goal.returns-then-not-is_kept-clause-state
 returns-then-not-is_kept-clause-state c =
     let found = found_entry c.args.done.id.0 c.id.result.0 c.self.inside.rows.rows c.in-Some.place (ap (λ (r : RowId). r.0) c.id.ensures ∙ ap (λ (t : Task). t.id.0) c.order.ensures) c.in-Some.ensures.value in
     let by = c.judge-verdict.ensures.verdict found.0 found.2 in
-    sym (state_other c.self.inside.board c.self.inside.edits c.self.inside.rows.next_id (inputs_of c.self.inside.inputs) (entries c.self.inside.rows) c.args.self.now c.in-Some.place found.0 c.args.done c.judge-verdict.result c.self.view_is found.1 by (sym c.is_kept.ensures ∙ c.if-not-is_kept.true))
+    sym (state_other c.self.inside.board c.self.inside.edits c.self.inside.rows.next_id (inputs_of c.self.inside.inputs) c.self.inside.rows.rows c.args.self.now c.in-Some.place found.0 c.args.done c.judge-verdict.result c.self.view_is found.1 by (sym c.is_kept.ensures ∙ c.if-not-is_kept.true))
 
 pub returns-else-not-is_kept-clause-answer : goal.returns-else-not-is_kept-clause-answer
 returns-else-not-is_kept-clause-answer c =
     let found = found_entry c.args.done.id.0 c.id.result.0 c.self.inside.rows.rows c.in-Some.place (ap (λ (r : RowId). r.0) c.id.ensures ∙ ap (λ (t : Task). t.id.0) c.order.ensures) c.in-Some.ensures.value in
-    c.judge-verdict.ensures.verdict found.0 found.2 ∙ sym (answer_found c.self.inside.board c.self.inside.edits c.self.inside.rows.next_id (inputs_of c.self.inside.inputs) (entries c.self.inside.rows) c.args.self.now c.in-Some.place found.0 c.args.done c.self.view_is found.1)
+    c.judge-verdict.ensures.verdict found.0 found.2 ∙ sym (answer_found c.self.inside.board c.self.inside.edits c.self.inside.rows.next_id (inputs_of c.self.inside.inputs) c.self.inside.rows.rows c.args.self.now c.in-Some.place found.0 c.args.done c.self.view_is found.1)
 
 pub returns-else-not-is_kept-clause-state : goal.returns-else-not-is_kept-clause-state
 returns-else-not-is_kept-clause-state c =
     let found = found_entry c.args.done.id.0 c.id.result.0 c.self.inside.rows.rows c.in-Some.place (ap (λ (r : RowId). r.0) c.id.ensures ∙ ap (λ (t : Task). t.id.0) c.order.ensures) c.in-Some.ensures.value in
     let by = c.judge-verdict.ensures.verdict found.0 found.2 in
-    let put = entries_kept c.self.inside.rows.rows c.in-Some.place c.at_mut.result.now c.keep.new.row found.0 c.args.done c.at_mut.ensures.value found.2 c.keep.ensures in
+    let put = data_changed (kept_data c.args.done) c.self.inside.rows.rows c.in-Some.place c.at_mut.result.now c.keep.new.row found.0 c.at_mut.ensures.value found.2 c.keep.ensures in
     ap (λ (es : List Entry). state_of c.self.inside.board c.self.inside.edits c.self.inside.rows.next_id (inputs_of c.self.inside.inputs) es) put
-    ∙ state_kept c.self.inside.board c.self.inside.edits c.self.inside.rows.next_id (inputs_of c.self.inside.inputs) (entries c.self.inside.rows) c.args.self.now c.in-Some.place found.0 c.args.done c.judge-verdict.result c.self.view_is found.1 by (sym c.is_kept.ensures ∙ c.if-not-is_kept.false)
+    ∙ state_kept c.self.inside.board c.self.inside.edits c.self.inside.rows.next_id (inputs_of c.self.inside.inputs) c.self.inside.rows.rows c.args.self.now c.in-Some.place found.0 c.args.done c.judge-verdict.result c.self.view_is found.1 by (sym c.is_kept.ensures ∙ c.if-not-is_kept.false)

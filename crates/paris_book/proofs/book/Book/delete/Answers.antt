@@ -5,7 +5,6 @@ use Rattle.paris_depends.specs.Sweeps.{touched}
 use Rattle.paris_machine.specs.State.{find_row}
 use Rattle.paris_machine.specs.Edits.{delete_fault, deleted_from}
 use Rattle.paris_book.specs.Among.{inputs_of}
-use Rattle.paris_book.specs.Entries.{entry_of, entries}
 use Rattle.paris_book.specs.Marks.{data_plan, unsettled_by_ids, ids_in}
 use Rattle.paris_book.proofs.Swept.{swept_entries}
 use Rattle.paris_book.specs.declared.rows.RowData.{RowData}
@@ -24,7 +23,7 @@ unreachable-requires c =
 target : (c : goal.After-drop-ids) → Target c.self.inside.rows.rows (find_row c.args.self.now c.args.id) c.args.id.0 c.in_ok-below.below
 target c = target_of c.self.inside.board c.self.inside.edits c.self.inside.rows.next_id (inputs_of c.self.inside.inputs) c.self.inside.rows.rows c.args.self.now c.args.id.0 c.in_ok-below.below c.self.view_is c.in_ok-below.ensures.ok
 
-rows_are : (c : goal.After-drop-ids) → entries c.unsettle_all.new.rows ≡ take (target c).place (entries c.self.inside.rows) ++ swept_entries (c.self.inside.edits + 1) (has_key (writes (target c).row.plan)) (drop ((target c).place + 1) (entries c.self.inside.rows))
+rows_are : (c : goal.After-drop-ids) → c.unsettle_all.new.rows.rows ≡ take (target c).place c.self.inside.rows.rows ++ swept_entries (c.self.inside.edits + 1) (has_key (writes (target c).row.plan)) (drop ((target c).place + 1) c.self.inside.rows.rows)
 rows_are c =
     let t = target c in
     let same = target_row c.self.inside.rows.rows (find_row c.args.self.now c.args.id) c.args.id.0 c.in_ok-below.below c.in-Some.row.now t c.in-Some.ensures.value in
@@ -39,16 +38,16 @@ rows_are c =
 pub invariant_of-self : goal.invariant_of-self
 invariant_of-self c =
     let t = target c in
-    let few = few_edits c.self.inside.board c.self.inside.edits c.self.inside.rows.next_id (inputs_of c.self.inside.inputs) (entries c.self.inside.rows) c.args.self.now c.self.view_is c.requires.left in
+    let few = few_edits c.self.inside.board c.self.inside.edits c.self.inside.rows.next_id (inputs_of c.self.inside.inputs) c.self.inside.rows.rows c.args.self.now c.self.view_is c.requires.left in
     let behind = target_drop c.self.inside.rows.rows (find_row c.args.self.now c.args.id) c.args.id.0 c.in_ok-below.below t in
-    rw (c.unsettle_all.ensures.next_id, c.delete.ensures.next_id) (delete_whole c.self.inside.board c.self.inside.edits c.self.inside.rows.next_id (inputs_of c.self.inside.inputs) (entries c.self.inside.rows) (entries c.unsettle_all.new.rows) t.place (entry_of (c.args.id.0, t.row)) (drop (t.place + 1) (entries c.self.inside.rows)) few behind c.self.invariant (rows_are c))
+    rw (c.unsettle_all.ensures.next_id, c.delete.ensures.next_id) (delete_whole c.self.inside.board c.self.inside.edits c.self.inside.rows.next_id (inputs_of c.self.inside.inputs) c.self.inside.rows.rows c.unsettle_all.new.rows.rows t.place (c.args.id.0, t.row) (drop (t.place + 1) c.self.inside.rows.rows) few behind c.self.invariant (rows_are c))
 
 pub returns-clause-ok : goal.returns-clause-ok
 returns-clause-ok c =
     let t = target c in
     let behind = target_drop c.self.inside.rows.rows (find_row c.args.self.now c.args.id) c.args.id.0 c.in_ok-below.below t in (
       ap delete_fault t.seen,
-      ap (λ next. state_of c.self.inside.board (c.self.inside.edits + 1) next (inputs_of c.self.inside.inputs) (entries c.unsettle_all.new.rows)) (c.unsettle_all.ensures.next_id ∙ c.delete.ensures.next_id)
-          ∙ delete_view c.self.inside.board c.self.inside.edits c.self.inside.rows.next_id (inputs_of c.self.inside.inputs) (entries c.self.inside.rows) (entries c.unsettle_all.new.rows) c.args.self.now t.place (entry_of (c.args.id.0, t.row)) (drop (t.place + 1) (entries c.self.inside.rows)) behind c.self.invariant (rows_are c) c.self.view_is
+      ap (λ next. state_of c.self.inside.board (c.self.inside.edits + 1) next (inputs_of c.self.inside.inputs) c.unsettle_all.new.rows.rows) (c.unsettle_all.ensures.next_id ∙ c.delete.ensures.next_id)
+          ∙ delete_view c.self.inside.board c.self.inside.edits c.self.inside.rows.next_id (inputs_of c.self.inside.inputs) c.self.inside.rows.rows c.unsettle_all.new.rows.rows c.args.self.now t.place (c.args.id.0, t.row) (drop (t.place + 1) c.self.inside.rows.rows) behind c.self.invariant (rows_are c) c.self.view_is
           ∙ ap (deleted_from c.args.self.now) (sym t.seen),
     )

@@ -4,14 +4,13 @@ use Rattle.paris_depends.specs.Sweeps.{touched}
 use Rattle.paris_instr.specs.Resolve.{IsFittedTo}
 use Rattle.paris_machine.specs.State.{State}
 use Rattle.paris_book.specs.Among.{inputs_of}
-use Rattle.paris_book.specs.Entries.{entries}
 use Rattle.paris_book.specs.Marks.{data_plan, unsettled_by_ids, ids_in}
 use Rattle.paris_book.proofs.Unsettling.{insert_rows}
 use Rattle.paris_book.proofs.Inserts.{inserted_rows, insert_whole, insert_view, state_of}
 use Rattle.paris_book.proofs.Calls.{few_edits, fitted_plan}
 use Rattle.paris_book.proofs.book.Book.insert_plan.Goals as goal
 
-rows_are : (c : goal.After-drop-ids-2) → entries c.unsettle_all.new.rows ≡ inserted_rows c.self.inside.edits c.self.inside.rows.next_id (entries c.self.inside.rows) c.args.place c.args.plan
+rows_are : (c : goal.After-drop-ids-2) → c.unsettle_all.new.rows.rows ≡ inserted_rows c.self.inside.edits c.self.inside.rows.next_id c.self.inside.rows.rows c.args.place c.args.plan
 rows_are c =
     insert_rows c.self.inside.edits c.self.inside.rows.next_id c.args.place c.args.plan c.self.inside.rows.rows c.insert_at.new.self.rows c.unsettle_all.new.rows.rows (ids_in c.in_ok-ids.ids.items)
     (c.in-Ok.ensures.ok.1 ∙ ap (λ d. insert c.self.inside.rows.rows c.args.place (c.self.inside.rows.next_id, d)) c.fresh_row.ensures)
@@ -22,12 +21,12 @@ rows_are c =
 pub invariant_of-self-2 : goal.invariant_of-self-2
 invariant_of-self-2 c =
     let fits = fitted_plan c.self.inside.board (inputs_of c.self.inside.inputs) c.args.plan c.self.invariant.shaped (subst (λ (s : State). IsFittedTo s.board c.args.plan) (sym c.self.view_is) c.requires.fitted) in
-    let few = few_edits c.self.inside.board c.self.inside.edits c.self.inside.rows.next_id (inputs_of c.self.inside.inputs) (entries c.self.inside.rows) c.args.self.now c.self.view_is c.requires.left in
-    rw (c.unsettle_all.ensures.next_id, c.in-Ok.ensures.ok.2) (insert_whole c.self.inside.board c.self.inside.edits c.self.inside.rows.next_id (inputs_of c.self.inside.inputs) (entries c.self.inside.rows) (entries c.unsettle_all.new.rows) c.args.place c.args.plan few fits c.self.invariant (rows_are c))
+    let few = few_edits c.self.inside.board c.self.inside.edits c.self.inside.rows.next_id (inputs_of c.self.inside.inputs) c.self.inside.rows.rows c.args.self.now c.self.view_is c.requires.left in
+    rw (c.unsettle_all.ensures.next_id, c.in-Ok.ensures.ok.2) (insert_whole c.self.inside.board c.self.inside.edits c.self.inside.rows.next_id (inputs_of c.self.inside.inputs) c.self.inside.rows.rows c.unsettle_all.new.rows.rows c.args.place c.args.plan few fits c.self.invariant (rows_are c))
 
 pub returns-clause-ok : goal.returns-clause-ok
 returns-clause-ok c = (
   c.in-Ok.ensures.ok.0 ∙ ap (λ (s : State). record { 0 = s.next }) c.self.view_is,
-  ap (λ next. state_of c.self.inside.board (c.self.inside.edits + 1) next (inputs_of c.self.inside.inputs) (entries c.unsettle_all.new.rows)) (c.unsettle_all.ensures.next_id ∙ c.in-Ok.ensures.ok.2)
-      ∙ insert_view c.self.inside.board c.self.inside.edits c.self.inside.rows.next_id (inputs_of c.self.inside.inputs) (entries c.self.inside.rows) (entries c.unsettle_all.new.rows) c.args.self.now c.args.place c.args.plan c.self.invariant (rows_are c) c.self.view_is,
+  ap (λ next. state_of c.self.inside.board (c.self.inside.edits + 1) next (inputs_of c.self.inside.inputs) c.unsettle_all.new.rows.rows) (c.unsettle_all.ensures.next_id ∙ c.in-Ok.ensures.ok.2)
+      ∙ insert_view c.self.inside.board c.self.inside.edits c.self.inside.rows.next_id (inputs_of c.self.inside.inputs) c.self.inside.rows.rows c.unsettle_all.new.rows.rows c.args.self.now c.args.place c.args.plan c.self.invariant (rows_are c) c.self.view_is,
 )

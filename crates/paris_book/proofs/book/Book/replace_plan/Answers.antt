@@ -5,12 +5,11 @@ use Rattle.paris_program.specs.Program.{Program, with_row}
 use Rattle.paris_machine.specs.State.{State, find_row}
 use Rattle.paris_machine.specs.Edits.{replaced_from}
 use Rattle.paris_book.specs.Among.{inputs_of}
-use Rattle.paris_book.specs.Entries.{entry_of, entries}
-use Rattle.paris_book.specs.Marks.{data_plan, writes_either, unsettled_by_ids, ids_in}
+use Rattle.paris_book.specs.Marks.{data_plan, fresh_data, writes_either, unsettled_by_ids, ids_in}
 use Rattle.paris_book.proofs.Swept.{swept_entries}
 use Rattle.paris_book.specs.declared.rows.RowData.{RowData}
 use Rattle.paris_book.proofs.Unsettling.{replace_rows}
-use Rattle.paris_book.proofs.Inserts.{fresh, state_of}
+use Rattle.paris_book.proofs.Inserts.{state_of}
 use Rattle.paris_book.proofs.Replaces.{replace_whole, replace_view}
 use Rattle.paris_book.proofs.Targets.{Target, target_of, target_some, target_within, target_place, target_drop}
 use Rattle.paris_book.proofs.Calls.{few_edits, fitted_plan}
@@ -35,8 +34,8 @@ replace-requires c = record {
 target : (c : goal.After-drop-ids) → Target c.self.inside.rows.rows (find_row c.args.self.now c.args.id) c.args.id.0 c.args.below
 target c = target_of c.self.inside.board c.self.inside.edits c.self.inside.rows.next_id (inputs_of c.self.inside.inputs) c.self.inside.rows.rows c.args.self.now c.args.id.0 c.args.below c.self.view_is c.requires.there
 
-rows_are : (c : goal.After-drop-ids) → entries c.unsettle_all.new.rows
-    ≡ take (target c).place (entries c.self.inside.rows) ++ fresh c.self.inside.edits c.args.id.0 c.args.plan ∷ swept_entries (c.self.inside.edits + 1) (writes_either (target c).row.plan c.args.plan) (drop ((target c).place + 1) (entries c.self.inside.rows))
+rows_are : (c : goal.After-drop-ids) → c.unsettle_all.new.rows.rows
+    ≡ take (target c).place c.self.inside.rows.rows ++ (c.args.id.0, fresh_data c.args.plan (c.self.inside.edits + 1)) ∷ swept_entries (c.self.inside.edits + 1) (writes_either (target c).row.plan c.args.plan) (drop ((target c).place + 1) c.self.inside.rows.rows)
 rows_are c =
     let t = target c in
     replace_rows c.self.inside.edits t.place c.args.id.0 (writes_either t.row.plan c.args.plan) c.args.plan t.row c.self.inside.rows.rows c.replace.new.self.rows c.unsettle_all.new.rows.rows (ids_in c.in_ok-ids.ids.items)
@@ -54,15 +53,15 @@ next_is c = c.unsettle_all.ensures.next_id ∙ ap (λ (p : Program RowData). p.n
 pub invariant_of-self : goal.invariant_of-self
 invariant_of-self c =
     let t = target c in
-    let few = few_edits c.self.inside.board c.self.inside.edits c.self.inside.rows.next_id (inputs_of c.self.inside.inputs) (entries c.self.inside.rows) c.args.self.now c.self.view_is c.requires.left in
+    let few = few_edits c.self.inside.board c.self.inside.edits c.self.inside.rows.next_id (inputs_of c.self.inside.inputs) c.self.inside.rows.rows c.args.self.now c.self.view_is c.requires.left in
     let fits = fitted_plan c.self.inside.board (inputs_of c.self.inside.inputs) c.args.plan c.self.invariant.shaped (subst (λ (s : State). IsFittedTo s.board c.args.plan) (sym c.self.view_is) c.requires.fitted) in
     let behind = target_drop c.self.inside.rows.rows (find_row c.args.self.now c.args.id) c.args.id.0 c.args.below t in
-    rw (next_is c) (replace_whole c.self.inside.board c.self.inside.edits c.self.inside.rows.next_id (inputs_of c.self.inside.inputs) (entries c.self.inside.rows) (entries c.unsettle_all.new.rows) t.place (entry_of (c.args.id.0, t.row)) (drop (t.place + 1) (entries c.self.inside.rows)) c.args.plan few fits behind c.self.invariant (rows_are c))
+    rw (next_is c) (replace_whole c.self.inside.board c.self.inside.edits c.self.inside.rows.next_id (inputs_of c.self.inside.inputs) c.self.inside.rows.rows c.unsettle_all.new.rows.rows t.place (c.args.id.0, t.row) (drop (t.place + 1) c.self.inside.rows.rows) c.args.plan few fits behind c.self.invariant (rows_are c))
 
 pub returns-clause-ok : goal.returns-clause-ok
 returns-clause-ok c =
     let t = target c in
     let behind = target_drop c.self.inside.rows.rows (find_row c.args.self.now c.args.id) c.args.id.0 c.args.below t in
-    ap (λ next. state_of c.self.inside.board (c.self.inside.edits + 1) next (inputs_of c.self.inside.inputs) (entries c.unsettle_all.new.rows)) (next_is c)
-    ∙ replace_view c.self.inside.board c.self.inside.edits c.self.inside.rows.next_id (inputs_of c.self.inside.inputs) (entries c.self.inside.rows) (entries c.unsettle_all.new.rows) c.args.self.now t.place (entry_of (c.args.id.0, t.row)) (drop (t.place + 1) (entries c.self.inside.rows)) c.args.plan behind c.self.invariant (rows_are c) c.self.view_is
+    ap (λ next. state_of c.self.inside.board (c.self.inside.edits + 1) next (inputs_of c.self.inside.inputs) c.unsettle_all.new.rows.rows) (next_is c)
+    ∙ replace_view c.self.inside.board c.self.inside.edits c.self.inside.rows.next_id (inputs_of c.self.inside.inputs) c.self.inside.rows.rows c.unsettle_all.new.rows.rows c.args.self.now t.place (c.args.id.0, t.row) (drop (t.place + 1) c.self.inside.rows.rows) c.args.plan behind c.self.invariant (rows_are c) c.self.view_is
     ∙ ap (λ o. replaced_from c.args.self.now o (Ok c.args.plan)) (sym t.seen)

@@ -2,7 +2,6 @@ use Rattle.std.proofs.Common.{◌≡◌, ◌++◌, ◌<◌, ◌≤◌, sym, ap, 
 use Rattle.std.specs.List.{list_all}
 use Rattle.std.proofs.lemmas.Result.{on_ok_weaker, IfErr-weaker}
 use Rattle.paris_book.specs.Among.{inputs_of}
-use Rattle.paris_book.specs.Entries.{entries}
 use Rattle.paris_machine.specs.State.{State}
 use Rattle.paris_machine.specs.Orders.{after_release, take_reply}
 use Rattle.paris_machine.specs.Settling.{unsettled_rows}
@@ -47,7 +46,7 @@ returns-clause-ok g c =
     let ran = c.run_slots.new.slots in
     let recalled : after_release out ≡ after_release first = recalled_since first c.release.new.self c.take_ready.new.self c.release.ensures c.in_ok-slots.ensures.recalled in
     let left : unsettled_rows out.rows ≡ unsettled_rows first.rows = left_recalled first out recalled in
-    let apart = rows_apart c.self.inside.board c.self.inside.edits c.self.inside.rows.next_id (inputs_of c.self.inside.inputs) (entries c.self.inside.rows) out c.self.view_is c.self.invariant in
+    let apart = rows_apart c.self.inside.board c.self.inside.edits c.self.inside.rows.next_id (inputs_of c.self.inside.inputs) c.self.inside.rows.rows out c.self.view_is c.self.invariant in
     let given : first_order ordered ≡ take_reply (after_release out) = c.in_ok-slots.ensures.first ∙ ap take_reply (c.release.ensures ∙ sym recalled) in
     let executed : Executed ordered ran = subst (λ xs. Executed xs ran) c.as_mut_slice.ensures.value (record { as_many = c.run_slots.auto.slots; each = c.run_slots.ensures }) in
     let back : take c.in_ok-slots.slots.len (ran ++ drop (length ran) ordered) ≡ ran = written_back c.in_ok-slots.slots.len ran ordered (c.run_slots.auto.slots ∙ c.as_mut_slice.ensures.len) in
