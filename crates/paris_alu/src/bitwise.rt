@@ -36,23 +36,23 @@ fn combined<O: WordOp>(
     Ok(FieldValue::from_planes(planes, vps))
 }
 
-/// What an operation makes of each two of the low `len` bits of two fields.
+/// What an operation makes of each two of the low `bits` bits of two fields.
 pub fn logic(
     alloc: Global,
     operator: BitOperator,
     x: &FieldValue,
     y: &FieldValue,
-    len: u64,
+    bits: u64,
 ) -> Result<FieldValue, AllocError>
-    requires narrow { len ≤ 128 }
-    requires x_width { len ≤ x.now.width }
-    requires y_width { len ≤ y.now.width }
+    requires narrow { bits ≤ 128 }
+    requires x_width { bits ≤ x.now.width }
+    requires y_width { bits ≤ y.now.width }
     requires same { length x.now.numbers ≡ length y.now.numbers }
-    ensures { IfOk result (λ value. value ≡ binary_field (bitwise_operator operator) len x.now y.now (λ _. 0)) }
+    ensures { IfOk result (λ value. value ≡ binary_field (bitwise_operator operator) bits x.now y.now (λ _. 0)) }
 {
     let vps = x.len();
-    let xs = x.low(len);
-    let ys = y.low(len);
+    let xs = x.low(bits);
+    let ys = y.low(bits);
     match operator {
         BitOperator::And => combined::<And>(alloc, xs, ys, vps),
         BitOperator::Or => combined::<Or>(alloc, xs, ys, vps),
@@ -60,22 +60,22 @@ pub fn logic(
     }
 }
 
-/// The low `len` bits of a field, each turned.
-pub fn invert(alloc: Global, x: &FieldValue, len: u64) -> Result<FieldValue, AllocError>
-    requires narrow { len ≤ 128 }
-    requires x_width { len ≤ x.now.width }
-    ensures { IfOk result (λ value. value ≡ unary_field BitNot len x.now) }
+/// The low `bits` bits of a field, each turned.
+pub fn invert(alloc: Global, x: &FieldValue, bits: u64) -> Result<FieldValue, AllocError>
+    requires narrow { bits ≤ 128 }
+    requires x_width { bits ≤ x.now.width }
+    ensures { IfOk result (λ value. value ≡ unary_field BitNot bits x.now) }
 {
-    let planes = inverted_planes(alloc, x.low(len))?;
+    let planes = inverted_planes(alloc, x.low(bits))?;
     Ok(FieldValue::from_planes(planes, x.len()))
 }
 
-/// The low `len` bits of a field.
-pub fn copy_low(alloc: Global, x: &FieldValue, len: u64) -> Result<FieldValue, AllocError>
-    requires narrow { len ≤ 128 }
-    requires x_width { len ≤ x.now.width }
-    ensures { IfOk result (λ value. value ≡ unary_field Move len x.now) }
+/// The low `bits` bits of a field.
+pub fn copy_low(alloc: Global, x: &FieldValue, bits: u64) -> Result<FieldValue, AllocError>
+    requires narrow { bits ≤ 128 }
+    requires x_width { bits ≤ x.now.width }
+    ensures { IfOk result (λ value. value ≡ unary_field Move bits x.now) }
 {
-    let planes = copy_planes(alloc, x.low(len))?;
+    let planes = copy_planes(alloc, x.low(bits))?;
     Ok(FieldValue::from_planes(planes, x.len()))
 }

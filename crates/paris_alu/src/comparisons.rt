@@ -54,23 +54,23 @@ fn inverted(plane: Plane) -> Plane
     inverted
 }
 
-/// Where the low `len` bits of two fields compare so.
+/// Where the low `bits` bits of two fields compare so.
 pub fn compare(
     alloc: Global,
     comparison: Comparison,
     x: &FieldValue,
     y: &FieldValue,
-    len: u64,
+    bits: u64,
 ) -> Result<Plane, AllocError>
-    requires some { 0 < len }
-    requires x_width { len ≤ x.now.width }
-    requires y_width { len ≤ y.now.width }
+    requires some { 0 < bits }
+    requires x_width { bits ≤ x.now.width }
+    requires y_width { bits ≤ y.now.width }
     requires same { length x.now.numbers ≡ length y.now.numbers }
-    ensures { IfOk result (λ plane. plane ≡ comparison_plane comparison len x.now y.now) }
+    ensures { IfOk result (λ plane. plane ≡ comparison_plane comparison bits x.now y.now) }
 {
     let vps = x.len();
-    let xs = x.low(len);
-    let ys = y.low(len);
+    let xs = x.low(bits);
+    let ys = y.low(bits);
     match comparison {
         Comparison::Equal => Ok(inverted(unlike(alloc, xs, ys, vps)?)),
         Comparison::NotEqual => unlike(alloc, xs, ys, vps),
@@ -94,66 +94,66 @@ fn selected(alloc: Global, mask: &Plane, x: &[Plane], y: &[Plane]) -> Result<Fie
     Ok(FieldValue::from_planes(planes, mask.len()))
 }
 
-/// The greater of the low `len` bits of two fields.
+/// The greater of the low `bits` bits of two fields.
 fn maximum(
     alloc: Global,
     sign: Sign,
     x: &FieldValue,
     y: &FieldValue,
-    len: u64,
+    bits: u64,
 ) -> Result<FieldValue, AllocError>
-    requires some { 0 < len }
-    requires narrow { len ≤ 128 }
-    requires x_width { len ≤ x.now.width }
-    requires y_width { len ≤ y.now.width }
+    requires some { 0 < bits }
+    requires narrow { bits ≤ 128 }
+    requires x_width { bits ≤ x.now.width }
+    requires y_width { bits ≤ y.now.width }
     requires same { length x.now.numbers ≡ length y.now.numbers }
-    ensures { IfOk result (λ value. value ≡ binary_field (Maximum sign) len x.now y.now (λ _. 0)) }
+    ensures { IfOk result (λ value. value ≡ binary_field (Maximum sign) bits x.now y.now (λ _. 0)) }
 {
-    let xs = x.low(len);
-    let ys = y.low(len);
+    let xs = x.low(bits);
+    let ys = y.low(bits);
     let mask = less(alloc, sign, xs, ys, x.len())?;
     selected(alloc, &mask, xs, ys)
 }
 
-/// The lesser of the low `len` bits of two fields.
+/// The lesser of the low `bits` bits of two fields.
 fn minimum(
     alloc: Global,
     sign: Sign,
     x: &FieldValue,
     y: &FieldValue,
-    len: u64,
+    bits: u64,
 ) -> Result<FieldValue, AllocError>
-    requires some { 0 < len }
-    requires narrow { len ≤ 128 }
-    requires x_width { len ≤ x.now.width }
-    requires y_width { len ≤ y.now.width }
+    requires some { 0 < bits }
+    requires narrow { bits ≤ 128 }
+    requires x_width { bits ≤ x.now.width }
+    requires y_width { bits ≤ y.now.width }
     requires same { length x.now.numbers ≡ length y.now.numbers }
-    ensures { IfOk result (λ value. value ≡ binary_field (Minimum sign) len x.now y.now (λ _. 0)) }
+    ensures { IfOk result (λ value. value ≡ binary_field (Minimum sign) bits x.now y.now (λ _. 0)) }
 {
-    let xs = x.low(len);
-    let ys = y.low(len);
+    let xs = x.low(bits);
+    let ys = y.low(bits);
     let mask = less(alloc, sign, ys, xs, x.len())?;
     selected(alloc, &mask, xs, ys)
 }
 
-/// The greater or the lesser of the low `len` bits of two fields.
+/// The greater or the lesser of the low `bits` bits of two fields.
 pub fn extreme(
     alloc: Global,
     which: Extremum,
     sign: Sign,
     x: &FieldValue,
     y: &FieldValue,
-    len: u64,
+    bits: u64,
 ) -> Result<FieldValue, AllocError>
-    requires some { 0 < len }
-    requires narrow { len ≤ 128 }
-    requires x_width { len ≤ x.now.width }
-    requires y_width { len ≤ y.now.width }
+    requires some { 0 < bits }
+    requires narrow { bits ≤ 128 }
+    requires x_width { bits ≤ x.now.width }
+    requires y_width { bits ≤ y.now.width }
     requires same { length x.now.numbers ≡ length y.now.numbers }
-    ensures { IfOk result (λ value. value ≡ binary_field (extreme_operator which sign) len x.now y.now (λ _. 0)) }
+    ensures { IfOk result (λ value. value ≡ binary_field (extreme_operator which sign) bits x.now y.now (λ _. 0)) }
 {
     match which {
-        Extremum::Maximum => maximum(alloc, sign, x, y, len),
-        Extremum::Minimum => minimum(alloc, sign, x, y, len),
+        Extremum::Maximum => maximum(alloc, sign, x, y, bits),
+        Extremum::Minimum => minimum(alloc, sign, x, y, bits),
     }
 }

@@ -1,6 +1,6 @@
 //! Arithmetic on fields whose bits lie in planes: what an operator makes of the operands of all processors at once.
 //!
-//! Each function takes the low `len` bits of its operands, works on whole planes by lanes, and makes its results in new
+//! Each function takes the low `bits` bits of its operands, works on whole planes by lanes, and makes its results in new
 //! planes. It fails only for want of memory.
 #![tactic(auto)]
 

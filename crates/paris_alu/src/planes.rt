@@ -159,18 +159,18 @@ pub(crate) fn unlike_rest(alloc: Global, x: &[Plane], rest: &Plane) -> Result<Pl
     Ok(unlike)
 }
 
-/// The planes of `x`, and `rest` above them up to `len` planes in all.
+/// The planes of `x`, and `rest` above them up to `bits` planes in all.
 pub(crate) fn extended_planes(
     alloc: Global,
     x: &[Plane],
     rest: &Plane,
-    len: usize,
+    bits: usize,
 ) -> Result<Vec<Plane>, AllocError>
-    requires { length x.now ≤ len }
-    ensures { IfOk result (λ planes. planes.items ≡ x.now ++ replicate (len - length x.now) rest.now) }
+    requires { length x.now ≤ bits }
+    ensures { IfOk result (λ planes. planes.items ≡ x.now ++ replicate (bits - length x.now) rest.now) }
 {
     let mut planes = copy_planes(alloc, x)?;
-    for _ in x.len()..len {
+    for _ in x.len()..bits {
         planes.push(rest.copy()?)?;
     }
     Ok(planes)

@@ -53,27 +53,27 @@ fn overflow<O: TripleOp>(
     }
 }
 
-/// The sums of the low `len` bits of two fields.
+/// The sums of the low `bits` bits of two fields.
 pub fn add(
     alloc: Global,
     sign: Sign,
     x: &FieldValue,
     y: &FieldValue,
-    len: u64,
+    bits: u64,
 ) -> Result<Sum, AllocError>
-    requires some { 0 < len }
-    requires narrow { len ≤ 128 }
-    requires x_width { len ≤ x.now.width }
-    requires y_width { len ≤ y.now.width }
+    requires some { 0 < bits }
+    requires narrow { bits ≤ 128 }
+    requires x_width { bits ≤ x.now.width }
+    requires y_width { bits ≤ y.now.width }
     requires same { length x.now.numbers ≡ length y.now.numbers }
-    ensures value { IfOk result (λ sum. sum.value ≡ binary_field (sum_operator sign) len x.now y.now (λ _. 0)) }
-    ensures carry { IfOk result (λ sum. sum.carry ≡ carry_plane (sum_operator sign) len x.now y.now (λ _. 0)) }
-    ensures overflow { IfOk result (λ sum. sum.overflow ≡ overflow_plane (sum_operator sign) len x.now y.now (λ _. 0)) }
+    ensures value { IfOk result (λ sum. sum.value ≡ binary_field (sum_operator sign) bits x.now y.now (λ _. 0)) }
+    ensures carry { IfOk result (λ sum. sum.carry ≡ carry_plane (sum_operator sign) bits x.now y.now (λ _. 0)) }
+    ensures overflow { IfOk result (λ sum. sum.overflow ≡ overflow_plane (sum_operator sign) bits x.now y.now (λ _. 0)) }
 {
     let vps = x.len();
-    let top = len as usize - 1;
-    let xs = x.low(len);
-    let ys = y.low(len);
+    let top = bits as usize - 1;
+    let xs = x.low(bits);
+    let ys = y.low(bits);
     let mut carry = Plane::zeros(alloc, vps)?;
     let planes = sum_planes(alloc, xs, ys, &mut carry)?;
     let overflow = overflow::<SumOverflow>(sign, &carry, &planes[top], &xs[top], &ys[top])?;
@@ -84,27 +84,27 @@ pub fn add(
     })
 }
 
-/// The sums of the low `len` bits of two unsigned fields and a carried bit.
+/// The sums of the low `bits` bits of two unsigned fields and a carried bit.
 pub fn add_carry(
     alloc: Global,
     x: &FieldValue,
     y: &FieldValue,
     carry: &Plane,
-    len: u64,
+    bits: u64,
 ) -> Result<Sum, AllocError>
-    requires some { 0 < len }
-    requires narrow { len ≤ 128 }
-    requires x_width { len ≤ x.now.width }
-    requires y_width { len ≤ y.now.width }
+    requires some { 0 < bits }
+    requires narrow { bits ≤ 128 }
+    requires x_width { bits ≤ x.now.width }
+    requires y_width { bits ≤ y.now.width }
     requires same { length x.now.numbers ≡ length y.now.numbers }
     requires carries { length carry.now ≡ length x.now.numbers }
-    ensures value { IfOk result (λ sum. sum.value ≡ binary_field UnsignedAddCarry len x.now y.now (bit_in carry.now)) }
-    ensures carry { IfOk result (λ sum. sum.carry ≡ carry_plane UnsignedAddCarry len x.now y.now (bit_in carry.now)) }
-    ensures overflow { IfOk result (λ sum. sum.overflow ≡ overflow_plane UnsignedAddCarry len x.now y.now (bit_in carry.now)) }
+    ensures value { IfOk result (λ sum. sum.value ≡ binary_field UnsignedAddCarry bits x.now y.now (bit_in carry.now)) }
+    ensures carry { IfOk result (λ sum. sum.carry ≡ carry_plane UnsignedAddCarry bits x.now y.now (bit_in carry.now)) }
+    ensures overflow { IfOk result (λ sum. sum.overflow ≡ overflow_plane UnsignedAddCarry bits x.now y.now (bit_in carry.now)) }
 {
     let vps = x.len();
-    let xs = x.low(len);
-    let ys = y.low(len);
+    let xs = x.low(bits);
+    let ys = y.low(bits);
     let mut carry = carry.copy()?;
     let planes = sum_planes(alloc, xs, ys, &mut carry)?;
     let overflow = carry.copy()?;
@@ -115,27 +115,27 @@ pub fn add_carry(
     })
 }
 
-/// The differences of the low `len` bits of two fields. Its carry is the borrow.
+/// The differences of the low `bits` bits of two fields. Its carry is the borrow.
 pub fn subtract(
     alloc: Global,
     sign: Sign,
     x: &FieldValue,
     y: &FieldValue,
-    len: u64,
+    bits: u64,
 ) -> Result<Sum, AllocError>
-    requires some { 0 < len }
-    requires narrow { len ≤ 128 }
-    requires x_width { len ≤ x.now.width }
-    requires y_width { len ≤ y.now.width }
+    requires some { 0 < bits }
+    requires narrow { bits ≤ 128 }
+    requires x_width { bits ≤ x.now.width }
+    requires y_width { bits ≤ y.now.width }
     requires same { length x.now.numbers ≡ length y.now.numbers }
-    ensures value { IfOk result (λ sum. sum.value ≡ binary_field (difference_operator sign) len x.now y.now (λ _. 0)) }
-    ensures carry { IfOk result (λ sum. sum.carry ≡ carry_plane (difference_operator sign) len x.now y.now (λ _. 0)) }
-    ensures overflow { IfOk result (λ sum. sum.overflow ≡ overflow_plane (difference_operator sign) len x.now y.now (λ _. 0)) }
+    ensures value { IfOk result (λ sum. sum.value ≡ binary_field (difference_operator sign) bits x.now y.now (λ _. 0)) }
+    ensures carry { IfOk result (λ sum. sum.carry ≡ carry_plane (difference_operator sign) bits x.now y.now (λ _. 0)) }
+    ensures overflow { IfOk result (λ sum. sum.overflow ≡ overflow_plane (difference_operator sign) bits x.now y.now (λ _. 0)) }
 {
     let vps = x.len();
-    let top = len as usize - 1;
-    let xs = x.low(len);
-    let ys = y.low(len);
+    let top = bits as usize - 1;
+    let xs = x.low(bits);
+    let ys = y.low(bits);
     let mut borrow = Plane::zeros(alloc, vps)?;
     let planes = difference_planes(alloc, xs, ys, &mut borrow)?;
     let overflow = overflow::<DifferenceOverflow>(sign, &borrow, &planes[top], &xs[top], &ys[top])?;
@@ -146,17 +146,17 @@ pub fn subtract(
     })
 }
 
-/// The low `len` bits of a signed field with the other sign.
-pub fn negate(alloc: Global, x: &FieldValue, len: u64) -> Result<Overflowing, AllocError>
-    requires some { 0 < len }
-    requires narrow { len ≤ 128 }
-    requires x_width { len ≤ x.now.width }
-    ensures value { IfOk result (λ negated. negated.value ≡ unary_field Negate len x.now) }
-    ensures overflow { IfOk result (λ negated. negated.overflow ≡ unary_overflow_plane Negate len x.now) }
+/// The low `bits` bits of a signed field with the other sign.
+pub fn negate(alloc: Global, x: &FieldValue, bits: u64) -> Result<Overflowing, AllocError>
+    requires some { 0 < bits }
+    requires narrow { bits ≤ 128 }
+    requires x_width { bits ≤ x.now.width }
+    ensures value { IfOk result (λ negated. negated.value ≡ unary_field Negate bits x.now) }
+    ensures overflow { IfOk result (λ negated. negated.overflow ≡ unary_overflow_plane Negate bits x.now) }
 {
     let vps = x.len();
-    let top = len as usize - 1;
-    let xs = x.low(len);
+    let top = bits as usize - 1;
+    let xs = x.low(bits);
     let mut borrow = Plane::zeros(alloc, vps)?;
     let planes = opposite_planes(alloc, xs, &mut borrow)?;
     let mut overflow = planes[top].copy()?;

@@ -21,27 +21,27 @@ fn rest_above(alloc: Global, sign: Sign, top: &Plane) -> Result<Plane, AllocErro
     }
 }
 
-/// The low `from_len` bits of a field as numbers of `len` bits.
+/// The low `from_bits` bits of a field as numbers of `bits` bits.
 pub fn extend(
     alloc: Global,
     sign: Sign,
     x: &FieldValue,
-    from_len: u64,
-    len: u64,
+    from_bits: u64,
+    bits: u64,
 ) -> Result<Overflowing, AllocError>
-    requires some { 0 < len }
-    requires narrow { len ≤ 128 }
-    requires from_some { 0 < from_len }
-    requires x_width { from_len ≤ x.now.width }
-    ensures value { IfOk result (λ resized. resized.value ≡ resized_field sign len from_len x.now) }
-    ensures overflow { IfOk result (λ resized. resized.overflow ≡ resize_overflow_plane sign len from_len x.now) }
+    requires some { 0 < bits }
+    requires narrow { bits ≤ 128 }
+    requires from_some { 0 < from_bits }
+    requires x_width { from_bits ≤ x.now.width }
+    ensures value { IfOk result (λ resized. resized.value ≡ resized_field sign bits from_bits x.now) }
+    ensures overflow { IfOk result (λ resized. resized.overflow ≡ resize_overflow_plane sign bits from_bits x.now) }
 {
     let vps = x.len();
-    let xs = x.low(from_len);
-    let kept = from_len.min(len) as usize;
+    let xs = x.low(from_bits);
+    let kept = from_bits.min(bits) as usize;
     let rest = rest_above(alloc, sign, &xs[kept - 1])?;
     let overflow = unlike_rest(alloc, &xs[kept..], &rest)?;
-    let planes = extended_planes(alloc, &xs[..kept], &rest, len as usize)?;
+    let planes = extended_planes(alloc, &xs[..kept], &rest, bits as usize)?;
     Ok(Overflowing {
         value: FieldValue::from_planes(planes, vps),
         overflow,

@@ -5,7 +5,7 @@ use Rattle.paris_model.specs.Frame.{World}
 use Rattle.paris_model.specs.Instructions.{Plan, reads, value_at, outcome, outcome_in, refusal, given}
 use Rattle.paris_model.proofs.Worlds.{one_is, value_at-map}
 use Rattle.paris_model.proofs.Direct.{refusal_depends}
-use Rattle.paris_exec.specs.Tasks.{Task, told, task_outcome, numbers_of}
+use Rattle.paris_exec.specs.Tasks.{Task, told, numbers_of}
 use Rattle.paris_exec.specs.Frames.{GivesInAnyWorld, RefusedInAnyWorld, refusal_told}
 
 pub gives : (t : Task) → GivesInAnyWorld t

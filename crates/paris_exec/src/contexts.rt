@@ -23,22 +23,22 @@ fn move_always_values(
     order: &Order,
     to: &Operand,
     from: &Operand,
-    len: u64,
+    bits: u64,
 ) -> Result<Vec<FieldValue>, AllocError>
-    requires acts { order.now.plan.action ≡ Action.OnAll (Unconditional.MoveAlways to.now from.now len) }
+    requires acts { order.now.plan.action ≡ Action.OnAll (Unconditional.MoveAlways to.now from.now bits) }
     requires fit { IsFit order.now.plan.axes order.now.plan.action }
     ensures { IfOk result (λ values. values.items ≡ left_values order.now) }
 {
     let x = order.input(&Key::Field(from.field));
-    let low = x.low(len);
+    let low = x.low(bits);
     let mut values = Vec::with_capacity(alloc, 1)?;
-    if len == to.width {
-        values.push(copy_low(alloc, x, len)?)?;
+    if bits == to.width {
+        values.push(copy_low(alloc, x, bits)?)?;
         return Ok(values);
     }
     let all = Plane::ones(alloc, x.len())?;
     let mut value = order.input(&Key::Field(to.field)).copy()?;
-    value.merge_in(&all, low, len);
+    value.merge_in(&all, low, bits);
     values.push(value)?;
     Ok(values)
 }

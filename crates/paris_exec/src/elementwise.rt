@@ -34,29 +34,29 @@ fn sum_of(
     operator: BinaryOperator,
     x: &FieldValue,
     y: &FieldValue,
-    len: u64,
+    bits: u64,
 ) -> Result<Option<Sum>, AllocError>
-    requires some { 0 < len }
-    requires narrow { len ≤ 128 }
-    requires x_width { len ≤ x.now.width }
-    requires y_width { len ≤ y.now.width }
+    requires some { 0 < bits }
+    requires narrow { bits ≤ 128 }
+    requires x_width { bits ≤ x.now.width }
+    requires y_width { bits ≤ y.now.width }
     requires same { length x.now.numbers ≡ length y.now.numbers }
     requires count { length x.now.numbers ≡ processor_count order.now.plan.axes }
     requires carry { binary_flags operator ≡ Carry ∷ Overflow ∷ [] → has_key (reads order.now.plan) (Flag order.now.plan.set_no Carry) ≡ true }
-    ensures value { IfOk result (λ sum. IfSome sum (λ sum. sum.value ≡ binary_field operator len x.now y.now (slice_index (seen_at order.now (Flag order.now.plan.set_no Carry))))) }
-    ensures carry { IfOk result (λ sum. IfSome sum (λ sum. sum.carry ≡ carry_plane operator len x.now y.now (slice_index (seen_at order.now (Flag order.now.plan.set_no Carry))))) }
-    ensures overflow { IfOk result (λ sum. IfSome sum (λ sum. sum.overflow ≡ overflow_plane operator len x.now y.now (slice_index (seen_at order.now (Flag order.now.plan.set_no Carry))))) }
+    ensures value { IfOk result (λ sum. IfSome sum (λ sum. sum.value ≡ binary_field operator bits x.now y.now (slice_index (seen_at order.now (Flag order.now.plan.set_no Carry))))) }
+    ensures carry { IfOk result (λ sum. IfSome sum (λ sum. sum.carry ≡ carry_plane operator bits x.now y.now (slice_index (seen_at order.now (Flag order.now.plan.set_no Carry))))) }
+    ensures overflow { IfOk result (λ sum. IfSome sum (λ sum. sum.overflow ≡ overflow_plane operator bits x.now y.now (slice_index (seen_at order.now (Flag order.now.plan.set_no Carry))))) }
     ensures flags { IfOk result (λ sum. IfSome sum (λ _. binary_flags operator ≡ Carry ∷ Overflow ∷ [])) }
     ensures sums { IfOk result (λ sum. is_some sum ≡ is_sum operator) }
 {
     match operator {
-        BinaryOperator::UnsignedAdd => Ok(Some(add(alloc, Sign::Unsigned, x, y, len)?)),
-        BinaryOperator::SignedAdd => Ok(Some(add(alloc, Sign::Signed, x, y, len)?)),
-        BinaryOperator::UnsignedSubtract => Ok(Some(subtract(alloc, Sign::Unsigned, x, y, len)?)),
-        BinaryOperator::SignedSubtract => Ok(Some(subtract(alloc, Sign::Signed, x, y, len)?)),
+        BinaryOperator::UnsignedAdd => Ok(Some(add(alloc, Sign::Unsigned, x, y, bits)?)),
+        BinaryOperator::SignedAdd => Ok(Some(add(alloc, Sign::Signed, x, y, bits)?)),
+        BinaryOperator::UnsignedSubtract => Ok(Some(subtract(alloc, Sign::Unsigned, x, y, bits)?)),
+        BinaryOperator::SignedSubtract => Ok(Some(subtract(alloc, Sign::Signed, x, y, bits)?)),
         BinaryOperator::UnsignedAddCarry => {
             let carry = flag_plane(order, &FlagName::Carry);
-            Ok(Some(add_carry(alloc, x, y, carry, len)?))
+            Ok(Some(add_carry(alloc, x, y, carry, bits)?))
         }
         BinaryOperator::UnsignedMultiply
         | BinaryOperator::SignedMultiply
@@ -76,23 +76,23 @@ fn flagless(
     operator: BinaryOperator,
     x: &FieldValue,
     y: &FieldValue,
-    len: u64,
+    bits: u64,
 ) -> Result<Option<FieldValue>, AllocError>
-    requires some { 0 < len }
-    requires narrow { len ≤ 128 }
-    requires x_width { len ≤ x.now.width }
-    requires y_width { len ≤ y.now.width }
+    requires some { 0 < bits }
+    requires narrow { bits ≤ 128 }
+    requires x_width { bits ≤ x.now.width }
+    requires y_width { bits ≤ y.now.width }
     requires same { length x.now.numbers ≡ length y.now.numbers }
-    ensures value { IfOk result (λ value. IfSome value (λ value. value ≡ binary_field operator len x.now y.now (λ _. 0))) }
+    ensures value { IfOk result (λ value. IfSome value (λ value. value ≡ binary_field operator bits x.now y.now (λ _. 0))) }
     ensures flags { IfOk result (λ value. IfSome value (λ _. binary_flags operator ≡ [])) }
     ensures flagless { IfOk result (λ value. is_some value ≡ is_flagless operator) }
 {
     let value = match operator {
-        BinaryOperator::BitAnd => logic(alloc, BitOperator::And, x, y, len)?,
-        BinaryOperator::BitOr => logic(alloc, BitOperator::Or, x, y, len)?,
-        BinaryOperator::BitXor => logic(alloc, BitOperator::Xor, x, y, len)?,
-        BinaryOperator::Maximum(sign) => extreme(alloc, Extremum::Maximum, sign, x, y, len)?,
-        BinaryOperator::Minimum(sign) => extreme(alloc, Extremum::Minimum, sign, x, y, len)?,
+        BinaryOperator::BitAnd => logic(alloc, BitOperator::And, x, y, bits)?,
+        BinaryOperator::BitOr => logic(alloc, BitOperator::Or, x, y, bits)?,
+        BinaryOperator::BitXor => logic(alloc, BitOperator::Xor, x, y, bits)?,
+        BinaryOperator::Maximum(sign) => extreme(alloc, Extremum::Maximum, sign, x, y, bits)?,
+        BinaryOperator::Minimum(sign) => extreme(alloc, Extremum::Minimum, sign, x, y, bits)?,
         BinaryOperator::UnsignedAdd
         | BinaryOperator::UnsignedAddCarry
         | BinaryOperator::UnsignedSubtract
@@ -114,19 +114,19 @@ fn binary_values(
     to: &Operand,
     left: &Operand,
     right: &Operand,
-    len: u64,
+    bits: u64,
 ) -> Result<Option<Vec<FieldValue>>, AllocError>
-    requires acts { order.now.plan.action ≡ Action.OnSelected (Conditional.Binary operator to.now left.now right.now len) }
+    requires acts { order.now.plan.action ≡ Action.OnSelected (Conditional.Binary operator to.now left.now right.now bits) }
     requires fit { IsFit order.now.plan.axes order.now.plan.action }
     ensures values { IfOk result (λ values. IfSome values (λ values. values.items ≡ left_values order.now)) }
     ensures planes { IfOk result (λ values. is_some values ≡ is_plane_operator operator) }
 {
     let x = order.input(&Key::Field(left.field));
     let y = order.input(&Key::Field(right.field));
-    if let Some(sum) = sum_of(alloc, order, operator, x, y, len)? {
+    if let Some(sum) = sum_of(alloc, order, operator, x, y, bits)? {
         return Ok(Some(put_sum(alloc, order, to, sum)?));
     }
-    match flagless(alloc, operator, x, y, len)? {
+    match flagless(alloc, operator, x, y, bits)? {
         Some(new) => Ok(Some(put_field(alloc, order, to, new)?)),
         None => Ok(None),
     }
@@ -139,17 +139,17 @@ fn unary_values(
     operator: UnaryOperator,
     to: &Operand,
     from: &Operand,
-    len: u64,
+    bits: u64,
 ) -> Result<Vec<FieldValue>, AllocError>
-    requires acts { order.now.plan.action ≡ Action.OnSelected (Conditional.Unary operator to.now from.now len) }
+    requires acts { order.now.plan.action ≡ Action.OnSelected (Conditional.Unary operator to.now from.now bits) }
     requires fit { IsFit order.now.plan.axes order.now.plan.action }
     ensures { IfOk result (λ values. values.items ≡ left_values order.now) }
 {
     let x = order.input(&Key::Field(from.field));
     match operator {
-        UnaryOperator::Negate => put_overflowing(alloc, order, to, negate(alloc, x, len)?),
-        UnaryOperator::BitNot => put_field(alloc, order, to, invert(alloc, x, len)?),
-        UnaryOperator::Move => put_field(alloc, order, to, copy_low(alloc, x, len)?),
+        UnaryOperator::Negate => put_overflowing(alloc, order, to, negate(alloc, x, bits)?),
+        UnaryOperator::BitNot => put_field(alloc, order, to, invert(alloc, x, bits)?),
+        UnaryOperator::Move => put_field(alloc, order, to, copy_low(alloc, x, bits)?),
     }
 }
 
@@ -160,19 +160,19 @@ fn resized_values(
     sign: Sign,
     to: &Operand,
     from: &Operand,
-    len: u64,
-    from_len: u64,
+    bits: u64,
+    from_bits: u64,
 ) -> Result<Option<Vec<FieldValue>>, AllocError>
-    requires acts { order.now.plan.action ≡ Action.OnSelected (Conditional.Resize sign to.now from.now len from_len) }
+    requires acts { order.now.plan.action ≡ Action.OnSelected (Conditional.Resize sign to.now from.now bits from_bits) }
     requires fit { IsFit order.now.plan.axes order.now.plan.action }
     ensures values { IfOk result (λ values. IfSome values (λ values. values.items ≡ left_values order.now)) }
-    ensures planes { IfOk result (λ values. is_some values ≡ nat_le from_len (key_width order.now.plan (Field from.now.field))) }
+    ensures planes { IfOk result (λ values. is_some values ≡ nat_le from_bits (key_width order.now.plan (Field from.now.field))) }
 {
     let x = order.input(&Key::Field(from.field));
-    if from_len > x.width() {
+    if from_bits > x.width() {
         return Ok(None);
     }
-    let resized = extend(alloc, sign, x, from_len, len)?;
+    let resized = extend(alloc, sign, x, from_bits, bits)?;
     Ok(Some(put_overflowing(alloc, order, to, resized)?))
 }
 
@@ -222,9 +222,9 @@ fn compare_values(
     comparison: Comparison,
     left: &Operand,
     right: &Operand,
-    len: u64,
+    bits: u64,
 ) -> Result<Vec<FieldValue>, AllocError>
-    requires acts { order.now.plan.action ≡ Action.OnSelected (Conditional.Compare comparison left.now right.now len) }
+    requires acts { order.now.plan.action ≡ Action.OnSelected (Conditional.Compare comparison left.now right.now bits) }
     requires fit { IsFit order.now.plan.axes order.now.plan.action }
     ensures { IfOk result (λ values. values.items ≡ left_values order.now) }
 {
@@ -234,7 +234,7 @@ fn compare_values(
         alloc,
         order,
         &FlagName::Test,
-        compare(alloc, comparison, x, y, len)?,
+        compare(alloc, comparison, x, y, bits)?,
     )
 }
 

@@ -17,10 +17,10 @@ use std::marker::Model;
 /// An order for a row: its plan, and a value for each key that the plan reads. A clause sees the task.
 #[derive(Debug, Drop)]
 pub struct Order {
-    row: RowId,
-    issue: Edition,
-    work: Plan,
-    values: Vec<FieldValue>,
+    id: RowId,
+    edition: Edition,
+    plan: Plan,
+    inputs: Vec<FieldValue>,
 }
 
 impl Model for Order {
@@ -29,9 +29,9 @@ impl Model for Order {
 
     ghost Value = { Task };
 
-    ghost view = { λ a. record { id = a.row; edition = a.issue; plan = a.work; inputs = a.values.items } };
+    ghost view = { λ a. record { id = a.id; edition = a.edition; plan = a.plan; inputs = a.inputs.items } };
 
-    ghost invariant = { λ a. fits a.work a.values.items ≡ true };
+    ghost invariant = { λ a. fits a.plan a.inputs.items ≡ true };
 }
 
 /// What an instruction gives: a value for each key that its plan writes, in order, or why it was refused.
@@ -45,7 +45,7 @@ pub enum Outcome {
 #[derive(Debug, Drop)]
 pub struct Done {
     task: Order,
-    result: Outcome,
+    outcome: Outcome,
 }
 
 impl Model for Done {
@@ -56,7 +56,7 @@ impl Model for Done {
 
     ghost view = { λ a. a.task };
 
-    ghost invariant = { λ a. a.result ≡ task_outcome a.task };
+    ghost invariant = { λ a. a.outcome ≡ task_outcome a.task };
 }
 
 /// The value beside a key.
@@ -117,10 +117,10 @@ impl Order {
             return None;
         }
         Some(Order {
-            row: id,
-            issue: edition,
-            work: plan,
-            values: inputs,
+            id,
+            edition,
+            plan,
+            inputs,
         })
     }
 
@@ -128,21 +128,21 @@ impl Order {
     pub fn id(&self) -> RowId
         ensures { result ≡ self.now.id }
     {
-        self.row
+        self.id
     }
 
     /// The edition of the row that it is for.
     pub fn edition(&self) -> Edition
         ensures { result ≡ self.now.edition }
     {
-        self.issue
+        self.edition
     }
 
     /// The plan.
     pub fn plan(&self) -> &Plan
         ensures { result.now ≡ self.now.plan }
     {
-        &self.work
+        &self.plan
     }
 
     /// The inputs, in the order of `Plan::reads`.
@@ -150,7 +150,7 @@ impl Order {
         ensures value { result.now ≡ self.now.inputs }
         ensures fit { fits self.now.plan self.now.inputs ≡ true }
     {
-        self.values.as_slice()
+        self.inputs.as_slice()
     }
 
     /// The input at a key that the plan reads.
@@ -159,7 +159,7 @@ impl Order {
         ensures value { result.now ≡ field_of self.now.plan key.now (value_at (reads self.now.plan) (numbers_of self.now.inputs) key.now) }
         ensures count { length result.now.numbers ≡ processor_count self.now.plan.axes }
     {
-        match value_beside(self.work.reads(), self.values.as_slice(), key) {
+        match value_beside(self.plan.reads(), self.inputs.as_slice(), key) {
             Some(value) => value,
             None => unreachable!(),
         }
@@ -169,13 +169,13 @@ impl Order {
     pub fn copy(&self) -> Result<Order, AllocError>
         ensures { IfOk result (λ order. order ≡ self.now) }
     {
-        let plan = self.work.copy()?;
-        let values = copies(*self.values.allocator(), self.values.as_slice())?;
+        let plan = self.plan.copy()?;
+        let inputs = copies(*self.inputs.allocator(), self.inputs.as_slice())?;
         Ok(Order {
-            row: self.row,
-            issue: self.issue,
-            work: plan,
-            values,
+            id: self.id,
+            edition: self.edition,
+            plan,
+            inputs,
         })
     }
 }
@@ -203,7 +203,7 @@ impl Done {
     {
         Done {
             task: order,
-            result: outcome,
+            outcome,
         }
     }
 
@@ -218,7 +218,7 @@ impl Done {
     pub fn outcome(&self) -> &Outcome
         ensures { result.now ≡ task_outcome self.now }
     {
-        &self.result
+        &self.outcome
     }
 
     /// What the instruction leaves at a key that its plan writes: of a refused one, the value that was read.
@@ -227,7 +227,7 @@ impl Done {
         ensures value { result.now ≡ task_value self.now key.now }
         ensures count { length result.now.numbers ≡ processor_count self.now.plan.axes }
     {
-        match &self.result {
+        match &self.outcome {
             Outcome::Values(values) => {
                 match value_beside(self.task.plan().writes(), values.as_slice(), key) {
                     Some(value) => value,
@@ -243,7 +243,7 @@ impl Done {
         ensures { IfOk result (λ done. done ≡ self.now) }
     {
         let task = self.task.copy()?;
-        let result = self.result.copy(*self.task.values.allocator())?;
-        Ok(Done { task, result })
+        let outcome = self.outcome.copy(*self.task.inputs.allocator())?;
+        Ok(Done { task, outcome })
     }
 }

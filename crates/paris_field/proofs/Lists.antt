@@ -31,17 +31,17 @@ unfolding numbers
 numbers_more k ps = map-range_with_len_more (number_at ps) 0 k k (omega arith)
 
 -- a merge at one place
-merged_at : (b : Bool) (old new other : List (List Bool)) (len v : ℕ) → len ≤ length old → len ≤ length other → number_at (take len new) v ≡ cond b (number_at (take len other) v) (number_at (take len old) v) → drop len new ≡ drop len old → number_at new v ≡ cond b (put (number_at old v) (number_at other v) len) (number_at old v)
-merged_at true old new other len v ho hx low high = number_at_put old new other len v ho hx low high
-merged_at false old new other len v ho hx low high =
-    omega (arith, number_at_split new len v, number_at_split old len v, low, ap (λ ps. 2 ^ len * number_at ps v) high)
+merged_at : (b : Bool) (old new other : List (List Bool)) (bits v : ℕ) → bits ≤ length old → bits ≤ length other → number_at (take bits new) v ≡ cond b (number_at (take bits other) v) (number_at (take bits old) v) → drop bits new ≡ drop bits old → number_at new v ≡ cond b (put (number_at old v) (number_at other v) bits) (number_at old v)
+merged_at true old new other bits v ho hx low high = number_at_put old new other bits v ho hx low high
+merged_at false old new other bits v ho hx low high =
+    omega (arith, number_at_split new bits v, number_at_split old bits v, low, ap (λ ps. 2 ^ bits * number_at ps v) high)
 
 -- a merge of planes is a store under the mask
-pub merged_are : (n len : ℕ) (old new other : List (List Bool)) (xs : List ℕ) (mask : List Bool) → numbers n old ≡ xs → length mask ≡ length xs → len ≤ length old → len ≤ length other → ((v : ℕ) → v < length mask → number_at (take len new) v ≡ cond (get_or mask v false) (number_at (take len other) v) (number_at (take len old) v)) → drop len new ≡ drop len old
-    → numbers n new ≡ stored (length xs) (λ v. get_or mask v false) (λ v. get_or xs v 0) len (number_at other)
-merged_are n len old new other xs mask is_xs xm ho hx low high =
+pub merged_are : (n bits : ℕ) (old new other : List (List Bool)) (xs : List ℕ) (mask : List Bool) → numbers n old ≡ xs → length mask ≡ length xs → bits ≤ length old → bits ≤ length other → ((v : ℕ) → v < length mask → number_at (take bits new) v ≡ cond (get_or mask v false) (number_at (take bits other) v) (number_at (take bits old) v)) → drop bits new ≡ drop bits old
+    → numbers n new ≡ stored (length xs) (λ v. get_or mask v false) (λ v. get_or xs v 0) bits (number_at other)
+merged_are n bits old new other xs mask is_xs xm ho hx low high =
     let nx : length xs ≡ n = count_of old is_xs in
     numbers_are n new _ (length-map-range_with_len _ 0 (length xs) ∙ nx) (λ v h.
-    merged_at (get_or mask v false) old new other len v ho hx (low v (omega arith)) high
-    ∙ ap (λ x. cond (get_or mask v false) (put x (number_at other v) len) x) (sym (number_of old is_xs v h))
+    merged_at (get_or mask v false) old new other bits v ho hx (low v (omega arith)) high
+    ∙ ap (λ x. cond (get_or mask v false) (put x (number_at other v) bits) x) (sym (number_of old is_xs v h))
     ∙ sym (get_or-map-range_with_len _ 0 (length xs) v v 0 (omega arith) (omega arith)))

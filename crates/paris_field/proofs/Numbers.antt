@@ -177,9 +177,9 @@ same_numbers n ps qs all_ps all_qs long each =
     bit_same _ _ (sym (bit_of_number ps k v h) ∙ ap (λ t. t / 2 ^ k % 2) (each v (omega arith)) ∙ bit_of_number qs k v below)))
 
 -- planes of which the low are others' and the high stay
-pub number_at_put : (old new other : List (List Bool)) (len v : ℕ) → len ≤ length old → len ≤ length other → number_at (take len new) v ≡ number_at (take len other) v → drop len new ≡ drop len old → number_at new v ≡ put (number_at old v) (number_at other v) len
-number_at_put old new other len v ho hx low high =
-    omega (arith, number_at_split new len v, number_at_split old len v, number_at_low old len v ho, number_at_low other len v hx, low, ap (λ ps. 2 ^ len * number_at ps v) high)
+pub number_at_put : (old new other : List (List Bool)) (bits v : ℕ) → bits ≤ length old → bits ≤ length other → number_at (take bits new) v ≡ number_at (take bits other) v → drop bits new ≡ drop bits old → number_at new v ≡ put (number_at old v) (number_at other v) bits
+number_at_put old new other bits v ho hx low high =
+    omega (arith, number_at_split new bits v, number_at_split old bits v, number_at_low old bits v ho, number_at_low other bits v hx, low, ap (λ ps. 2 ^ bits * number_at ps v) high)
 
 pub zero_bit_in : (n v : ℕ) → bit_in (replicate n false) v ≡ 0
 zero_bit_in zero v = refl

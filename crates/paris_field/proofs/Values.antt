@@ -43,10 +43,10 @@ pub all_of : (n m : ℕ) (ps qs : List (List Bool)) → qs ≡ ps → n ≡ m �
 all_of n m ps qs e same all k h =
     ap (λ l. length (plane_at l k)) e ∙ all k (subst (λ l. k < length l) e h) ∙ same
 
-pub all_taken : (n len : ℕ) (ps : List (List Bool)) → len ≤ length ps → AllOf n ps → AllOf n (take len ps)
-all_taken n len ps room all k h =
-    let below : k < len = omega (arith, h, length-take-le len ps room) in
-    ap length (get_or-take len ps k [] below) ∙ all k (omega arith)
+pub all_taken : (n bits : ℕ) (ps : List (List Bool)) → bits ≤ length ps → AllOf n ps → AllOf n (take bits ps)
+all_taken n bits ps room all k h =
+    let below : k < bits = omega (arith, h, length-take-le bits ps room) in
+    ap length (get_or-take bits ps k [] below) ∙ all k (omega arith)
 
 pub all_replicated : (n k : ℕ) → AllOf n (replicate k (replicate n false))
 all_replicated n k j h =

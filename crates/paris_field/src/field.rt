@@ -208,15 +208,15 @@ impl FieldValue {
         self.planes.as_slice()
     }
 
-    /// The planes of the low `len` bits.
-    pub fn low(&self, len: u64) -> &[Plane]
-        requires { len ≤ self.now.width }
-        ensures count { length result.now ≡ len }
+    /// The planes of the low `bits` bits.
+    pub fn low(&self, bits: u64) -> &[Plane]
+        requires { bits ≤ self.now.width }
+        ensures count { length result.now ≡ bits }
         ensures long { AllOf (length self.now.numbers) result.now }
-        ensures at { (v : ℕ) → v < length self.now.numbers → number_at result.now v ≡ low len (slice_index self.now.numbers v) }
+        ensures at { (v : ℕ) → v < length self.now.numbers → number_at result.now v ≡ low bits (slice_index self.now.numbers v) }
         ensures fit { AllFit self.now.width self.now.numbers }
     {
-        &self.planes[..len as usize]
+        &self.planes[..bits as usize]
     }
 
     /// The plane of bit k.
@@ -236,17 +236,17 @@ impl FieldValue {
         &self.planes[0]
     }
 
-    /// Puts the low `len` bits of the numbers that `other` holds where the mask is 1. Where it is 0 nothing changes.
-    pub fn merge_in(&mut self, mask: &Plane, other: &[Plane], len: u64)
-        requires room { len ≤ self.old.width }
-        requires there { len ≤ length other.now }
+    /// Puts the low `bits` bits of the numbers that `other` holds where the mask is 1. Where it is 0 nothing changes.
+    pub fn merge_in(&mut self, mask: &Plane, other: &[Plane], bits: u64)
+        requires room { bits ≤ self.old.width }
+        requires there { bits ≤ length other.now }
         requires mask { length mask.now ≡ length self.old.numbers }
         requires others { AllOf (length self.old.numbers) other.now }
         ensures width { self.new.width ≡ self.old.width }
         ensures count { length self.new.numbers ≡ length self.old.numbers }
-        ensures numbers { self.new.numbers ≡ stored (length self.old.numbers) (λ v. slice_index_or mask.now v false) (slice_index self.old.numbers) len (number_at other.now) }
+        ensures numbers { self.new.numbers ≡ stored (length self.old.numbers) (λ v. slice_index_or mask.now v false) (slice_index self.old.numbers) bits (number_at other.now) }
     {
-        merge_planes(&mut self.planes, mask, other, len as usize);
+        merge_planes(&mut self.planes, mask, other, bits as usize);
     }
 }
 

@@ -57,17 +57,17 @@ pub fn copy_planes(alloc: Global, planes: &[Plane]) -> Result<Vec<Plane>, AllocE
     Ok(copies)
 }
 
-/// Takes the low `len` bits of `other` where the mask is 1.
-pub fn merge_planes(planes: &mut [Plane], mask: &Plane, other: &[Plane], len: usize)
-    requires room { len ≤ length planes.old }
-    requires there { len ≤ length other.now }
+/// Takes the low `bits` bits of `other` where the mask is 1.
+pub fn merge_planes(planes: &mut [Plane], mask: &Plane, other: &[Plane], bits: usize)
+    requires room { bits ≤ length planes.old }
+    requires there { bits ≤ length other.now }
     requires planes { AllOf (length mask.now) planes.old }
     requires others { AllOf (length mask.now) other.now }
     ensures planes { AllOf (length mask.now) planes.new }
-    ensures low { (v : ℕ) → v < length mask.now → number_at (take len planes.new) v ≡ cond (slice_index_or mask.now v false) (number_at (take len other.now) v) (number_at (take len planes.old) v) }
-    ensures high { drop len planes.new ≡ drop len planes.old }
+    ensures low { (v : ℕ) → v < length mask.now → number_at (take bits planes.new) v ≡ cond (slice_index_or mask.now v false) (number_at (take bits other.now) v) (number_at (take bits planes.old) v) }
+    ensures high { drop bits planes.new ≡ drop bits planes.old }
 {
-    for k in 0..len {
+    for k in 0..bits {
         planes[k].select_in(mask, &other[k]);
     }
 }

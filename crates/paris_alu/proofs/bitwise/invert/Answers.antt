@@ -15,4 +15,4 @@ returns c =
     let n : ℕ = length c.args.x.now.numbers in
     let xs : List (List Bool) = c.low.result.now in
     c.from_planes.ensures ∙ ap (λ (m : ℕ). field_of m c.in_ok-planes.planes.items) c.len.ensures ∙ ap (field_of n) c.in_ok-planes.ensures
-    ∙ inverted_field n c.args.len (operand c.args.len c.args.x.now) xs (held n n c.args.len (operand c.args.len c.args.x.now) xs refl c.low.ensures.count c.low.ensures.long c.low.ensures.at)
+    ∙ inverted_field n c.args.bits (operand c.args.bits c.args.x.now) xs (held n n c.args.bits (operand c.args.bits c.args.x.now) xs refl c.low.ensures.count c.low.ensures.long c.low.ensures.at)

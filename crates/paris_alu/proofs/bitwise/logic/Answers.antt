@@ -15,7 +15,7 @@ use Rattle.paris_alu.proofs.bitwise.logic.Goals as goal
 pub returns-in-And : goal.returns-in-And
 returns-in-And c =
     let n : ℕ = length c.args.x.now.numbers in
-    let L : ℕ = c.args.len in
+    let L : ℕ = c.args.bits in
     let f : ℕ → ℕ = operand L c.args.x.now in
     let g : ℕ → ℕ = operand L c.args.y.now in
     let xs : List (List Bool) = c.low-xs.result.now in
@@ -34,7 +34,7 @@ returns-in-And c =
 pub returns-in-Or : goal.returns-in-Or
 returns-in-Or c =
     let n : ℕ = length c.args.x.now.numbers in
-    let L : ℕ = c.args.len in
+    let L : ℕ = c.args.bits in
     let f : ℕ → ℕ = operand L c.args.x.now in
     let g : ℕ → ℕ = operand L c.args.y.now in
     let xs : List (List Bool) = c.low-xs.result.now in
@@ -53,7 +53,7 @@ returns-in-Or c =
 pub returns-in-Xor : goal.returns-in-Xor
 returns-in-Xor c =
     let n : ℕ = length c.args.x.now.numbers in
-    let L : ℕ = c.args.len in
+    let L : ℕ = c.args.bits in
     let f : ℕ → ℕ = operand L c.args.x.now in
     let g : ℕ → ℕ = operand L c.args.y.now in
     let xs : List (List Bool) = c.low-xs.result.now in

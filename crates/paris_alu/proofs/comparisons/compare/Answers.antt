@@ -10,7 +10,7 @@ use Rattle.paris_alu.proofs.comparisons.compare.Goals as goal
 pub returns-in_ok-unlike-in-Equal : goal.returns-in_ok-unlike-in-Equal
 returns-in_ok-unlike-in-Equal c =
     let n : ℕ = length c.args.x.now.numbers in
-    let L : ℕ = c.args.len in
+    let L : ℕ = c.args.bits in
     let f : ℕ → ℕ = operand L c.args.x.now in
     let g : ℕ → ℕ = operand L c.args.y.now in
     let xs : List (List Bool) = c.low-xs.result.now in
@@ -23,7 +23,7 @@ returns-in_ok-unlike-in-Equal c =
 pub returns-in-NotEqual : goal.returns-in-NotEqual
 returns-in-NotEqual c =
     let n : ℕ = length c.args.x.now.numbers in
-    let L : ℕ = c.args.len in
+    let L : ℕ = c.args.bits in
     let f : ℕ → ℕ = operand L c.args.x.now in
     let g : ℕ → ℕ = operand L c.args.y.now in
     let xs : List (List Bool) = c.low-xs.result.now in
@@ -36,7 +36,7 @@ returns-in-NotEqual c =
 pub returns-in-Less : goal.returns-in-Less
 returns-in-Less c =
     let n : ℕ = length c.args.x.now.numbers in
-    let L : ℕ = c.args.len in
+    let L : ℕ = c.args.bits in
     let f : ℕ → ℕ = operand L c.args.x.now in
     let g : ℕ → ℕ = operand L c.args.y.now in
     let xs : List (List Bool) = c.low-xs.result.now in
@@ -49,7 +49,7 @@ returns-in-Less c =
 pub returns-in_ok-less-in-LessOrEqual : goal.returns-in_ok-less-in-LessOrEqual
 returns-in_ok-less-in-LessOrEqual c =
     let n : ℕ = length c.args.x.now.numbers in
-    let L : ℕ = c.args.len in
+    let L : ℕ = c.args.bits in
     let f : ℕ → ℕ = operand L c.args.x.now in
     let g : ℕ → ℕ = operand L c.args.y.now in
     let xs : List (List Bool) = c.low-xs.result.now in
@@ -62,7 +62,7 @@ returns-in_ok-less-in-LessOrEqual c =
 pub returns-in-Greater : goal.returns-in-Greater
 returns-in-Greater c =
     let n : ℕ = length c.args.x.now.numbers in
-    let L : ℕ = c.args.len in
+    let L : ℕ = c.args.bits in
     let f : ℕ → ℕ = operand L c.args.x.now in
     let g : ℕ → ℕ = operand L c.args.y.now in
     let xs : List (List Bool) = c.low-xs.result.now in
@@ -75,7 +75,7 @@ returns-in-Greater c =
 pub returns-in_ok-less-in-GreaterOrEqual : goal.returns-in_ok-less-in-GreaterOrEqual
 returns-in_ok-less-in-GreaterOrEqual c =
     let n : ℕ = length c.args.x.now.numbers in
-    let L : ℕ = c.args.len in
+    let L : ℕ = c.args.bits in
     let f : ℕ → ℕ = operand L c.args.x.now in
     let g : ℕ → ℕ = operand L c.args.y.now in
     let xs : List (List Bool) = c.low-xs.result.now in

@@ -17,7 +17,7 @@ selected-requires-clause-y_planes c = λ k h. c.low-ys.ensures.long k h ∙ sym 
 pub returns : goal.returns
 returns c =
     let n : ℕ = length c.args.x.now.numbers in
-    let L : ℕ = c.args.len in
+    let L : ℕ = c.args.bits in
     let f : ℕ → ℕ = operand L c.args.x.now in
     let g : ℕ → ℕ = operand L c.args.y.now in
     let xs : List (List Bool) = c.low-xs.result.now in

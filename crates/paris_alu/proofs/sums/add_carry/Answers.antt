@@ -9,7 +9,7 @@ use Rattle.paris_alu.proofs.sums.add_carry.Goals as goal
 pub returns : goal.returns
 returns c =
     let n : ℕ = length c.args.x.now.numbers in
-    let L : ℕ = c.args.len in
+    let L : ℕ = c.args.bits in
     let f : ℕ → ℕ = operand L c.args.x.now in
     let g : ℕ → ℕ = operand L c.args.y.now in
     let xs : List (List Bool) = c.low-xs.result.now in

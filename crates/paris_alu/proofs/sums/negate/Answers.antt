@@ -10,7 +10,7 @@ use Rattle.paris_alu.proofs.sums.negate.Goals as goal
 pub and_in-requires : goal.and_in-requires
 and_in-requires c =
     let n : ℕ = length c.args.x.now.numbers in
-    let L : ℕ = c.args.len in
+    let L : ℕ = c.args.bits in
     let xs : List (List Bool) = c.low-xs.result.now in
     let ds : List (List Bool) = c.in_ok-planes.planes.items in
     let nb : length c.in_ok-borrow.borrow ≡ n = ap length c.in_ok-borrow.ensures ∙ length-replicate c.len-vps.result false ∙ c.len-vps.ensures in
@@ -23,7 +23,7 @@ and_in-requires c =
 pub returns : goal.returns
 returns c =
     let n : ℕ = length c.args.x.now.numbers in
-    let L : ℕ = c.args.len in
+    let L : ℕ = c.args.bits in
     let f : ℕ → ℕ = operand L c.args.x.now in
     let xs : List (List Bool) = c.low-xs.result.now in
     let ds : List (List Bool) = c.in_ok-planes.planes.items in

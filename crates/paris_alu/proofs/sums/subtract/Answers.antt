@@ -10,22 +10,22 @@ pub overflow-requires-clause-x : goal.overflow-requires-clause-x
 overflow-requires-clause-x c =
     let n : ℕ = length c.args.x.now.numbers in
     let none : c.in_ok-borrow.borrow ≡ replicate n false = c.in_ok-borrow.ensures ∙ ap (λ (m : ℕ). replicate m false) c.len-vps.ensures in
-    last_long c.args.len c.in_ok-planes.planes.items c.index.result.now c.requires.some (c.in_ok-planes.ensures.count ∙ c.low-xs.ensures.count) c.in_ok-planes.ensures.planes c.index.ensures
+    last_long c.args.bits c.in_ok-planes.planes.items c.index.result.now c.requires.some (c.in_ok-planes.ensures.count ∙ c.low-xs.ensures.count) c.in_ok-planes.ensures.planes c.index.ensures
     ∙ ap length none ∙ length-replicate n false
-    ∙ sym (last_long c.args.len c.low-xs.result.now c.index-xs-top.result c.requires.some c.low-xs.ensures.count c.low-xs.ensures.long c.index-xs-top.is)
+    ∙ sym (last_long c.args.bits c.low-xs.result.now c.index-xs-top.result c.requires.some c.low-xs.ensures.count c.low-xs.ensures.long c.index-xs-top.is)
 
 pub overflow-requires-clause-y : goal.overflow-requires-clause-y
 overflow-requires-clause-y c =
     let n : ℕ = length c.args.x.now.numbers in
     let none : c.in_ok-borrow.borrow ≡ replicate n false = c.in_ok-borrow.ensures ∙ ap (λ (m : ℕ). replicate m false) c.len-vps.ensures in
-    last_long c.args.len c.in_ok-planes.planes.items c.index.result.now c.requires.some (c.in_ok-planes.ensures.count ∙ c.low-xs.ensures.count) c.in_ok-planes.ensures.planes c.index.ensures
+    last_long c.args.bits c.in_ok-planes.planes.items c.index.result.now c.requires.some (c.in_ok-planes.ensures.count ∙ c.low-xs.ensures.count) c.in_ok-planes.ensures.planes c.index.ensures
     ∙ ap length none ∙ length-replicate n false ∙ c.requires.same
-    ∙ sym (last_long c.args.len c.low-ys.result.now c.index-ys-top.result c.requires.some c.low-ys.ensures.count c.low-ys.ensures.long c.index-ys-top.is)
+    ∙ sym (last_long c.args.bits c.low-ys.result.now c.index-ys-top.result c.requires.some c.low-ys.ensures.count c.low-ys.ensures.long c.index-ys-top.is)
 
 pub returns : goal.returns
 returns c =
     let n : ℕ = length c.args.x.now.numbers in
-    let L : ℕ = c.args.len in
+    let L : ℕ = c.args.bits in
     let f : ℕ → ℕ = operand L c.args.x.now in
     let g : ℕ → ℕ = operand L c.args.y.now in
     let xs : List (List Bool) = c.low-xs.result.now in

@@ -12,20 +12,20 @@ from_planes-requires-clause-long c =
     let n : ℕ = length c.args.x.now.numbers in
     let xs : List (List Bool) = c.low-xs.result.now in
     let kept : ℕ = c.min-kept.result in
-    let which = shorter c.args.from_len c.args.len kept c.min-kept.ensures in
-    let within = kept_le c.args.from_len c.args.len kept which in
-    let some = kept_some c.args.from_len c.args.len kept c.requires.from_some c.requires.some which in
+    let which = shorter c.args.from_bits c.args.bits kept c.min-kept.ensures in
+    let within = kept_le c.args.from_bits c.args.bits kept which in
+    let some = kept_some c.args.from_bits c.args.bits kept c.requires.from_some c.requires.some which in
     let inx : kept - 1 < length xs = omega (arith, some, within.0, c.low-xs.ensures.count) in
     let et : c.index-xs-kept.result ≡ plane_at xs (kept - 1) = get_or_read xs (kept - 1) c.index-xs-kept.result inx c.index-xs-kept.is [] in
     let lr : length c.in_ok-rest.rest ≡ n = ap length c.in_ok-rest.ensures ∙ rest_long c.args.sign c.index-xs-kept.result ∙ ap length et ∙ c.low-xs.ensures.long (kept - 1) inx in
     subst (λ (m : ℕ). AllOf m c.in_ok-planes.planes.items) (sym c.len-vps.ensures)
-    (all_extended n kept c.args.len xs c.in_ok-planes.planes.items c.in_ok-rest.rest (omega (arith, within.0, c.low-xs.ensures.count)) c.low-xs.ensures.long lr c.in_ok-planes.ensures)
+    (all_extended n kept c.args.bits xs c.in_ok-planes.planes.items c.in_ok-rest.rest (omega (arith, within.0, c.low-xs.ensures.count)) c.low-xs.ensures.long lr c.in_ok-planes.ensures)
 
 pub returns : goal.returns
 returns c =
     let n : ℕ = length c.args.x.now.numbers in
-    let M : ℕ = c.args.from_len in
-    let L : ℕ = c.args.len in
+    let M : ℕ = c.args.from_bits in
+    let L : ℕ = c.args.bits in
     let f : ℕ → ℕ = operand M c.args.x.now in
     let xs : List (List Bool) = c.low-xs.result.now in
     let zs : List (List Bool) = c.in_ok-planes.planes.items in

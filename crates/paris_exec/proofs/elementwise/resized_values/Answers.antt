@@ -8,19 +8,19 @@ use Rattle.paris_exec.proofs.elementwise.resized_values.Goals as goal
 
 pub input-x-requires : goal.input-x-requires
 input-x-requires c =
-    resize_source c.args.order.now c.args.sign c.args.to.now c.args.from.now c.args.len c.args.from_len c.requires.acts
+    resize_source c.args.order.now c.args.sign c.args.to.now c.args.from.now c.args.bits c.args.from_bits c.requires.acts
 
 pub put_overflowing-requires-clause-read : goal.put_overflowing-requires-clause-read
 put_overflowing-requires-clause-read c =
-    resize_read c.args.order.now c.args.sign c.args.to.now c.args.from.now c.args.len c.args.from_len c.requires.acts
+    resize_read c.args.order.now c.args.sign c.args.to.now c.args.from.now c.args.bits c.args.from_bits c.requires.acts
 
 pub put_overflowing-requires-clause-short : goal.put_overflowing-requires-clause-short
 put_overflowing-requires-clause-short c =
-    subst (λ (y : FieldNumbers). y.width ≤ key_width c.args.order.now.plan (Field c.args.to.now.field)) (sym c.in_ok-resized.ensures.value) (resize_to c.args.order.now c.args.sign c.args.to.now c.args.from.now c.args.len c.args.from_len c.requires.acts c.requires.fit)
+    subst (λ (y : FieldNumbers). y.width ≤ key_width c.args.order.now.plan (Field c.args.to.now.field)) (sym c.in_ok-resized.ensures.value) (resize_to c.args.order.now c.args.sign c.args.to.now c.args.from.now c.args.bits c.args.from_bits c.requires.acts c.requires.fit)
 
 pub put_overflowing-requires-clause-count : goal.put_overflowing-requires-clause-count
 put_overflowing-requires-clause-count c =
-    numbers_count c.in_ok-resized.resized.value c.args.len (length c.input-x.result.now.numbers) _ _ c.in_ok-resized.ensures.value c.input-x.ensures.count
+    numbers_count c.in_ok-resized.resized.value c.args.bits (length c.input-x.result.now.numbers) _ _ c.in_ok-resized.ensures.value c.input-x.ensures.count
 
 pub put_overflowing-requires-clause-flags : goal.put_overflowing-requires-clause-flags
 put_overflowing-requires-clause-flags c =
@@ -28,4 +28,4 @@ put_overflowing-requires-clause-flags c =
 
 pub returns-clause-values : goal.returns-clause-values
 returns-clause-values c =
-    c.in_ok-put_overflowing.ensures ∙ resize_left c.args.order.now c.args.sign c.args.to.now c.args.from.now c.args.len c.args.from_len c.requires.acts c.input-x.result.now c.input-x.ensures.value c.input-x.ensures.count c.in_ok-resized.resized.value c.in_ok-resized.resized.overflow c.in_ok-resized.ensures.value c.in_ok-resized.ensures.overflow
+    c.in_ok-put_overflowing.ensures ∙ resize_left c.args.order.now c.args.sign c.args.to.now c.args.from.now c.args.bits c.args.from_bits c.requires.acts c.input-x.result.now c.input-x.ensures.value c.input-x.ensures.count c.in_ok-resized.resized.value c.in_ok-resized.resized.overflow c.in_ok-resized.ensures.value c.in_ok-resized.ensures.overflow

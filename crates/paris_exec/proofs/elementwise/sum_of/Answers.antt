@@ -10,17 +10,17 @@ use Rattle.paris_exec.proofs.elementwise.sum_of.Goals as goal
 pub returns-in_ok-add_carry-in-UnsignedAddCarry-clause-value : goal.returns-in_ok-add_carry-in-UnsignedAddCarry-clause-value
 returns-in_ok-add_carry-in-UnsignedAddCarry-clause-value c =
     c.in_ok-add_carry-in-UnsignedAddCarry.ensures.value
-    ∙ ap (λ (f : ℕ → ℕ). binary_field UnsignedAddCarry c.args.len c.args.x.now c.args.y.now f) (carry_seen c.flag_plane-carry.result.now (seen_at c.args.order.now (Flag c.args.order.now.plan.set_no Carry)) c.flag_plane-carry.ensures.bits)
+    ∙ ap (λ (f : ℕ → ℕ). binary_field UnsignedAddCarry c.args.bits c.args.x.now c.args.y.now f) (carry_seen c.flag_plane-carry.result.now (seen_at c.args.order.now (Flag c.args.order.now.plan.set_no Carry)) c.flag_plane-carry.ensures.bits)
     ∙ rw c.in-UnsignedAddCarry.is refl
 
 pub returns-in_ok-add_carry-in-UnsignedAddCarry-clause-carry : goal.returns-in_ok-add_carry-in-UnsignedAddCarry-clause-carry
 returns-in_ok-add_carry-in-UnsignedAddCarry-clause-carry c =
     c.in_ok-add_carry-in-UnsignedAddCarry.ensures.carry
-    ∙ ap (λ (f : ℕ → ℕ). carry_plane UnsignedAddCarry c.args.len c.args.x.now c.args.y.now f) (carry_seen c.flag_plane-carry.result.now (seen_at c.args.order.now (Flag c.args.order.now.plan.set_no Carry)) c.flag_plane-carry.ensures.bits)
+    ∙ ap (λ (f : ℕ → ℕ). carry_plane UnsignedAddCarry c.args.bits c.args.x.now c.args.y.now f) (carry_seen c.flag_plane-carry.result.now (seen_at c.args.order.now (Flag c.args.order.now.plan.set_no Carry)) c.flag_plane-carry.ensures.bits)
     ∙ rw c.in-UnsignedAddCarry.is refl
 
 pub returns-in_ok-add_carry-in-UnsignedAddCarry-clause-overflow : goal.returns-in_ok-add_carry-in-UnsignedAddCarry-clause-overflow
 returns-in_ok-add_carry-in-UnsignedAddCarry-clause-overflow c =
     c.in_ok-add_carry-in-UnsignedAddCarry.ensures.overflow
-    ∙ ap (λ (f : ℕ → ℕ). overflow_plane UnsignedAddCarry c.args.len c.args.x.now c.args.y.now f) (carry_seen c.flag_plane-carry.result.now (seen_at c.args.order.now (Flag c.args.order.now.plan.set_no Carry)) c.flag_plane-carry.ensures.bits)
+    ∙ ap (λ (f : ℕ → ℕ). overflow_plane UnsignedAddCarry c.args.bits c.args.x.now c.args.y.now f) (carry_seen c.flag_plane-carry.result.now (seen_at c.args.order.now (Flag c.args.order.now.plan.set_no Carry)) c.flag_plane-carry.ensures.bits)
     ∙ rw c.in-UnsignedAddCarry.is refl

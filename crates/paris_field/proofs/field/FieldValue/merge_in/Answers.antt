@@ -28,7 +28,7 @@ returns-clause-count c = length-numbers c.self.inside.vps _ ∙ sym (vps_is c.se
 pub returns-clause-numbers : goal.returns-clause-numbers
 returns-clause-numbers c =
     ap (numbers c.self.inside.vps) (written _ c.merge_planes.new.planes _ (c.merge_planes.auto.planes ∙ c.deref_mut.ensures.len))
-    ∙ merged_are c.self.inside.vps c.args.len c.deref_mut.result.now c.merge_planes.new.planes c.args.other.now c.args.self.now.numbers c.args.mask.now
+    ∙ merged_are c.self.inside.vps c.args.bits c.deref_mut.result.now c.merge_planes.new.planes c.args.other.now c.args.self.now.numbers c.args.mask.now
     (ap (numbers c.self.inside.vps) c.deref_mut.ensures.value ∙ ap (λ (f : FieldNumbers). f.numbers) c.self.view_is)
     c.requires.mask
     (omega (arith, c.requires.room, ap length c.deref_mut.ensures.value, width_is c.self.inside.vps c.self.inside.planes.items c.self.view_is))
