@@ -28,6 +28,7 @@ use Rattle.paris_names.specs.declared.ids.Spot.TheVariants.{After}
 use Rattle.paris_names.specs.declared.names.KeyName.{KeyName}
 use Rattle.paris_names.specs.declared.faults.Fault.{Fault}
 use Rattle.paris_names.specs.declared.faults.Fault.TheVariants.{NoField, WrongCount, TooWide, NoRow}
+use Rattle.paris_names.specs.declared.limits.TheConstants.{MAX_EDITS}
 use Rattle.paris_board.specs.Board.{key_named}
 use Rattle.paris_instr.specs.Resolve.{IsFittedTo}
 use Rattle.paris_field.specs.Fields.{overwritten}
@@ -140,5 +141,5 @@ values_within count width from values h = by_test (eqb (length values) 0) (nat_l
     by_test false true e x = absurd (cc)
     by_test false false e x = not_less count (from + length values) e
 
-pub few_edits : (b : Board) (n m : ℕ) (inputs : Inputs) (es : List Entry) (s : State) → state_of b n m inputs es ≡ s → s.edits < 9223372036854775807 → n < 9223372036854775807
-few_edits b n m inputs es s y h = subst (λ (z : State). z.edits < 9223372036854775807) (sym y) h
+pub few_edits : (b : Board) (n m : ℕ) (inputs : Inputs) (es : List Entry) (s : State) → state_of b n m inputs es ≡ s → s.edits < MAX_EDITS → n < MAX_EDITS
+few_edits b n m inputs es s y h = subst (λ (z : State). z.edits < MAX_EDITS) (sym y) h

@@ -11,6 +11,7 @@ use Rattle.paris_names.specs.declared.keys.Key.TheVariants.{Field, Flag}
 use Rattle.paris_names.specs.declared.keys.FlagName.{FlagName}
 use Rattle.paris_names.specs.declared.keys.FlagName.TheVariants.{Context, Test, Carry, Overflow}
 use Rattle.paris_names.specs.Keys.{has_key, key_eq}
+use Rattle.paris_names.specs.declared.limits.TheConstants.{MAX_EDITS}
 use Rattle.paris_names.proofs.KeyLists.{key_eq-same}
 use Rattle.paris_geometry.specs.Geometry.{processor_count}
 use Rattle.paris_board.specs.Board.{Board, DeclaredField, DeclaredSet, is_declared, width_of, count_of, axes_of, field_at, with_set, with_field, AreFields, IsBoard}
@@ -126,7 +127,7 @@ module _ (n : ℕ) (d : Key → Bool) (old new : Inputs) (news : News n d old ne
       by_test k s h true e = let nothing : Option (ℕ × ℕ) = None in let wrong : nothing ≡ Some s = sym (ap shape_of (news.none k e)) ∙ h in absurd (cc)
       by_test k s h false e = ap shape_of (news.same k e) ∙ h
 
-  pub declare_whole : (b c : Board) (m : ℕ) (es : List Entry) → n < 9223372036854775807 → length new.fields ≡ length c.fields → length new.flags ≡ length c.sets → Shaped c new → IsWhole b n m old es → IsWhole c (n + 1) m new es
+  pub declare_whole : (b c : Board) (m : ℕ) (es : List Entry) → n < MAX_EDITS → length new.fields ≡ length c.fields → length new.flags ≡ length c.sets → Shaped c new → IsWhole b n m old es → IsWhole c (n + 1) m new es
   declare_whole b c m es few fields flags shaped w =
       let less : m ≤ n + 1 = w.next_few in
       let quiet = swept_quiet (n + 1) old d es news.none w.fitted in
@@ -251,7 +252,7 @@ module _ (b : Board) (n m : ℕ) (inputs : Inputs) (name axes : List ℕ) where
       by_test true e = given_shape k e ∙ sym (set_shape_new k many e)
       by_test false e = ap shape_of (set_news.same k e) ∙ shaped k ∙ sym (set_shape_old k board many e)
 
-pub set_whole : (b : Board) (n m : ℕ) (inputs : Inputs) (es : List Entry) (name axes : List ℕ) → n < 9223372036854775807 → IsBoard b → IsWhole b n m inputs es → IsWhole (with_set b name axes) (n + 1) m (with_flags b n m inputs name axes) es
+pub set_whole : (b : Board) (n m : ℕ) (inputs : Inputs) (es : List Entry) (name axes : List ℕ) → n < MAX_EDITS → IsBoard b → IsWhole b n m inputs es → IsWhole (with_set b name axes) (n + 1) m (with_flags b n m inputs name axes) es
 set_whole b n m inputs es name axes few board w =
     declare_whole n (is_new_flag (length inputs.flags)) inputs (with_flags b n m inputs name axes) (set_news b n m inputs name axes) b (with_set b name axes) m es few w.as_many_fields
     (length-push inputs.flags (declared_flags (n + 1) (processor_count axes)) ∙ ap (λ c. c + 1) w.as_many_flags ∙ sym (length-push b.sets (record { name = name; axes = axes })))
@@ -323,7 +324,7 @@ module _ (b : Board) (n m : ℕ) (inputs : Inputs) (name : List ℕ) (set width 
       by_test true e = given_shape k e ∙ sym (field_shape_new k many e)
       by_test false e = ap shape_of (field_news.same k e) ∙ shaped k ∙ sym (field_shape_old k many e)
 
-pub field_whole : (b : Board) (n m : ℕ) (inputs : Inputs) (es : List Entry) (name : List ℕ) (set width : ℕ) → n < 9223372036854775807 → IsWhole b n m inputs es → IsWhole (with_field b name set width) (n + 1) m (with_declared b n m inputs name set width) es
+pub field_whole : (b : Board) (n m : ℕ) (inputs : Inputs) (es : List Entry) (name : List ℕ) (set width : ℕ) → n < MAX_EDITS → IsWhole b n m inputs es → IsWhole (with_field b name set width) (n + 1) m (with_declared b n m inputs name set width) es
 field_whole b n m inputs es name set width few w =
     declare_whole n (is_new_field (length inputs.fields)) inputs (with_declared b n m inputs name set width) (field_news b n m inputs name set width) b (with_field b name set width) m es few
     (length-push inputs.fields (new_input b n m inputs name set width) ∙ ap (λ c. c + 1) w.as_many_fields ∙ sym (length-push b.fields (new_field b n m inputs name set width)))

@@ -4,6 +4,7 @@ use Rattle.std.proofs.lemmas.List.{take-map, drop-map, map-append}
 use Rattle.std.specs.List.{list_any}
 use Rattle.paris_names.specs.declared.keys.Key.{Key}
 use Rattle.paris_names.specs.Keys.{has_key}
+use Rattle.paris_names.specs.declared.limits.TheConstants.{MAX_EDITS}
 use Rattle.paris_board.specs.Board.{Board}
 use Rattle.paris_model.specs.Frame.{World}
 use Rattle.paris_model.specs.Instructions.{writes, one}
@@ -12,7 +13,8 @@ use Rattle.paris_machine.specs.State.{Row, Inputs, State, start_world, start_rec
 use Rattle.paris_machine.specs.Edits.{row_deleted}
 use Rattle.paris_book.specs.Kept.{ripen, Sound}
 use Rattle.paris_book.proofs.Swept.{swept, swept_entries}
-use Rattle.paris_book.specs.Whole.{RowsBelow, IdsApart, ids_of, AllFitted, IsWhole}
+use Rattle.paris_program.specs.Program.{ids_of}
+use Rattle.paris_book.specs.Whole.{RowsBelow, IdsApart, AllFitted, IsWhole}
 use Rattle.paris_book.specs.Entries.{Entry, plan_of, row_of}
 use Rattle.paris_book.proofs.Values.{sound_swept, swept_rows}
 use Rattle.paris_book.proofs.Origins.{ripe, sound-take}
@@ -50,7 +52,7 @@ sound_delete n w h es p e back x s =
     sound-join w h (take p es) (swept_entries n (has_key (writes e.1.plan)) back) (sound-take w h es p s)
     (sound_swept n (has_key (writes e.1.plan)) (one e.1.plan w') w' (ripen h' e) h' (agree_one_back e.1.plan w') (λ f t. sym (agree_ripen h' e f t)) back rest.1)
 
-pub delete_whole : (b : Board) (n m : ℕ) (inputs : Inputs) (es zs : List Entry) (p : ℕ) (e : Entry) (back : List Entry) → n < 9223372036854775807 → drop p es ≡ e ∷ back → IsWhole b n m inputs es → zs ≡ take p es ++ swept_entries (n + 1) (has_key (writes e.1.plan)) back
+pub delete_whole : (b : Board) (n m : ℕ) (inputs : Inputs) (es zs : List Entry) (p : ℕ) (e : Entry) (back : List Entry) → n < MAX_EDITS → drop p es ≡ e ∷ back → IsWhole b n m inputs es → zs ≡ take p es ++ swept_entries (n + 1) (has_key (writes e.1.plan)) back
     → IsWhole b (n + 1) m inputs zs
 delete_whole b n m inputs es zs p e back few x w z =
     let d : Key → Bool = has_key (writes e.1.plan) in

@@ -12,7 +12,8 @@ use Rattle.paris_machine.specs.State.{Row}
 use Rattle.paris_machine.specs.Edits.{Known, row_recipe, past_row, known, unsettled, judged, set_first}
 use Rattle.paris_depends.specs.Changes.{Differ}
 use Rattle.paris_book.proofs.Swept.{swept}
-use Rattle.paris_book.specs.Whole.{RowsBelow, ids_of}
+use Rattle.paris_program.specs.Program.{ids_of}
+use Rattle.paris_book.specs.Whole.{RowsBelow}
 use Rattle.paris_book.specs.Marks.{writes_either}
 use Rattle.paris_book.specs.Entries.{Entry, row_of}
 use Rattle.paris_depends.proofs.Recipes.{same_self}

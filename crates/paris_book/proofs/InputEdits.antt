@@ -9,6 +9,7 @@ use Rattle.paris_names.specs.declared.keys.Key.TheVariants.{Field, Flag}
 use Rattle.paris_names.specs.declared.keys.FlagName.{FlagName}
 use Rattle.paris_names.specs.declared.keys.FlagName.TheVariants.{Context, Test, Carry, Overflow}
 use Rattle.paris_names.specs.Keys.{has_key, key_eq}
+use Rattle.paris_names.specs.declared.limits.TheConstants.{MAX_EDITS}
 use Rattle.paris_names.proofs.KeyLists.{key_eq-true}
 use Rattle.paris_board.specs.Board.{Board}
 use Rattle.paris_model.specs.Recipe.{same}
@@ -147,7 +148,7 @@ flags_stay inputs (Flag s flag) i = by_there (slice_get inputs.flags s)
     by_there None = refl
     by_there (Some x) = length-set inputs.flags s (with_flag_input x flag i)
 
-pub input_whole : (b : Board) (n m : ℕ) (inputs : Inputs) (es zs : List Entry) (k : Key) (i j : Input) → n < 9223372036854775807 → input_of inputs k ≡ Some j → i.number ≡ n + 1 → i.value.width ≡ j.value.width → length i.value.numbers ≡ length j.value.numbers
+pub input_whole : (b : Board) (n m : ℕ) (inputs : Inputs) (es zs : List Entry) (k : Key) (i j : Input) → n < MAX_EDITS → input_of inputs k ≡ Some j → i.number ≡ n + 1 → i.value.width ≡ j.value.width → length i.value.numbers ≡ length j.value.numbers
     → IsWhole b n m inputs es → zs ≡ swept_entries (n + 1) (has_key (k ∷ [])) es → IsWhole b (n + 1) m (with_input inputs k i) zs
 input_whole b n m inputs es zs k i j few there new width count w z =
     let d : Key → Bool = has_key (k ∷ []) in

@@ -5,6 +5,7 @@ use Rattle.std.proofs.lemmas.List.{take-map, drop-map, map-append}
 use Rattle.std.specs.List.{list_any}
 use Rattle.paris_names.specs.declared.keys.Key.{Key}
 use Rattle.paris_names.specs.Keys.{has_key}
+use Rattle.paris_names.specs.declared.limits.TheConstants.{MAX_EDITS}
 use Rattle.paris_geometry.specs.Geometry.{processor_count}
 use Rattle.paris_board.specs.Board.{Board}
 use Rattle.paris_model.specs.Frame.{World}
@@ -17,7 +18,8 @@ use Rattle.paris_machine.specs.Edits.{new_row, row_inserted}
 use Rattle.paris_book.specs.Kept.{ripen, Right, Sound}
 use Rattle.paris_depends.specs.Sweeps.{touches, spread}
 use Rattle.paris_book.proofs.Swept.{swept, swept_entries}
-use Rattle.paris_book.specs.Whole.{shape_in, InputsBelow, RowsBelow, IdsApart, ids_of, Fitted, AllFitted, IsWhole}
+use Rattle.paris_program.specs.Program.{ids_of}
+use Rattle.paris_book.specs.Whole.{shape_in, InputsBelow, RowsBelow, IdsApart, Fitted, AllFitted, IsWhole}
 use Rattle.paris_book.specs.Entries.{Entry, plan_of, row_of, with_data}
 use Rattle.paris_book.specs.Marks.{fresh_data, stale_data}
 use Rattle.paris_book.proofs.Values.{Agree, sound_swept, swept_rows}
@@ -166,7 +168,7 @@ inserted_rows n m es p x = take p es ++ (m, fresh_data x (n + 1)) ∷ swept_entr
 abbrev pub state_of : Board → ℕ → ℕ → Inputs → List Entry → State
 state_of board edits next inputs es = record { board = board; edits = edits; inputs = inputs; next = next; rows = map row_of es }
 
-pub insert_whole : (b : Board) (n m : ℕ) (inputs : Inputs) (es zs : List Entry) (p : ℕ) (x : Plan) → n < 9223372036854775807 → Fitted inputs x → IsWhole b n m inputs es → zs ≡ inserted_rows n m es p x → IsWhole b (n + 1) (m + 1) inputs zs
+pub insert_whole : (b : Board) (n m : ℕ) (inputs : Inputs) (es zs : List Entry) (p : ℕ) (x : Plan) → n < MAX_EDITS → Fitted inputs x → IsWhole b n m inputs es → zs ≡ inserted_rows n m es p x → IsWhole b (n + 1) (m + 1) inputs zs
 insert_whole b n m inputs es zs p x few fit w z =
     let d : Key → Bool = has_key (writes x) in
     let e : Entry = (m, fresh_data x (n + 1)) in

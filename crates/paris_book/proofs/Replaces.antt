@@ -3,6 +3,7 @@ use Rattle.std.proofs.Common.{◌≡◌, ℕ, ◌<◌, ◌≤◌, ◌+◌, List,
 use Rattle.std.proofs.lemmas.List.{take-map, drop-map, map-append, take-append-drop}
 use Rattle.paris_names.specs.declared.keys.Key.{Key}
 use Rattle.paris_names.specs.Keys.{has_key}
+use Rattle.paris_names.specs.declared.limits.TheConstants.{MAX_EDITS}
 use Rattle.paris_board.specs.Board.{Board}
 use Rattle.paris_model.specs.Frame.{World}
 use Rattle.paris_model.specs.Instructions.{Plan, writes, one}
@@ -11,7 +12,8 @@ use Rattle.paris_machine.specs.State.{Row, Inputs, State, start_world, start_rec
 use Rattle.paris_machine.specs.Edits.{row_replaced}
 use Rattle.paris_book.specs.Kept.{ripen, Sound}
 use Rattle.paris_book.proofs.Swept.{swept, swept_entries}
-use Rattle.paris_book.specs.Whole.{RowsBelow, ids_of, Fitted, AllFitted, IsWhole}
+use Rattle.paris_program.specs.Program.{ids_of}
+use Rattle.paris_book.specs.Whole.{RowsBelow, Fitted, AllFitted, IsWhole}
 use Rattle.paris_book.specs.Marks.{fresh_data, writes_either}
 use Rattle.paris_book.specs.Entries.{Entry, plan_of, row_of}
 use Rattle.paris_book.proofs.Values.{Agree, sound_swept, swept_rows}
@@ -36,7 +38,7 @@ sound_replace n w h es p e back x y s =
     sound-join w h (take p es) (u ∷ swept_entries (n + 1) (writes_either e.1.plan x) back) (sound-take w h es p s)
     (right_unsettled w' h' u refl, sound_swept (n + 1) (writes_either e.1.plan x) (one e.1.plan w') (one x w') (ripen h' e) (ripen h' u) (agree_either_one e.1.plan x w') (agree_either_ripen h' e u) back rest.1)
 
-pub replace_whole : (b : Board) (n m : ℕ) (inputs : Inputs) (es zs : List Entry) (p : ℕ) (e : Entry) (back : List Entry) (x : Plan) → n < 9223372036854775807 → Fitted inputs x → drop p es ≡ e ∷ back → IsWhole b n m inputs es
+pub replace_whole : (b : Board) (n m : ℕ) (inputs : Inputs) (es zs : List Entry) (p : ℕ) (e : Entry) (back : List Entry) (x : Plan) → n < MAX_EDITS → Fitted inputs x → drop p es ≡ e ∷ back → IsWhole b n m inputs es
     → zs ≡ take p es ++ (e.0, fresh_data x (n + 1)) ∷ swept_entries (n + 1) (writes_either e.1.plan x) back → IsWhole b (n + 1) m inputs zs
 replace_whole b n m inputs es zs p e back x few fit y w z =
     let d : Key → Bool = writes_either e.1.plan x in

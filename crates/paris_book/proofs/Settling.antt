@@ -20,7 +20,8 @@ use Rattle.paris_machine.specs.State.{Inputs, start_world}
 use Rattle.paris_machine.specs.Orders.{is_firm}
 use Rattle.paris_book.specs.Marks.{out_data, kept_data}
 use Rattle.paris_book.specs.Kept.{ripen, Sound, present}
-use Rattle.paris_book.specs.Whole.{RowsBelow, ids_of, Fitted, AllFitted, IsWhole}
+use Rattle.paris_program.specs.Program.{ids_of}
+use Rattle.paris_book.specs.Whole.{RowsBelow, Fitted, AllFitted, IsWhole}
 use Rattle.paris_book.specs.Entries.{Entry, plan_of, row_of, with_data}
 use Rattle.paris_events.specs.declared.verdicts.Verdict.TheVariants.{Stale, Repeated, Foreign, Kept}
 use Rattle.paris_book.specs.Among.{origin_among, firm_among, inputs_among}

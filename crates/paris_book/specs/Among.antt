@@ -1,4 +1,4 @@
--- What the machine shows, said of the entries.
+-- What the machine shows, said of a book's rows.
 use Rattle.std.specs.Prelude.{◌≡◌, ℕ, Bool, List, take, map, length, Option, Some, None, ◌&&◌, [], ◌∷◌, ◌++◌, if◌then◌else◌}
 use Rattle.std.specs.Option.{option_map}
 use Rattle.std.specs.List.{list_all, find, enumerate_from}
@@ -27,7 +27,7 @@ use Rattle.paris_machine.specs.declared.events.Shown.TheVariants.{Settled as Sho
 abbrev pub inputs_of : InputData → Inputs
 inputs_of d = record { fields = d.fields.items; flags = d.flags.items }
 
--- the last entry before a place that writes a key
+-- the last row before a place that writes a key
 abbrev pub origin_among : List Entry → ℕ → Key → Option Entry
 origin_among es place k = origin plan_of k (take place es)
 
@@ -75,16 +75,16 @@ abbrev pub cause_told : Option Task → Option Refusal
 cause_told None = None
 cause_told (Some t) = refusal t.plan (value_at (reads t.plan) (numbers_of t.inputs))
 
--- why the result that a settled entry keeps was refused, if it was
+-- why the result that a settled row keeps was refused, if it was
 abbrev pub cause_kept : Entry → Option Refusal
 cause_kept e = if is_settled e.1.status then cause_told e.1.done else None
 
--- the settled entries whose results were refused
+-- the settled rows whose results were refused
 abbrev pub faults_kept : List Entry → List RowFault
 faults_kept [] = []
 faults_kept (e ∷ es) = fault_by (id_of e) (cause_kept e) ++ faults_kept es
 
--- the entries as they are listed
+-- the rows as they are listed
 abbrev pub listed_entry : Entry → RowLook
 listed_entry e = record { id = id_of e; edition = e.1.edition; status = e.1.status; instr = e.1.plan.instr; cause = cause_kept e }
 

@@ -30,6 +30,6 @@ abbrev pub Sound : World → (Key → Bool) → List Entry → Type 0
 Sound w h [] = Unit {0}
 Sound w h (e ∷ es) = Right w h e × Sound (one e.1.plan w) (ripen h e) es
 
--- the world before the entry at a place
+-- the world before the row at a place
 abbrev pub present : Inputs → List Entry → ℕ → World
 present inputs es place = run (start_world inputs) (map plan_of (take place es))
