@@ -17,8 +17,8 @@ use Rattle.paris_machine.specs.State.{Row, Inputs, flag_input, with_flag_input, 
 use Rattle.paris_machine.specs.Edits.{known_rows, edited}
 use Rattle.paris_depends.specs.Changes.{Differ}
 use Rattle.paris_book.proofs.Swept.{swept_entries}
-use Rattle.paris_book.specs.Whole.{shape_of, shape_in, InputsBelow, IsWhole}
-use Rattle.paris_book.specs.Entries.{Entry, row_of}
+use Rattle.paris_book.specs.Whole.{input_shape, shape_in, InputsBelow, IsWhole}
+use Rattle.paris_book.specs.Entries.{Entry, machine_row}
 use Rattle.paris_machine.specs.declared.inputs.Input.{Input}
 use Rattle.paris_machine.specs.declared.inputs.FlagInputs.{FlagInputs}
 use Rattle.paris_depends.proofs.Recipes.{eqb_self}
@@ -127,7 +127,7 @@ input_differ n inputs k i j below there new f = by_test (key_eq f k) refl
 
 shape_stays : (inputs : Inputs) (k : Key) (i j : Input) → input_of inputs k ≡ Some j → i.value.width ≡ j.value.width → length i.value.numbers ≡ length j.value.numbers → (f : Key) → shape_in (with_input inputs k i) f ≡ shape_in inputs f
 shape_stays inputs k i j there width count f =
-    sym (by_key inputs k i j there shape_of f (λ x y. x ≡ y) (ap₂ (λ a b. Some (a, b)) (sym width) (sym count)) (λ x. refl))
+    sym (by_key inputs k i j there input_shape f (λ x y. x ≡ y) (ap₂ (λ a b. Some (a, b)) (sym width) (sym count)) (λ x. refl))
 
 numbers_up : (n : ℕ) (inputs : Inputs) (k : Key) (i j : Input) → input_of inputs k ≡ Some j → i.number ≤ n → InputsBelow n inputs → InputsBelow n (with_input inputs k i)
 numbers_up n inputs k i j there small below f = by_test (key_eq f k) refl
@@ -172,4 +172,4 @@ pub input_view : (b : Board) (n m : ℕ) (inputs : Inputs) (es zs : List Entry) 
 input_view b n m inputs es zs k i j there new w z =
     ap (λ (ys : List Entry). state_of b (n + 1) m (with_input inputs k i) ys) z
     ∙ ap (λ (rs : List Row). record { board = b; edits = n + 1; inputs = with_input inputs k i; next = m; rows = rs })
-    (swept_rows (n + 1) (has_key (k ∷ [])) es ∙ sym (judged_swept (n + 1) (has_key (k ∷ [])) (start_recipe inputs) (start_recipe (with_input inputs k i)) (input_differ n inputs k i j w.inputs_below there new) (map row_of es)))
+    (swept_rows (n + 1) (has_key (k ∷ [])) es ∙ sym (judged_swept (n + 1) (has_key (k ∷ [])) (start_recipe inputs) (start_recipe (with_input inputs k i)) (input_differ n inputs k i j w.inputs_below there new) (map machine_row es)))

@@ -11,7 +11,7 @@ use Rattle.paris_machine.specs.State.{Row, Inputs, State, start_world}
 use Rattle.paris_machine.specs.Orders.{recalled_status, recalled_row, after_release}
 use Rattle.paris_book.specs.Kept.{ripen, Sound}
 use Rattle.paris_book.specs.Whole.{RowsBelow, AllFitted, IsWhole}
-use Rattle.paris_book.specs.Entries.{Entry, row_of, with_data}
+use Rattle.paris_book.specs.Entries.{Entry, machine_row, with_data}
 use Rattle.paris_book.specs.Marks.{recalled_data}
 use Rattle.paris_events.specs.declared.rows.Status.{Status}
 use Rattle.paris_events.specs.declared.rows.Status.TheVariants.{Waiting, Out, Settled}
@@ -58,11 +58,11 @@ release_whole b n m inputs es w = record {
   sound = sound_recalled (start_world inputs) (λ _. true) es w.sound;
 }
 
-view_recalled : (es : List Entry) → map row_of (map (with_data recalled_data) es) ≡ map recalled_row (map row_of es)
+view_recalled : (es : List Entry) → map machine_row (map (with_data recalled_data) es) ≡ map recalled_row (map machine_row es)
 view_recalled [] = refl
-view_recalled (e ∷ es) = ap (λ rs. recalled_row (row_of e) ∷ rs) (view_recalled es)
+view_recalled (e ∷ es) = ap (λ rs. recalled_row (machine_row e) ∷ rs) (view_recalled es)
 
 pub release_view : (b : Board) (n m : ℕ) (inputs : Inputs) (es zs : List Entry) (s : State) → zs ≡ map (with_data recalled_data) es → state_of b n m inputs es ≡ s → state_of b n m inputs zs ≡ after_release s
 release_view b n m inputs es zs s z y =
-    ap (λ (rs : List Row). record { board = b; edits = n; inputs = inputs; next = m; rows = rs }) (ap (map row_of) z ∙ view_recalled es)
+    ap (λ (rs : List Row). record { board = b; edits = n; inputs = inputs; next = m; rows = rs }) (ap (map machine_row) z ∙ view_recalled es)
     ∙ ap after_release y

@@ -16,7 +16,7 @@ use Rattle.paris_machine.specs.Orders.{is_firm}
 use Rattle.paris_machine.specs.Lists.{fault_by}
 use Rattle.paris_book.specs.Whole.{shape_in}
 use Rattle.paris_book.specs.declared.inputs.InputData.{InputData}
-use Rattle.paris_book.specs.Entries.{Entry, id_of, plan_of, row_of}
+use Rattle.paris_book.specs.Entries.{Entry, id_of, entry_plan, machine_row}
 use Rattle.paris_book.specs.declared.look.Look.{Look}
 use Rattle.paris_book.specs.declared.look.Look.TheVariants.{Settled as LookSettled, Pending as LookPending}
 use Rattle.paris_events.specs.declared.rows.RowFault.{RowFault}
@@ -29,7 +29,7 @@ inputs_of d = record { fields = d.fields.items; flags = d.flags.items }
 
 -- the last row before a place that writes a key
 abbrev pub origin_among : List Entry → ℕ → Key → Option Entry
-origin_among es place k = origin plan_of k (take place es)
+origin_among es place k = origin entry_plan k (take place es)
 
 abbrev pub width_in_shape : Option (ℕ × ℕ) → ℕ
 width_in_shape None = 0
@@ -41,7 +41,7 @@ value_among inputs es place k = record { width = width_in_shape (shape_in inputs
 
 -- what is shown of it
 abbrev pub look_among : Inputs → List Entry → ℕ → Key → Shown
-look_among inputs es place k = shown_of (option_map row_of (origin_among es place k)) (value_among inputs es place k)
+look_among inputs es place k = shown_of (option_map machine_row (origin_among es place k)) (value_among inputs es place k)
 
 -- a look, with the value that it lends
 abbrev pub look_shown : Look → Shown
@@ -55,13 +55,13 @@ LookFits (LookPending id) shape = Unit {0}
 
 -- whether the origin of a key is the start or settled
 abbrev pub firm_among : List Entry → ℕ → Key → Bool
-firm_among es place k = is_firm (option_map row_of (origin_among es place k))
+firm_among es place k = is_firm (option_map machine_row (origin_among es place k))
 
 abbrev pub ready_among : List Entry → ℕ × Row → Bool
 ready_among es e = is_waiting e.1.status && list_all (firm_among es e.0) (reads e.1.plan)
 
 abbrev pub next_among : List Entry → Option (ℕ × Row)
-next_among es = find (ready_among es) (enumerate_from 0 (map row_of es))
+next_among es = find (ready_among es) (enumerate_from 0 (map machine_row es))
 
 -- the values at the keys that a plan reads
 abbrev pub inputs_among : Inputs → List Entry → ℕ → Plan → List FieldNumbers

@@ -17,12 +17,12 @@ use Rattle.paris_names.specs.declared.limits.TheConstants.{MAX_EDITS}
 abbrev pub shape_on : Board → Key → Option (ℕ × ℕ)
 shape_on b k = if is_declared b k then Some (width_of b k, count_of b k) else None
 
-abbrev pub shape_of : Option Input → Option (ℕ × ℕ)
-shape_of None = None
-shape_of (Some i) = Some (i.value.width, length i.value.numbers)
+abbrev pub input_shape : Option Input → Option (ℕ × ℕ)
+input_shape None = None
+input_shape (Some i) = Some (i.value.width, length i.value.numbers)
 
 abbrev pub shape_in : Inputs → Key → Option (ℕ × ℕ)
-shape_in inputs k = shape_of (input_of inputs k)
+shape_in inputs k = input_shape (input_of inputs k)
 
 -- the input data is that of the declared keys
 abbrev pub Shaped : Board → Inputs → Type 0

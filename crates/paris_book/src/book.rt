@@ -12,7 +12,7 @@ ghost use Rattle.paris_machine.specs.Results.{verdict_of, after_bring};
 ghost use Rattle.paris_machine.specs.Edits.{edit_fault, edit_answer, accepted};
 ghost use Rattle.paris_machine.specs.Settling.{unsettled_rows};
 ghost use Rattle.paris_book.specs.Among.{look_shown};
-ghost use Rattle.paris_book.specs.Entries.{row_of};
+ghost use Rattle.paris_book.specs.Entries.{machine_row};
 ghost use Rattle.paris_book.specs.Marks.{out_data, kept_data};
 ghost use Rattle.paris_names.specs.declared.limits.TheConstants.{MAX_EDITS};
 
@@ -45,11 +45,11 @@ impl Model for Book {
 
     ghost Value = { State };
 
-    ghost use Rattle.paris_book.specs.Entries.{row_of};
+    ghost use Rattle.paris_book.specs.Entries.{machine_row};
     ghost use Rattle.paris_book.specs.Among.{inputs_of};
     ghost use Rattle.paris_book.specs.Whole.{IsWhole};
 
-    ghost view = { λ a. record { board = a.board; edits = a.edits; inputs = inputs_of a.inputs; next = a.rows.next_id; rows = map row_of a.rows.rows } };
+    ghost view = { λ a. record { board = a.board; edits = a.edits; inputs = inputs_of a.inputs; next = a.rows.next_id; rows = map machine_row a.rows.rows } };
 
     ghost invariant = { λ a. IsWhole a.board a.edits a.rows.next_id (inputs_of a.inputs) a.rows.rows };
 }
@@ -184,7 +184,7 @@ fn keep(row: &mut RowData, done: Done)
 
 /// How many of these rows are unsettled.
 pub(crate) fn count_unsettled(rows: &Program<RowData>) -> usize
-    ensures { result ≡ unsettled_rows (map row_of rows.now.rows) }
+    ensures { result ≡ unsettled_rows (map machine_row rows.now.rows) }
 {
     let mut count = 0;
     for place in 0..rows.len() {
