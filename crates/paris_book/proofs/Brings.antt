@@ -18,7 +18,7 @@ use Rattle.paris_machine.specs.Orders.{inputs_now}
 use Rattle.paris_machine.specs.Results.{is_present, verdict_at, verdict_on, verdict_of, brought_on, after_bring}
 use Rattle.paris_program.specs.Program.{place_of}
 use Rattle.paris_book.specs.Marks.{kept_data}
-use Rattle.paris_book.specs.Entries.{Entry, row_of, with_data}
+use Rattle.paris_book.specs.Entries.{Entry, machine_row, with_data}
 use Rattle.paris_book.specs.declared.rows.RowData.{RowData}
 use Rattle.paris_book.proofs.Entering.{find_is}
 use Rattle.paris_events.specs.declared.verdicts.Verdict.{Verdict}
@@ -31,23 +31,23 @@ use Rattle.paris_book.proofs.Inserts.{state_of}
 use Rattle.paris_book.proofs.Shows.{now_is, firm_is}
 
 -- whether a result is present, by the entries
-present_is : (b : Board) (n m : ℕ) (inputs : Inputs) (es : List Entry) (k : ℕ) (e : Entry) (t : Task) → is_present (state_of b n m inputs es) k (row_of e) t ≡ present_among inputs es k e t
+present_is : (b : Board) (n m : ℕ) (inputs : Inputs) (es : List Entry) (k : ℕ) (e : Entry) (t : Task) → is_present (state_of b n m inputs es) k (machine_row e) t ≡ present_among inputs es k e t
 present_is b n m inputs es k e t =
     ap (λ (q : Key → Bool). plan_eq e.1.plan t.plan && (list_all q (reads e.1.plan) && pointwise field_eq (inputs_now (state_of b n m inputs es) k e.1.plan) t.inputs)) (fun_ext (λ f. firm_is b n m inputs es f k))
     ∙ ap (λ (w : World). plan_eq e.1.plan t.plan && (list_all (firm_among es k) (reads e.1.plan) && pointwise field_eq (map (λ f. field_of e.1.plan f (w f)) (reads e.1.plan)) t.inputs)) (now_is b n m inputs es k)
 
-verdict_is : (b : Board) (n m : ℕ) (inputs : Inputs) (es : List Entry) (k : ℕ) (e : Entry) (t : Task) → verdict_at (state_of b n m inputs es) (k, row_of e) t ≡ verdict_among inputs es k e t
+verdict_is : (b : Board) (n m : ℕ) (inputs : Inputs) (es : List Entry) (k : ℕ) (e : Entry) (t : Task) → verdict_at (state_of b n m inputs es) (k, machine_row e) t ≡ verdict_among inputs es k e t
 verdict_is b n m inputs es k e t =
     ap (λ p. cond (eqb e.1.edition.0 t.edition.0) (cond (is_settled e.1.status) Repeated (cond p Kept Foreign)) (Stale e.1.edition)) (present_is b n m inputs es k e t)
 
 -- the machine's answer, by the entries
-pub answer_found : (b : Board) (n m : ℕ) (inputs : Inputs) (es : List Entry) (s : State) (k : ℕ) (e : Entry) (t : Task) → state_of b n m inputs es ≡ s → find_id t.id.0 (map row_of es) ≡ Some (k, row_of e) → verdict_of s t ≡ verdict_among inputs es k e t
+pub answer_found : (b : Board) (n m : ℕ) (inputs : Inputs) (es : List Entry) (s : State) (k : ℕ) (e : Entry) (t : Task) → state_of b n m inputs es ≡ s → find_id t.id.0 (map machine_row es) ≡ Some (k, machine_row e) → verdict_of s t ≡ verdict_among inputs es k e t
 answer_found b n m inputs es s k e t y x =
     ap (λ (z : State). verdict_of z t) (sym y)
     ∙ ap (λ o. verdict_on (state_of b n m inputs es) o t) x
     ∙ verdict_is b n m inputs es k e t
 
-pub answer_none : (b : Board) (n m : ℕ) (inputs : Inputs) (es : List Entry) (s : State) (t : Task) → state_of b n m inputs es ≡ s → find_id t.id.0 (map row_of es) ≡ None → verdict_of s t ≡ Gone
+pub answer_none : (b : Board) (n m : ℕ) (inputs : Inputs) (es : List Entry) (s : State) (t : Task) → state_of b n m inputs es ≡ s → find_id t.id.0 (map machine_row es) ≡ None → verdict_of s t ≡ Gone
 answer_none b n m inputs es s t y x = ap (λ (z : State). verdict_of z t) (sym y) ∙ ap (λ o. verdict_on (state_of b n m inputs es) o t) x
 
 brought_other : (s : State) (v : Verdict) (o : Option (ℕ × Row)) → is_kept v ≡ false → brought_on s v o ≡ s
@@ -64,22 +64,22 @@ kept_verdict Repeated h = absurd (let x : false ≡ true = h in cc)
 kept_verdict Foreign h = absurd (let x : false ≡ true = h in cc)
 kept_verdict Kept h = refl
 
-pub state_none : (b : Board) (n m : ℕ) (inputs : Inputs) (es : List Entry) (s : State) (t : Task) → state_of b n m inputs es ≡ s → find_id t.id.0 (map row_of es) ≡ None → after_bring s t ≡ s
+pub state_none : (b : Board) (n m : ℕ) (inputs : Inputs) (es : List Entry) (s : State) (t : Task) → state_of b n m inputs es ≡ s → find_id t.id.0 (map machine_row es) ≡ None → after_bring s t ≡ s
 state_none b n m inputs es s t y x = brought_other s (verdict_of s t) (find_row s t.id) (ap is_kept (answer_none b n m inputs es s t y x))
 
-pub state_other : (b : Board) (n m : ℕ) (inputs : Inputs) (es : List Entry) (s : State) (k : ℕ) (e : Entry) (t : Task) (v : Verdict) → state_of b n m inputs es ≡ s → find_id t.id.0 (map row_of es) ≡ Some (k, row_of e) → v ≡ verdict_among inputs es k e t → is_kept v ≡ false → after_bring s t ≡ s
+pub state_other : (b : Board) (n m : ℕ) (inputs : Inputs) (es : List Entry) (s : State) (k : ℕ) (e : Entry) (t : Task) (v : Verdict) → state_of b n m inputs es ≡ s → find_id t.id.0 (map machine_row es) ≡ Some (k, machine_row e) → v ≡ verdict_among inputs es k e t → is_kept v ≡ false → after_bring s t ≡ s
 state_other b n m inputs es s k e t v y x z h = brought_other s (verdict_of s t) (find_row s t.id) (ap is_kept (answer_found b n m inputs es s k e t y x ∙ sym z) ∙ h)
 
-pub state_kept : (b : Board) (n m : ℕ) (inputs : Inputs) (es : List Entry) (s : State) (k : ℕ) (e : Entry) (t : Task) (v : Verdict) → state_of b n m inputs es ≡ s → find_id t.id.0 (map row_of es) ≡ Some (k, row_of e) → v ≡ verdict_among inputs es k e t → is_kept v ≡ true → state_of b n m inputs (set es k (with_data (kept_data t) e)) ≡ after_bring s t
+pub state_kept : (b : Board) (n m : ℕ) (inputs : Inputs) (es : List Entry) (s : State) (k : ℕ) (e : Entry) (t : Task) (v : Verdict) → state_of b n m inputs es ≡ s → find_id t.id.0 (map machine_row es) ≡ Some (k, machine_row e) → v ≡ verdict_among inputs es k e t → is_kept v ≡ true → state_of b n m inputs (set es k (with_data (kept_data t) e)) ≡ after_bring s t
 state_kept b n m inputs es s k e t v y x z h = sym (
     ap (λ (z : State). after_bring z t) (sym y)
     ∙ ap (λ o. brought_on (state_of b n m inputs es) (verdict_of (state_of b n m inputs es) t) o) x
-    ∙ ap (λ q. brought_on (state_of b n m inputs es) q (Some (k, row_of e))) (answer_found b n m inputs es (state_of b n m inputs es) k e t refl x ∙ sym z ∙ kept_verdict v h)
-    ∙ ap (λ (rs : List Row). record { board = b; edits = n; inputs = inputs; next = m; rows = rs }) (sym (map-set row_of es k (with_data (kept_data t) e))))
+    ∙ ap (λ q. brought_on (state_of b n m inputs es) q (Some (k, machine_row e))) (answer_found b n m inputs es (state_of b n m inputs es) k e t refl x ∙ sym z ∙ kept_verdict v h)
+    ∙ ap (λ (rs : List Row). record { board = b; edits = n; inputs = inputs; next = m; rows = rs }) (sym (map-set machine_row es k (with_data (kept_data t) e))))
 
 -- the entry of an id that was found at a place of the program
-pub found_entry : (i j : ℕ) (rows : List Entry) (k : ℕ) → j ≡ i → Some k ≡ place_of rows j → (e : Entry) × (find_id i (map row_of rows) ≡ Some (k, row_of e)) × (slice_get rows k ≡ Some e)
+pub found_entry : (i j : ℕ) (rows : List Entry) (k : ℕ) → j ≡ i → Some k ≡ place_of rows j → (e : Entry) × (find_id i (map machine_row rows) ≡ Some (k, machine_row e)) × (slice_get rows k ≡ Some e)
 found_entry i j rows k same at = found_some i rows k (at ∙ ap (place_of rows) same ∙ sym (find_is i rows))
 
-pub found_none : (i j : ℕ) (rows : List Entry) → j ≡ i → None ≡ place_of rows j → find_id i (map row_of rows) ≡ None
-found_none i j rows same none = none_of (λ e. e.0) (find_id i (map row_of rows)) (none ∙ ap (place_of rows) same ∙ sym (find_is i rows))
+pub found_none : (i j : ℕ) (rows : List Entry) → j ≡ i → None ≡ place_of rows j → find_id i (map machine_row rows) ≡ None
+found_none i j rows same none = none_of (λ e. e.0) (find_id i (map machine_row rows)) (none ∙ ap (place_of rows) same ∙ sym (find_is i rows))

@@ -11,9 +11,9 @@ use Rattle.paris_events.specs.Rows.{is_settled}
 use Rattle.paris_machine.specs.State.{Row, Inputs, State, find_id, input_of}
 use Rattle.paris_machine.specs.Show.{show_at, show_from}
 use Rattle.paris_machine.specs.Edits.{known, input_changed, input_set}
-use Rattle.paris_book.specs.Whole.{shape_of, Shaped, Fitted}
+use Rattle.paris_book.specs.Whole.{input_shape, Shaped, Fitted}
 use Rattle.paris_program.specs.Program.{place_of}
-use Rattle.paris_book.specs.Entries.{Entry, row_of}
+use Rattle.paris_book.specs.Entries.{Entry, machine_row}
 use Rattle.paris_book.specs.declared.rows.RowData.{RowData}
 use Rattle.paris_book.proofs.Entering.{find_is}
 use Rattle.paris_machine.specs.declared.inputs.Input.{Input}
@@ -28,6 +28,7 @@ use Rattle.paris_names.specs.declared.ids.Spot.TheVariants.{After}
 use Rattle.paris_names.specs.declared.names.KeyName.{KeyName}
 use Rattle.paris_names.specs.declared.faults.Fault.{Fault}
 use Rattle.paris_names.specs.declared.faults.Fault.TheVariants.{NoField, WrongCount, TooWide, NoRow}
+use Rattle.paris_names.specs.declared.limits.TheConstants.{MAX_EDITS}
 use Rattle.paris_board.specs.Board.{key_named}
 use Rattle.paris_instr.specs.Resolve.{IsFittedTo}
 use Rattle.paris_field.specs.Fields.{overwritten}
@@ -51,8 +52,8 @@ found_named None x fault h = absurd (cc)
 found_named (Some y) x fault h = let same : x ≡ y = cc in ap Some (sym same)
 
 -- the place of an id's row among the rows, and just after it
-pub spot_after : (rows : List Entry) (id : ℕ) → option_map (λ e. e.0 + 1) (find_id id (map row_of rows)) ≡ option_map (λ k. k + 1) (place_of rows id)
-spot_after rows id = by_found (find_id id (map row_of rows)) ∙ ap (option_map (λ k. k + 1)) (find_is id rows)
+pub spot_after : (rows : List Entry) (id : ℕ) → option_map (λ e. e.0 + 1) (find_id id (map machine_row rows)) ≡ option_map (λ k. k + 1) (place_of rows id)
+spot_after rows id = by_found (find_id id (map machine_row rows)) ∙ ap (option_map (λ k. k + 1)) (find_is id rows)
   where
     by_found : (o : Option (ℕ × Row)) → option_map (λ e. e.0 + 1) o ≡ option_map (λ k. k + 1) (option_map (λ e. e.0) o)
     by_found None = refl
@@ -80,7 +81,7 @@ shown_is b n m inputs es s name spot k place look y shaped known named at is =
 -- input data that a declared key has is of the board's shape
 pub shape_known : (b : Board) (inputs : Inputs) (k : Key) (i : Input) → Shaped b inputs → is_declared b k ≡ true → input_of inputs k ≡ Some i → (i.value.width ≡ width_of b k) × (length i.value.numbers ≡ count_of b k)
 shape_known b inputs k i shaped known there =
-    let both : Some (i.value.width, length i.value.numbers) ≡ Some (width_of b k, count_of b k) = sym (ap shape_of there) ∙ shaped k ∙ ap (λ t. cond t (Some (width_of b k, count_of b k)) None) known in
+    let both : Some (i.value.width, length i.value.numbers) ≡ Some (width_of b k, count_of b k) = sym (ap input_shape there) ∙ shaped k ∙ ap (λ t. cond t (Some (width_of b k, count_of b k)) None) known in
     let same : (i.value.width, length i.value.numbers) ≡ (width_of b k, count_of b k) = ap (λ o. unwrap_or o (i.value.width, length i.value.numbers)) both in
     (ap (λ (p : ℕ × ℕ). p.0) same, ap (λ (p : ℕ × ℕ). p.1) same)
 
@@ -121,13 +122,13 @@ unsettled_few (r ∷ rs) = let rest = unsettled_few rs in by_status (is_settled 
     by_status true h = omega arith
     by_status false h = omega arith
 
-pub unsettled_more : (es : List Entry) (i : ℕ) (e : Entry) → i < length es → e ≡ get_or es i e → unsettled_rows (map row_of (take (i + 1) es)) ≡ unsettled_rows (map row_of (take i es)) + cond (is_settled e.1.status) 0 1
+pub unsettled_more : (es : List Entry) (i : ℕ) (e : Entry) → i < length es → e ≡ get_or es i e → unsettled_rows (map machine_row (take (i + 1) es)) ≡ unsettled_rows (map machine_row (take i es)) + cond (is_settled e.1.status) 0 1
 unsettled_more es i e h at =
     let more : take (i + 1) es ≡ take i es ++ e ∷ [] = take_more es i e h ∙ ap (λ j. take i es ++ j ∷ []) (sym at) in
-    ap (λ xs. unsettled_rows (map row_of xs)) more
-    ∙ ap unsettled_rows (map-append row_of (take i es) (e ∷ []))
-    ∙ unsettled-append (map row_of (take i es)) (row_of e ∷ [])
-    ∙ ap (λ x. unsettled_rows (map row_of (take i es)) + x) (add-zero (cond (is_settled e.1.status) 0 1))
+    ap (λ xs. unsettled_rows (map machine_row xs)) more
+    ∙ ap unsettled_rows (map-append machine_row (take i es) (e ∷ []))
+    ∙ unsettled-append (map machine_row (take i es)) (machine_row e ∷ [])
+    ∙ ap (λ x. unsettled_rows (map machine_row (take i es)) + x) (add-zero (cond (is_settled e.1.status) 0 1))
 
 not_less : (m n : ℕ) → nat_lt m n ≡ false → n ≤ m
 not_less m n e = grind (arith, nat_tests)
@@ -140,5 +141,5 @@ values_within count width from values h = by_test (eqb (length values) 0) (nat_l
     by_test false true e x = absurd (cc)
     by_test false false e x = not_less count (from + length values) e
 
-pub few_edits : (b : Board) (n m : ℕ) (inputs : Inputs) (es : List Entry) (s : State) → state_of b n m inputs es ≡ s → s.edits < 9223372036854775807 → n < 9223372036854775807
-few_edits b n m inputs es s y h = subst (λ (z : State). z.edits < 9223372036854775807) (sym y) h
+pub few_edits : (b : Board) (n m : ℕ) (inputs : Inputs) (es : List Entry) (s : State) → state_of b n m inputs es ≡ s → s.edits < MAX_EDITS → n < MAX_EDITS
+few_edits b n m inputs es s y h = subst (λ (z : State). z.edits < MAX_EDITS) (sym y) h

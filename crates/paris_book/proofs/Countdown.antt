@@ -11,8 +11,9 @@ use Rattle.paris_machine.specs.State.{Row, Inputs, State}
 use Rattle.paris_machine.specs.Show.{origin_at}
 use Rattle.paris_machine.specs.Orders.{is_firm, is_ready, next_ready, order_of, take_reply, taken, after_take, recalled_status, recalled_row, after_release}
 use Rattle.paris_machine.specs.Settling.{unsettled_rows, settled_row, all_settled, after_run, ran_orders}
-use Rattle.paris_book.specs.Whole.{IdsApart, ids_of, IsWhole}
-use Rattle.paris_book.specs.Entries.{Entry, row_of}
+use Rattle.paris_program.specs.Program.{ids_of}
+use Rattle.paris_book.specs.Whole.{IdsApart, IsWhole}
+use Rattle.paris_book.specs.Entries.{Entry, machine_row}
 use Rattle.paris_events.specs.declared.rows.Status.{Status}
 use Rattle.paris_events.specs.declared.rows.Status.TheVariants.{Waiting, Out, Settled}
 use Rattle.std.specs.List.{enumerate_from}
@@ -146,7 +147,7 @@ ran_left n s apart few =
     omega (arith, here, few)
 
 -- the ids of the rows of a book
-pub ids_seen : (es : List Entry) → row_ids (map row_of es) ≡ ids_of es
+pub ids_seen : (es : List Entry) → row_ids (map machine_row es) ≡ ids_of es
 ids_seen [] = refl
 ids_seen (e ∷ es) = ap (λ is. e.0 ∷ is) (ids_seen es)
 

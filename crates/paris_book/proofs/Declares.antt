@@ -11,6 +11,7 @@ use Rattle.paris_names.specs.declared.keys.Key.TheVariants.{Field, Flag}
 use Rattle.paris_names.specs.declared.keys.FlagName.{FlagName}
 use Rattle.paris_names.specs.declared.keys.FlagName.TheVariants.{Context, Test, Carry, Overflow}
 use Rattle.paris_names.specs.Keys.{has_key, key_eq}
+use Rattle.paris_names.specs.declared.limits.TheConstants.{MAX_EDITS}
 use Rattle.paris_names.proofs.KeyLists.{key_eq-same}
 use Rattle.paris_geometry.specs.Geometry.{processor_count}
 use Rattle.paris_board.specs.Board.{Board, DeclaredField, DeclaredSet, is_declared, width_of, count_of, axes_of, field_at, with_set, with_field, AreFields, IsBoard}
@@ -23,8 +24,8 @@ use Rattle.paris_book.specs.Kept.{Sound}
 use Rattle.paris_depends.specs.Changes.{Differ}
 use Rattle.paris_depends.specs.Sweeps.{touches, spread}
 use Rattle.paris_book.proofs.Swept.{swept_entries}
-use Rattle.paris_book.specs.Whole.{shape_on, shape_of, shape_in, Shaped, InputsBelow, Fitted, AllFitted, IsWhole}
-use Rattle.paris_book.specs.Entries.{Entry, row_of, with_data}
+use Rattle.paris_book.specs.Whole.{shape_on, input_shape, shape_in, Shaped, InputsBelow, Fitted, AllFitted, IsWhole}
+use Rattle.paris_book.specs.Entries.{Entry, machine_row, with_data}
 use Rattle.paris_machine.specs.declared.inputs.Input.{Input}
 use Rattle.paris_machine.specs.declared.inputs.FlagInputs.{FlagInputs}
 use Rattle.std.specs.Prelude.{nat_lt}
@@ -83,7 +84,7 @@ untouched old d p none fit = none_read d (reads p) (λ k t. by_test k t (d k) re
     by_test : (k : Key) → has_key (reads p) k ≡ true → (b : Bool) → d k ≡ b → b ≡ false
     by_test k t true e =
         let nothing : Option (ℕ × ℕ) = None in
-        let wrong : nothing ≡ Some (key_width p k, processor_count p.axes) = sym (ap shape_of (none k e)) ∙ fit k (ap (λ b. b || has_key (writes p) k) t) in
+        let wrong : nothing ≡ Some (key_width p k, processor_count p.axes) = sym (ap input_shape (none k e)) ∙ fit k (ap (λ b. b || has_key (writes p) k) t) in
         absurd (cc)
     by_test k t false e = refl
 
@@ -123,10 +124,10 @@ module _ (n : ℕ) (d : Key → Bool) (old new : Inputs) (news : News n d old ne
   news_fitted es f = fitted_up old new es (λ k s h. by_test k s h (d k) refl) f
     where
       by_test : (k : Key) (s : ℕ × ℕ) → shape_in old k ≡ Some s → (b : Bool) → d k ≡ b → shape_in new k ≡ Some s
-      by_test k s h true e = let nothing : Option (ℕ × ℕ) = None in let wrong : nothing ≡ Some s = sym (ap shape_of (news.none k e)) ∙ h in absurd (cc)
-      by_test k s h false e = ap shape_of (news.same k e) ∙ h
+      by_test k s h true e = let nothing : Option (ℕ × ℕ) = None in let wrong : nothing ≡ Some s = sym (ap input_shape (news.none k e)) ∙ h in absurd (cc)
+      by_test k s h false e = ap input_shape (news.same k e) ∙ h
 
-  pub declare_whole : (b c : Board) (m : ℕ) (es : List Entry) → n < 9223372036854775807 → length new.fields ≡ length c.fields → length new.flags ≡ length c.sets → Shaped c new → IsWhole b n m old es → IsWhole c (n + 1) m new es
+  pub declare_whole : (b c : Board) (m : ℕ) (es : List Entry) → n < MAX_EDITS → length new.fields ≡ length c.fields → length new.flags ≡ length c.sets → Shaped c new → IsWhole b n m old es → IsWhole c (n + 1) m new es
   declare_whole b c m es few fields flags shaped w =
       let less : m ≤ n + 1 = w.next_few in
       let quiet = swept_quiet (n + 1) old d es news.none w.fitted in
@@ -146,9 +147,9 @@ module _ (n : ℕ) (d : Key → Bool) (old new : Inputs) (news : News n d old ne
   pub declare_view : (b c : Board) (m : ℕ) (es : List Entry) → IsWhole b n m old es → state_of c (n + 1) m new es ≡ edited (state_of b n m old es) c new m (known_rows (state_of b n m old es))
   declare_view b c m es w =
       ap (λ (rs : List Row). record { board = c; edits = n + 1; inputs = new; next = m; rows = rs })
-      (ap (map row_of) (sym (swept_quiet (n + 1) old d es news.none w.fitted))
+      (ap (map machine_row) (sym (swept_quiet (n + 1) old d es news.none w.fitted))
       ∙ swept_rows (n + 1) d es
-      ∙ sym (judged_swept (n + 1) d (start_recipe old) (start_recipe new) news_differ (map row_of es)))
+      ∙ sym (judged_swept (n + 1) d (start_recipe old) (start_recipe new) news_differ (map machine_row es)))
 
 shape_same : (b c : Board) (k : Key) → is_declared c k ≡ is_declared b k → (is_declared b k ≡ true → (width_of c k ≡ width_of b k) × (count_of c k ≡ count_of b k)) → shape_on c k ≡ shape_on b k
 shape_same b c k d h = by_test (is_declared b k) refl
@@ -186,7 +187,7 @@ number_declared n count Test = refl
 number_declared n count Carry = refl
 number_declared n count Overflow = refl
 
-shape_declared : (n count : ℕ) (flag : FlagName) → shape_of (Some (flag_input (declared_flags n count) flag)) ≡ Some (1, count)
+shape_declared : (n count : ℕ) (flag : FlagName) → input_shape (Some (flag_input (declared_flags n count) flag)) ≡ Some (1, count)
 shape_declared n count Context = ap (λ c. Some (1, c)) (length-replicate count 1)
 shape_declared n count Test = ap (λ c. Some (1, c)) (length-replicate count 0)
 shape_declared n count Carry = ap (λ c. Some (1, c)) (length-replicate count 0)
@@ -244,14 +245,14 @@ module _ (b : Board) (n m : ℕ) (inputs : Inputs) (name axes : List ℕ) where
       given_shape (Field f) t = absurd (let wrong : false ≡ true = t in cc)
       given_shape (Flag s flag) t =
           let new = declared_flags (n + 1) (processor_count axes) in
-          ap (λ x. shape_of (option_map (λ y. flag_input y flag) x)) (ap (slice_get (inputs.flags ++ new ∷ [])) (eqb-true s (length inputs.flags) t) ∙ get-push_last inputs.flags new)
+          ap (λ x. input_shape (option_map (λ y. flag_input y flag) x)) (ap (slice_get (inputs.flags ++ new ∷ [])) (eqb-true s (length inputs.flags) t) ∙ get-push_last inputs.flags new)
           ∙ shape_declared (n + 1) (processor_count axes) flag
 
       by_test : (t : Bool) → is_new_flag (length inputs.flags) k ≡ t → shape_in with_flags k ≡ shape_on (with_set b name axes) k
       by_test true e = given_shape k e ∙ sym (set_shape_new k many e)
-      by_test false e = ap shape_of (set_news.same k e) ∙ shaped k ∙ sym (set_shape_old k board many e)
+      by_test false e = ap input_shape (set_news.same k e) ∙ shaped k ∙ sym (set_shape_old k board many e)
 
-pub set_whole : (b : Board) (n m : ℕ) (inputs : Inputs) (es : List Entry) (name axes : List ℕ) → n < 9223372036854775807 → IsBoard b → IsWhole b n m inputs es → IsWhole (with_set b name axes) (n + 1) m (with_flags b n m inputs name axes) es
+pub set_whole : (b : Board) (n m : ℕ) (inputs : Inputs) (es : List Entry) (name axes : List ℕ) → n < MAX_EDITS → IsBoard b → IsWhole b n m inputs es → IsWhole (with_set b name axes) (n + 1) m (with_flags b n m inputs name axes) es
 set_whole b n m inputs es name axes few board w =
     declare_whole n (is_new_flag (length inputs.flags)) inputs (with_flags b n m inputs name axes) (set_news b n m inputs name axes) b (with_set b name axes) m es few w.as_many_fields
     (length-push inputs.flags (declared_flags (n + 1) (processor_count axes)) ∙ ap (λ c. c + 1) w.as_many_flags ∙ sym (length-push b.sets (record { name = name; axes = axes })))
@@ -317,13 +318,13 @@ module _ (b : Board) (n m : ℕ) (inputs : Inputs) (name : List ℕ) (set width 
     where
       given_shape : (k : Key) → is_new_field (length inputs.fields) k ≡ true → shape_in with_declared k ≡ Some (width, processor_count (axes_of b set))
       given_shape (Flag s flag) t = absurd (let wrong : false ≡ true = t in cc)
-      given_shape (Field f) t = ap shape_of (ap (slice_get (inputs.fields ++ new_input ∷ [])) (eqb-true f (length inputs.fields) t) ∙ get-push_last inputs.fields new_input) ∙ ap (λ c. Some (width, c)) (length-replicate (processor_count (axes_of b set)) 0)
+      given_shape (Field f) t = ap input_shape (ap (slice_get (inputs.fields ++ new_input ∷ [])) (eqb-true f (length inputs.fields) t) ∙ get-push_last inputs.fields new_input) ∙ ap (λ c. Some (width, c)) (length-replicate (processor_count (axes_of b set)) 0)
 
       by_test : (t : Bool) → is_new_field (length inputs.fields) k ≡ t → shape_in with_declared k ≡ shape_on (with_field b name set width) k
       by_test true e = given_shape k e ∙ sym (field_shape_new k many e)
-      by_test false e = ap shape_of (field_news.same k e) ∙ shaped k ∙ sym (field_shape_old k many e)
+      by_test false e = ap input_shape (field_news.same k e) ∙ shaped k ∙ sym (field_shape_old k many e)
 
-pub field_whole : (b : Board) (n m : ℕ) (inputs : Inputs) (es : List Entry) (name : List ℕ) (set width : ℕ) → n < 9223372036854775807 → IsWhole b n m inputs es → IsWhole (with_field b name set width) (n + 1) m (with_declared b n m inputs name set width) es
+pub field_whole : (b : Board) (n m : ℕ) (inputs : Inputs) (es : List Entry) (name : List ℕ) (set width : ℕ) → n < MAX_EDITS → IsWhole b n m inputs es → IsWhole (with_field b name set width) (n + 1) m (with_declared b n m inputs name set width) es
 field_whole b n m inputs es name set width few w =
     declare_whole n (is_new_field (length inputs.fields)) inputs (with_declared b n m inputs name set width) (field_news b n m inputs name set width) b (with_field b name set width) m es few
     (length-push inputs.fields (new_input b n m inputs name set width) ∙ ap (λ c. c + 1) w.as_many_fields ∙ sym (length-push b.fields (new_field b n m inputs name set width)))

@@ -4,6 +4,7 @@ use Rattle.std.proofs.lemmas.List.{take-map, drop-map, map-append}
 use Rattle.std.specs.List.{list_any}
 use Rattle.paris_names.specs.declared.keys.Key.{Key}
 use Rattle.paris_names.specs.Keys.{has_key}
+use Rattle.paris_names.specs.declared.limits.TheConstants.{MAX_EDITS}
 use Rattle.paris_board.specs.Board.{Board}
 use Rattle.paris_model.specs.Frame.{World}
 use Rattle.paris_model.specs.Instructions.{writes, one}
@@ -12,8 +13,9 @@ use Rattle.paris_machine.specs.State.{Row, Inputs, State, start_world, start_rec
 use Rattle.paris_machine.specs.Edits.{row_deleted}
 use Rattle.paris_book.specs.Kept.{ripen, Sound}
 use Rattle.paris_book.proofs.Swept.{swept, swept_entries}
-use Rattle.paris_book.specs.Whole.{RowsBelow, IdsApart, ids_of, AllFitted, IsWhole}
-use Rattle.paris_book.specs.Entries.{Entry, plan_of, row_of}
+use Rattle.paris_program.specs.Program.{ids_of}
+use Rattle.paris_book.specs.Whole.{RowsBelow, IdsApart, AllFitted, IsWhole}
+use Rattle.paris_book.specs.Entries.{Entry, entry_plan, machine_row}
 use Rattle.paris_book.proofs.Values.{sound_swept, swept_rows}
 use Rattle.paris_book.proofs.Origins.{ripe, sound-take}
 use Rattle.paris_book.proofs.Recipes.{past_all}
@@ -44,13 +46,13 @@ apart_without (y ∷ es) (suc p) e back x a =
 
 sound_delete : (n : ℕ) (w : World) (h : Key → Bool) (es : List Entry) (p : ℕ) (e : Entry) (back : List Entry) → drop p es ≡ e ∷ back → Sound w h es → Sound w h (take p es ++ swept_entries n (has_key (writes e.1.plan)) back)
 sound_delete n w h es p e back x s =
-    let w' = run w (map plan_of (take p es)) in
+    let w' = run w (map entry_plan (take p es)) in
     let h' = ripe h (take p es) in
     let rest : Sound w' h' (e ∷ back) = rw x at (sound-drop w h es p s) in
     sound-join w h (take p es) (swept_entries n (has_key (writes e.1.plan)) back) (sound-take w h es p s)
     (sound_swept n (has_key (writes e.1.plan)) (one e.1.plan w') w' (ripen h' e) h' (agree_one_back e.1.plan w') (λ f t. sym (agree_ripen h' e f t)) back rest.1)
 
-pub delete_whole : (b : Board) (n m : ℕ) (inputs : Inputs) (es zs : List Entry) (p : ℕ) (e : Entry) (back : List Entry) → n < 9223372036854775807 → drop p es ≡ e ∷ back → IsWhole b n m inputs es → zs ≡ take p es ++ swept_entries (n + 1) (has_key (writes e.1.plan)) back
+pub delete_whole : (b : Board) (n m : ℕ) (inputs : Inputs) (es zs : List Entry) (p : ℕ) (e : Entry) (back : List Entry) → n < MAX_EDITS → drop p es ≡ e ∷ back → IsWhole b n m inputs es → zs ≡ take p es ++ swept_entries (n + 1) (has_key (writes e.1.plan)) back
     → IsWhole b (n + 1) m inputs zs
 delete_whole b n m inputs es zs p e back few x w z =
     let d : Key → Bool = has_key (writes e.1.plan) in
@@ -75,13 +77,13 @@ pub delete_view : (b : Board) (n m : ℕ) (inputs : Inputs) (es zs : List Entry)
     → state_of b (n + 1) m inputs zs ≡ row_deleted s p
 delete_view b n m inputs es zs s p e back x w z y =
     let d : Key → Bool = has_key (writes e.1.plan) in
-    let rows : List Row = map row_of es in
-    let behind : drop p rows ≡ row_of e ∷ map row_of back = drop-map row_of p es ∙ ap (map row_of) x in
-    let not_of : NotOf e.0 (past_all (start_recipe inputs) (take p rows)) = rw (take-map row_of p es) (not_of_all e.0 (start_recipe inputs) (take p es) (λ f. refl) (apart_without es p e back x w.ids_apart).0) in
+    let rows : List Row = map machine_row es in
+    let behind : drop p rows ≡ machine_row e ∷ map machine_row back = drop-map machine_row p es ∙ ap (map machine_row) x in
+    let not_of : NotOf e.0 (past_all (start_recipe inputs) (take p rows)) = rw (take-map machine_row p es) (not_of_all e.0 (start_recipe inputs) (take p es) (λ f. refl) (apart_without es p e back x w.ids_apart).0) in
     ap (λ (ys : List Entry). state_of b (n + 1) m inputs ys) z
     ∙ ap (λ (rs : List Row). record { board = b; edits = n + 1; inputs = inputs; next = m; rows = rs })
-    (map-append row_of (take p es) (swept_entries (n + 1) d back)
-    ∙ ap (λ ys. map row_of (take p es) ++ ys) (swept_rows (n + 1) d back)
-    ∙ ap (λ ys. ys ++ swept (n + 1) d (map row_of back)) (sym (take-map row_of p es))
-    ∙ sym (judged_delete (n + 1) (start_recipe inputs) rows p (row_of e) (map row_of back) behind not_of))
+    (map-append machine_row (take p es) (swept_entries (n + 1) d back)
+    ∙ ap (λ ys. map machine_row (take p es) ++ ys) (swept_rows (n + 1) d back)
+    ∙ ap (λ ys. ys ++ swept (n + 1) d (map machine_row back)) (sym (take-map machine_row p es))
+    ∙ sym (judged_delete (n + 1) (start_recipe inputs) rows p (machine_row e) (map machine_row back) behind not_of))
     ∙ ap (λ (t : State). row_deleted t p) y

@@ -13,9 +13,9 @@ use Rattle.paris_model.specs.Laws.{WorldFits, PlansFit, RunIsDirect}
 use Rattle.paris_field.specs.Fields.{AllFit}
 use Rattle.paris_machine.specs.declared.inputs.Input.{Input}
 use Rattle.paris_machine.specs.declared.inputs.FlagInputs.{FlagInputs}
-use Rattle.paris_book.specs.Entries.{Entry, plan_of, row_of}
+use Rattle.paris_book.specs.Entries.{Entry, entry_plan, machine_row}
 use Rattle.paris_machine.specs.State.{Row, Inputs, State, flag_input, input_of, numbers_in, start_world, row_plan}
-use Rattle.paris_book.specs.Whole.{shape_of, shape_in, AllFitted, IsWhole}
+use Rattle.paris_book.specs.Whole.{input_shape, shape_in, AllFitted, IsWhole}
 use Rattle.paris_book.specs.Among.{width_in_shape}
 use Rattle.paris_book.specs.Laws.{InputFits, FlagsFit, InputsFit, ActionFits, ActionsFit, NowIsDirect}
 use Rattle.paris_book.proofs.Inserts.{state_of, fitted-take}
@@ -28,7 +28,7 @@ width_at inputs k = width_in_shape (shape_in inputs k)
 pub all_at : {X : Type 0} (P : X → Type 0) (xs : List X) (i : ℕ) (x : X) → All P xs → slice_get xs i ≡ Some x → P x
 all_at P xs i x all at = subst P (get_or_from_slice_get xs i x x at) (All-get_or P xs i x (slice_get_within xs i x at) all)
 
-fits_if_there : (o : Option Input) → ((i : Input) → o ≡ Some i → InputFits i) → AllFit (width_in_shape (shape_of o)) (numbers_in o)
+fits_if_there : (o : Option Input) → ((i : Input) → o ≡ Some i → InputFits i) → AllFit (width_in_shape (input_shape o)) (numbers_in o)
 fits_if_there None there = All-nil _
 fits_if_there (Some i) there = there i refl
 
@@ -40,7 +40,7 @@ pub start_fits : (inputs : Inputs) → InputsFit inputs → WorldFits (width_at 
 start_fits inputs fit (Field f) = fits_if_there (slice_get inputs.fields f) (λ i e. all_at InputFits inputs.fields f i fit.fields e)
 start_fits inputs fit (Flag s flag) = fits_if_there (input_of inputs (Flag s flag)) (flag_fits inputs.flags s flag fit.flags (slice_get inputs.flags s) refl)
 
-pub plans_fit : (inputs : Inputs) (es : List Entry) → AllFitted inputs es → ActionsFit es → PlansFit (width_at inputs) (map plan_of es)
+pub plans_fit : (inputs : Inputs) (es : List Entry) → AllFitted inputs es → ActionsFit es → PlansFit (width_at inputs) (map entry_plan es)
 plans_fit inputs [] fitted fit = tt
 plans_fit inputs (e ∷ es) fitted fit =
     (record { action = All-head ActionFits e es fit; widths = λ k t. sym (ap width_in_shape (fitted.0 k t)) }, plans_fit inputs es fitted.1 (All-tail ActionFits e es fit))
@@ -61,11 +61,11 @@ actions_more es i e at before fit =
 pub now_direct : (b : Board) (n m : ℕ) (inputs : Inputs) (es : List Entry) (s : State) → state_of b n m inputs es ≡ s → IsWhole b n m inputs es → InputsFit inputs → ActionsFit es → RunIsDirect → NowIsDirect s
 now_direct b n m inputs es s y w fit actions law = subst NowIsDirect y at_each
   where
-    plans_at : (place : ℕ) → map row_plan (take place (map row_of es)) ≡ map plan_of (take place es)
-    plans_at place = ap (λ (rs : List Row). map row_plan rs) (take-map row_of place es) ∙ map-row (take place es)
+    plans_at : (place : ℕ) → map row_plan (take place (map machine_row es)) ≡ map entry_plan (take place es)
+    plans_at place = ap (λ (rs : List Row). map row_plan rs) (take-map machine_row place es) ∙ map-row (take place es)
 
     at_each : NowIsDirect (state_of b n m inputs es)
     at_each place k =
-        law (width_at inputs) (start_world inputs) (map row_plan (take place (map row_of es))) (start_fits inputs fit)
+        law (width_at inputs) (start_world inputs) (map row_plan (take place (map machine_row es))) (start_fits inputs fit)
         (subst (PlansFit (width_at inputs)) (sym (plans_at place)) (plans_fit inputs (take place es) (fitted-take inputs es place w.fitted) (All-take ActionFits place es actions)))
         k

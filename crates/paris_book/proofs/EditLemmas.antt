@@ -12,9 +12,10 @@ use Rattle.paris_machine.specs.State.{Row}
 use Rattle.paris_machine.specs.Edits.{Known, row_recipe, past_row, known, unsettled, judged, set_first}
 use Rattle.paris_depends.specs.Changes.{Differ}
 use Rattle.paris_book.proofs.Swept.{swept}
-use Rattle.paris_book.specs.Whole.{RowsBelow, ids_of}
+use Rattle.paris_program.specs.Program.{ids_of}
+use Rattle.paris_book.specs.Whole.{RowsBelow}
 use Rattle.paris_book.specs.Marks.{writes_either}
-use Rattle.paris_book.specs.Entries.{Entry, row_of}
+use Rattle.paris_book.specs.Entries.{Entry, machine_row}
 use Rattle.paris_depends.proofs.Recipes.{same_self}
 use Rattle.paris_book.proofs.Recipes.{past_all, judged_front, judged_swept}
 
@@ -58,9 +59,9 @@ below_past n q r b h f = by_has (has_key (writes r.plan) f)
     by_has true = h
     by_has false = b f
 
-pub below_all : (n m : ℕ) (q : Key → Recipe) (es : List Entry) → Below (n + 1) q → RowsBelow n m es → Below (n + 1) (past_all q (map row_of es))
+pub below_all : (n m : ℕ) (q : Key → Recipe) (es : List Entry) → Below (n + 1) q → RowsBelow n m es → Below (n + 1) (past_all q (map machine_row es))
 below_all n m q [] b h = b
-below_all n m q (e ∷ es) b h = below_all n m (past_row q (row_of e)) es (below_past (n + 1) q (row_of e) b (let x : e.1.set_by ≤ n = h.0 in omega arith)) h.2
+below_all n m q (e ∷ es) b h = below_all n m (past_row q (machine_row e)) es (below_past (n + 1) q (machine_row e) b (let x : e.1.set_by ≤ n = h.0 in omega arith)) h.2
 
 pub or_first : (a b : Bool) → (a || b) ≡ false → a ≡ false
 or_first true b h = h
@@ -104,12 +105,12 @@ eqb_flip i j h = by_test (eqb i j) refl
     by_test false e = refl
 
 -- rows with other ids make no recipe of that row
-pub not_of_all : (i : ℕ) (q : Key → Recipe) (es : List Entry) → NotOf i q → list_any (λ j. eqb j i) (ids_of es) ≡ false → NotOf i (past_all q (map row_of es))
+pub not_of_all : (i : ℕ) (q : Key → Recipe) (es : List Entry) → NotOf i q → list_any (λ j. eqb j i) (ids_of es) ≡ false → NotOf i (past_all q (map machine_row es))
 unfolding past
 not_of_all i q [] h a = h
-not_of_all i q (e ∷ es) h a = not_of_all i (past_row q (row_of e)) es (λ f. by_has f (has_key (writes e.1.plan) f)) (or_second (eqb e.0 i) (list_any (λ j. eqb j i) (ids_of es)) a)
+not_of_all i q (e ∷ es) h a = not_of_all i (past_row q (machine_row e)) es (λ f. by_has f (has_key (writes e.1.plan) f)) (or_second (eqb e.0 i) (list_any (λ j. eqb j i) (ids_of es)) a)
   where
-    by_has : (f : Key) (c : Bool) → is_of i (cond c (row_recipe q (row_of e)) (q f)) ≡ false
+    by_has : (f : Key) (c : Bool) → is_of i (cond c (row_recipe q (machine_row e)) (q f)) ≡ false
     by_has f true = eqb_flip i e.0 (or_first (eqb e.0 i) (list_any (λ j. eqb j i) (ids_of es)) a)
     by_has f false = h f
 

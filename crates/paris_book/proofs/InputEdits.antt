@@ -9,6 +9,7 @@ use Rattle.paris_names.specs.declared.keys.Key.TheVariants.{Field, Flag}
 use Rattle.paris_names.specs.declared.keys.FlagName.{FlagName}
 use Rattle.paris_names.specs.declared.keys.FlagName.TheVariants.{Context, Test, Carry, Overflow}
 use Rattle.paris_names.specs.Keys.{has_key, key_eq}
+use Rattle.paris_names.specs.declared.limits.TheConstants.{MAX_EDITS}
 use Rattle.paris_names.proofs.KeyLists.{key_eq-true}
 use Rattle.paris_board.specs.Board.{Board}
 use Rattle.paris_model.specs.Recipe.{same}
@@ -16,8 +17,8 @@ use Rattle.paris_machine.specs.State.{Row, Inputs, flag_input, with_flag_input, 
 use Rattle.paris_machine.specs.Edits.{known_rows, edited}
 use Rattle.paris_depends.specs.Changes.{Differ}
 use Rattle.paris_book.proofs.Swept.{swept_entries}
-use Rattle.paris_book.specs.Whole.{shape_of, shape_in, InputsBelow, IsWhole}
-use Rattle.paris_book.specs.Entries.{Entry, row_of}
+use Rattle.paris_book.specs.Whole.{input_shape, shape_in, InputsBelow, IsWhole}
+use Rattle.paris_book.specs.Entries.{Entry, machine_row}
 use Rattle.paris_machine.specs.declared.inputs.Input.{Input}
 use Rattle.paris_machine.specs.declared.inputs.FlagInputs.{FlagInputs}
 use Rattle.paris_depends.proofs.Recipes.{eqb_self}
@@ -126,7 +127,7 @@ input_differ n inputs k i j below there new f = by_test (key_eq f k) refl
 
 shape_stays : (inputs : Inputs) (k : Key) (i j : Input) → input_of inputs k ≡ Some j → i.value.width ≡ j.value.width → length i.value.numbers ≡ length j.value.numbers → (f : Key) → shape_in (with_input inputs k i) f ≡ shape_in inputs f
 shape_stays inputs k i j there width count f =
-    sym (by_key inputs k i j there shape_of f (λ x y. x ≡ y) (ap₂ (λ a b. Some (a, b)) (sym width) (sym count)) (λ x. refl))
+    sym (by_key inputs k i j there input_shape f (λ x y. x ≡ y) (ap₂ (λ a b. Some (a, b)) (sym width) (sym count)) (λ x. refl))
 
 numbers_up : (n : ℕ) (inputs : Inputs) (k : Key) (i j : Input) → input_of inputs k ≡ Some j → i.number ≤ n → InputsBelow n inputs → InputsBelow n (with_input inputs k i)
 numbers_up n inputs k i j there small below f = by_test (key_eq f k) refl
@@ -147,7 +148,7 @@ flags_stay inputs (Flag s flag) i = by_there (slice_get inputs.flags s)
     by_there None = refl
     by_there (Some x) = length-set inputs.flags s (with_flag_input x flag i)
 
-pub input_whole : (b : Board) (n m : ℕ) (inputs : Inputs) (es zs : List Entry) (k : Key) (i j : Input) → n < 9223372036854775807 → input_of inputs k ≡ Some j → i.number ≡ n + 1 → i.value.width ≡ j.value.width → length i.value.numbers ≡ length j.value.numbers
+pub input_whole : (b : Board) (n m : ℕ) (inputs : Inputs) (es zs : List Entry) (k : Key) (i j : Input) → n < MAX_EDITS → input_of inputs k ≡ Some j → i.number ≡ n + 1 → i.value.width ≡ j.value.width → length i.value.numbers ≡ length j.value.numbers
     → IsWhole b n m inputs es → zs ≡ swept_entries (n + 1) (has_key (k ∷ [])) es → IsWhole b (n + 1) m (with_input inputs k i) zs
 input_whole b n m inputs es zs k i j few there new width count w z =
     let d : Key → Bool = has_key (k ∷ []) in
@@ -171,4 +172,4 @@ pub input_view : (b : Board) (n m : ℕ) (inputs : Inputs) (es zs : List Entry) 
 input_view b n m inputs es zs k i j there new w z =
     ap (λ (ys : List Entry). state_of b (n + 1) m (with_input inputs k i) ys) z
     ∙ ap (λ (rs : List Row). record { board = b; edits = n + 1; inputs = with_input inputs k i; next = m; rows = rs })
-    (swept_rows (n + 1) (has_key (k ∷ [])) es ∙ sym (judged_swept (n + 1) (has_key (k ∷ [])) (start_recipe inputs) (start_recipe (with_input inputs k i)) (input_differ n inputs k i j w.inputs_below there new) (map row_of es)))
+    (swept_rows (n + 1) (has_key (k ∷ [])) es ∙ sym (judged_swept (n + 1) (has_key (k ∷ [])) (start_recipe inputs) (start_recipe (with_input inputs k i)) (input_differ n inputs k i j w.inputs_below there new) (map machine_row es)))

@@ -5,6 +5,7 @@ use Rattle.std.proofs.lemmas.List.{take-map, drop-map, map-append}
 use Rattle.std.specs.List.{list_any}
 use Rattle.paris_names.specs.declared.keys.Key.{Key}
 use Rattle.paris_names.specs.Keys.{has_key}
+use Rattle.paris_names.specs.declared.limits.TheConstants.{MAX_EDITS}
 use Rattle.paris_geometry.specs.Geometry.{processor_count}
 use Rattle.paris_board.specs.Board.{Board}
 use Rattle.paris_model.specs.Frame.{World}
@@ -17,21 +18,22 @@ use Rattle.paris_machine.specs.Edits.{new_row, row_inserted}
 use Rattle.paris_book.specs.Kept.{ripen, Right, Sound}
 use Rattle.paris_depends.specs.Sweeps.{touches, spread}
 use Rattle.paris_book.proofs.Swept.{swept, swept_entries}
-use Rattle.paris_book.specs.Whole.{shape_in, InputsBelow, RowsBelow, IdsApart, ids_of, Fitted, AllFitted, IsWhole}
-use Rattle.paris_book.specs.Entries.{Entry, plan_of, row_of, with_data}
+use Rattle.paris_program.specs.Program.{ids_of}
+use Rattle.paris_book.specs.Whole.{shape_in, InputsBelow, RowsBelow, IdsApart, Fitted, AllFitted, IsWhole}
+use Rattle.paris_book.specs.Entries.{Entry, entry_plan, machine_row, with_data}
 use Rattle.paris_book.specs.Marks.{fresh_data, stale_data}
 use Rattle.paris_book.proofs.Values.{Agree, sound_swept, swept_rows}
 use Rattle.paris_book.proofs.Origins.{ripe, sound-take}
 use Rattle.paris_book.proofs.Recipes.{past_all}
 use Rattle.paris_book.proofs.EditLemmas.{or_first, or_second, judged_insert, below_all, Below}
 
-pub sound-drop : (w : World) (h : Key → Bool) (es : List Entry) (p : ℕ) → Sound w h es → Sound (run w (map plan_of (take p es))) (ripe h (take p es)) (drop p es)
+pub sound-drop : (w : World) (h : Key → Bool) (es : List Entry) (p : ℕ) → Sound w h es → Sound (run w (map entry_plan (take p es))) (ripe h (take p es)) (drop p es)
 sound-drop w h [] zero s = tt
 sound-drop w h [] (suc p) s = tt
 sound-drop w h (e ∷ es) zero s = s
 sound-drop w h (e ∷ es) (suc p) s = sound-drop (one e.1.plan w) (ripen h e) es p s.1
 
-pub sound-join : (w : World) (h : Key → Bool) (xs ys : List Entry) → Sound w h xs → Sound (run w (map plan_of xs)) (ripe h xs) ys → Sound w h (xs ++ ys)
+pub sound-join : (w : World) (h : Key → Bool) (xs ys : List Entry) → Sound w h xs → Sound (run w (map entry_plan xs)) (ripe h xs) ys → Sound w h (xs ++ ys)
 sound-join w h [] ys s t = t
 sound-join w h (e ∷ es) ys s t = (s.0, sound-join (one e.1.plan w) (ripen h e) es ys s.1 t)
 
@@ -50,7 +52,7 @@ agree_ripen h e f t = rw t refl
 
 pub sound_insert : (n : ℕ) (w : World) (h : Key → Bool) (es : List Entry) (p : ℕ) (e : Entry) → Sound w h es → is_settled e.1.status ≡ false → Sound w h (take p es ++ e ∷ swept_entries n (has_key (writes e.1.plan)) (drop p es))
 sound_insert n w h es p e s u =
-    let w' = run w (map plan_of (take p es)) in
+    let w' = run w (map entry_plan (take p es)) in
     let h' = ripe h (take p es) in
     sound-join w h (take p es) (e ∷ swept_entries n (has_key (writes e.1.plan)) (drop p es)) (sound-take w h es p s)
     (right_unsettled w' h' e u, sound_swept n (has_key (writes e.1.plan)) w' (one e.1.plan w') h' (ripen h' e) (agree_one e.1.plan w') (agree_ripen h' e) (drop p es) (sound-drop w h es p s))
@@ -164,9 +166,9 @@ inserted_rows n m es p x = take p es ++ (m, fresh_data x (n + 1)) ∷ swept_entr
 
 -- the state of a book
 abbrev pub state_of : Board → ℕ → ℕ → Inputs → List Entry → State
-state_of board edits next inputs es = record { board = board; edits = edits; inputs = inputs; next = next; rows = map row_of es }
+state_of board edits next inputs es = record { board = board; edits = edits; inputs = inputs; next = next; rows = map machine_row es }
 
-pub insert_whole : (b : Board) (n m : ℕ) (inputs : Inputs) (es zs : List Entry) (p : ℕ) (x : Plan) → n < 9223372036854775807 → Fitted inputs x → IsWhole b n m inputs es → zs ≡ inserted_rows n m es p x → IsWhole b (n + 1) (m + 1) inputs zs
+pub insert_whole : (b : Board) (n m : ℕ) (inputs : Inputs) (es zs : List Entry) (p : ℕ) (x : Plan) → n < MAX_EDITS → Fitted inputs x → IsWhole b n m inputs es → zs ≡ inserted_rows n m es p x → IsWhole b (n + 1) (m + 1) inputs zs
 insert_whole b n m inputs es zs p x few fit w z =
     let d : Key → Bool = has_key (writes x) in
     let e : Entry = (m, fresh_data x (n + 1)) in
@@ -189,14 +191,14 @@ insert_whole b n m inputs es zs p x few fit w z =
 pub insert_view : (b : Board) (n m : ℕ) (inputs : Inputs) (es zs : List Entry) (s : State) (p : ℕ) (x : Plan) → IsWhole b n m inputs es → zs ≡ inserted_rows n m es p x → state_of b n m inputs es ≡ s → state_of b (n + 1) (m + 1) inputs zs ≡ row_inserted s p x
 insert_view b n m inputs es zs s p x w z v =
     let d : Key → Bool = has_key (writes x) in
-    let rows : List Row = map row_of es in
+    let rows : List Row = map machine_row es in
     let r : Row = new_row (state_of b n m inputs es) x in
     let below = below_all n m (start_recipe inputs) (take p es) (λ k. start_below n inputs k w.inputs_below) (rows-take n m es p w.rows_below) in
     ap (λ (ys : List Entry). state_of b (n + 1) (m + 1) inputs ys) z
     ∙ ap (λ (rs : List Row). record { board = b; edits = n + 1; inputs = inputs; next = m + 1; rows = rs })
-    (map-append row_of (take p es) ((m, fresh_data x (n + 1)) ∷ swept_entries (n + 1) d (drop p es))
-    ∙ ap (λ ys. map row_of (take p es) ++ r ∷ ys) (swept_rows (n + 1) d (drop p es))
-    ∙ ap (λ ys. ys ++ r ∷ swept (n + 1) d (map row_of (drop p es))) (sym (take-map row_of p es))
-    ∙ ap (λ ys. take p rows ++ r ∷ swept (n + 1) d ys) (sym (drop-map row_of p es))
-    ∙ sym (judged_insert (n + 1) (start_recipe inputs) rows p r (subst (λ ys. Below (n + 1) (past_all (start_recipe inputs) ys)) (sym (take-map row_of p es)) below) refl))
+    (map-append machine_row (take p es) ((m, fresh_data x (n + 1)) ∷ swept_entries (n + 1) d (drop p es))
+    ∙ ap (λ ys. map machine_row (take p es) ++ r ∷ ys) (swept_rows (n + 1) d (drop p es))
+    ∙ ap (λ ys. ys ++ r ∷ swept (n + 1) d (map machine_row (drop p es))) (sym (take-map machine_row p es))
+    ∙ ap (λ ys. take p rows ++ r ∷ swept (n + 1) d ys) (sym (drop-map machine_row p es))
+    ∙ sym (judged_insert (n + 1) (start_recipe inputs) rows p r (subst (λ ys. Below (n + 1) (past_all (start_recipe inputs) ys)) (sym (take-map machine_row p es)) below) refl))
     ∙ ap (λ (t : State). row_inserted t p x) v

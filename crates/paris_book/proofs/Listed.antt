@@ -13,7 +13,7 @@ use Rattle.paris_machine.specs.Lists.{listed_in, list_of}
 use Rattle.paris_book.specs.Kept.{ripen, Sound}
 use Rattle.paris_book.specs.Whole.{IsWhole}
 use Rattle.paris_book.specs.Among.{listed_entry, looks_kept}
-use Rattle.paris_book.specs.Entries.{Entry, id_of, row_of}
+use Rattle.paris_book.specs.Entries.{Entry, id_of, machine_row}
 use Rattle.paris_events.specs.declared.rows.RowLook.{RowLook}
 use Rattle.paris_book.proofs.Inserts.{state_of}
 use Rattle.paris_book.proofs.RefusedRows.{cause_is}
@@ -22,7 +22,7 @@ use Rattle.paris_book.proofs.RefusedRows.{cause_is}
 abbrev look_with : Entry → Option Refusal → RowLook
 look_with e o = record { id = id_of e; edition = e.1.edition; status = e.1.status; instr = e.1.plan.instr; cause = o }
 
-looks_are : (w : World) (h : Key → Bool) (es : List Entry) → Sound w h es → looks_kept es ≡ listed_in w (map row_of es)
+looks_are : (w : World) (h : Key → Bool) (es : List Entry) → Sound w h es → looks_kept es ≡ listed_in w (map machine_row es)
 looks_are w h [] s = refl
 looks_are w h (e ∷ es) s = ap₂ (λ o looks. look_with e o ∷ looks) (cause_is w h e s.0) (looks_are (one e.1.plan w) (ripen h e) es s.1)
 

@@ -10,7 +10,7 @@ use Rattle.paris_model.specs.Recipe.{origin}
 use Rattle.paris_model.proofs.Worlds.{one_is}
 use Rattle.paris_events.specs.Rows.{is_settled}
 use Rattle.paris_book.specs.Kept.{last_kept, ripen, Sound}
-use Rattle.paris_book.specs.Entries.{Entry, plan_of}
+use Rattle.paris_book.specs.Entries.{Entry, entry_plan}
 
 pub origin-map : {X Y : Type 0} (work : Y → Plan) (g : X → Y) (f : Key) (xs : List X) → origin work f (map g xs) ≡ option_map g (origin (λ x. work (g x)) f xs)
 origin-map work g f [] = refl
@@ -29,12 +29,12 @@ sound-take w h (e ∷ es) (suc k) s = (s.0, sound-take (one e.1.plan w) (ripen h
 
 -- what an origin tells of a key's value: the value at the start, or what the row's result holds, once it is settled
 abbrev pub Tells : World → List Entry → Key → Option Entry → Type 0
-Tells w es f None = run w (map plan_of es) f ≡ w f
-Tells w es f (Some e) = (has_key (writes e.1.plan) f ≡ true) × (is_settled e.1.status ≡ true → (xs : List (List ℕ)) × (last_kept e.1.done ≡ Some (e.1.plan, xs)) × (given e.1.plan xs f ≡ run w (map plan_of es) f))
+Tells w es f None = run w (map entry_plan es) f ≡ w f
+Tells w es f (Some e) = (has_key (writes e.1.plan) f ≡ true) × (is_settled e.1.status ≡ true → (xs : List (List ℕ)) × (last_kept e.1.done ≡ Some (e.1.plan, xs)) × (given e.1.plan xs f ≡ run w (map entry_plan es) f))
 
-pub origin_tells : (w : World) (h : Key → Bool) (f : Key) (es : List Entry) → Sound w h es → Tells w es f (origin plan_of f es)
+pub origin_tells : (w : World) (h : Key → Bool) (f : Key) (es : List Entry) → Sound w h es → Tells w es f (origin entry_plan f es)
 origin_tells w h f [] s = refl
-origin_tells w h f (e ∷ es) s = by_rest (origin plan_of f es) (origin_tells (one e.1.plan w) (ripen h e) f es s.1)
+origin_tells w h f (e ∷ es) s = by_rest (origin entry_plan f es) (origin_tells (one e.1.plan w) (ripen h e) f es s.1)
   where
     by_rest : (o : Option Entry) → Tells (one e.1.plan w) es f o → Tells w (e ∷ es) f (option_or o (cond (has_key (writes e.1.plan) f) (Some e) None))
     by_rest (Some x) t = t
@@ -53,10 +53,10 @@ abbrev pub is_firm_or : Bool → Option Entry → Bool
 is_firm_or b None = b
 is_firm_or b (Some e) = is_settled e.1.status
 
-pub ripe_is : (h : Key → Bool) (f : Key) (es : List Entry) → ripe h es f ≡ is_firm_or (h f) (origin plan_of f es)
+pub ripe_is : (h : Key → Bool) (f : Key) (es : List Entry) → ripe h es f ≡ is_firm_or (h f) (origin entry_plan f es)
 unfolding ripen
 ripe_is h f [] = refl
-ripe_is h f (e ∷ es) = ripe_is (ripen h e) f es ∙ by_both (origin plan_of f es) (has_key (writes e.1.plan) f) refl
+ripe_is h f (e ∷ es) = ripe_is (ripen h e) f es ∙ by_both (origin entry_plan f es) (has_key (writes e.1.plan) f) refl
   where
     by_both : (o : Option Entry) (b : Bool) → has_key (writes e.1.plan) f ≡ b → is_firm_or (ripen h e f) o ≡ is_firm_or (h f) (option_or o (cond b (Some e) None))
     by_both (Some x) b t = refl

@@ -18,7 +18,7 @@ use Rattle.paris_machine.specs.Lists.{cause_in, fault_by, faults_in, faults_of}
 use Rattle.paris_book.specs.Kept.{last_kept, ripen, Right, Sound}
 use Rattle.paris_book.specs.Whole.{IsWhole}
 use Rattle.paris_book.specs.Among.{cause_told, cause_kept, faults_kept}
-use Rattle.paris_book.specs.Entries.{Entry, id_of, row_of}
+use Rattle.paris_book.specs.Entries.{Entry, id_of, machine_row}
 use Rattle.paris_book.proofs.Inserts.{state_of}
 use Rattle.paris_book.proofs.RefusalHere.{refusal_here}
 
@@ -55,7 +55,7 @@ faults_more es i e o at is =
     ∙ ap (λ c. faults_kept (take i es) ++ fault_by (id_of e) c) (sym is)
 
 -- a settled row's result was refused exactly where the run refuses the row
-pub cause_is : (w : World) (h : Key → Bool) (e : Entry) → Right w h e → cause_kept e ≡ cause_in w (row_of e)
+pub cause_is : (w : World) (h : Key → Bool) (e : Entry) → Right w h e → cause_kept e ≡ cause_in w (machine_row e)
 cause_is w h e r = by_status (is_settled e.1.status) refl
   where
     by_done : (d : Option Task) → last_kept d ≡ Some (e.1.plan, map w (reads e.1.plan)) → cause_told d ≡ refusal e.1.plan w
@@ -68,7 +68,7 @@ cause_is w h e r = by_status (is_settled e.1.status) refl
     by_status true t = by_done e.1.done (r.kept t)
     by_status false t = refl
 
-faults_are : (w : World) (h : Key → Bool) (es : List Entry) → Sound w h es → faults_kept es ≡ faults_in w (map row_of es)
+faults_are : (w : World) (h : Key → Bool) (es : List Entry) → Sound w h es → faults_kept es ≡ faults_in w (map machine_row es)
 faults_are w h [] s = refl
 faults_are w h (e ∷ es) s = ap₂ (λ o fs. fault_by (id_of e) o ++ fs) (cause_is w h e s.0) (faults_are (one e.1.plan w) (ripen h e) es s.1)
 

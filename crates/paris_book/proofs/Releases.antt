@@ -1,5 +1,6 @@
 -- A book of which no order is out any more is as whole as it was.
 use Rattle.std.proofs.Common.{◌≡◌, ℕ, List, [], ◌∷◌, Bool, true, cond, refl, sym, ap, ◌∙◌, map}
+use Rattle.std.proofs.lemmas.Map.Made.{keys_of-map_values}
 use Rattle.paris_names.specs.declared.keys.Key.{Key}
 use Rattle.paris_names.specs.Keys.{has_key}
 use Rattle.paris_board.specs.Board.{Board}
@@ -9,8 +10,8 @@ use Rattle.paris_events.specs.Rows.{is_settled}
 use Rattle.paris_machine.specs.State.{Row, Inputs, State, start_world}
 use Rattle.paris_machine.specs.Orders.{recalled_status, recalled_row, after_release}
 use Rattle.paris_book.specs.Kept.{ripen, Sound}
-use Rattle.paris_book.specs.Whole.{RowsBelow, ids_of, AllFitted, IsWhole}
-use Rattle.paris_book.specs.Entries.{Entry, row_of, with_data}
+use Rattle.paris_book.specs.Whole.{RowsBelow, AllFitted, IsWhole}
+use Rattle.paris_book.specs.Entries.{Entry, machine_row, with_data}
 use Rattle.paris_book.specs.Marks.{recalled_data}
 use Rattle.paris_events.specs.declared.rows.Status.{Status}
 use Rattle.paris_events.specs.declared.rows.Status.TheVariants.{Waiting, Out, Settled}
@@ -39,10 +40,6 @@ rows_recalled : (n m : ℕ) (es : List Entry) → RowsBelow n m es → RowsBelow
 rows_recalled n m [] r = tt
 rows_recalled n m (e ∷ es) r = (r.0, r.1, rows_recalled n m es r.2)
 
-ids_recalled : (es : List Entry) → ids_of (map (with_data recalled_data) es) ≡ ids_of es
-ids_recalled [] = refl
-ids_recalled (e ∷ es) = ap (λ is. e.0 ∷ is) (ids_recalled es)
-
 fitted_recalled : (inputs : Inputs) (es : List Entry) → AllFitted inputs es → AllFitted inputs (map (with_data recalled_data) es)
 fitted_recalled inputs [] f = tt
 fitted_recalled inputs (e ∷ es) f = (f.0, fitted_recalled inputs es f.1)
@@ -56,16 +53,16 @@ release_whole b n m inputs es w = record {
   shaped = w.shaped;
   inputs_below = w.inputs_below;
   rows_below = rows_recalled n m es w.rows_below;
-  ids_apart = rw (ids_recalled es) w.ids_apart;
+  ids_apart = rw (keys_of-map_values recalled_data es) w.ids_apart;
   fitted = fitted_recalled inputs es w.fitted;
   sound = sound_recalled (start_world inputs) (λ _. true) es w.sound;
 }
 
-view_recalled : (es : List Entry) → map row_of (map (with_data recalled_data) es) ≡ map recalled_row (map row_of es)
+view_recalled : (es : List Entry) → map machine_row (map (with_data recalled_data) es) ≡ map recalled_row (map machine_row es)
 view_recalled [] = refl
-view_recalled (e ∷ es) = ap (λ rs. recalled_row (row_of e) ∷ rs) (view_recalled es)
+view_recalled (e ∷ es) = ap (λ rs. recalled_row (machine_row e) ∷ rs) (view_recalled es)
 
 pub release_view : (b : Board) (n m : ℕ) (inputs : Inputs) (es zs : List Entry) (s : State) → zs ≡ map (with_data recalled_data) es → state_of b n m inputs es ≡ s → state_of b n m inputs zs ≡ after_release s
 release_view b n m inputs es zs s z y =
-    ap (λ (rs : List Row). record { board = b; edits = n; inputs = inputs; next = m; rows = rs }) (ap (map row_of) z ∙ view_recalled es)
+    ap (λ (rs : List Row). record { board = b; edits = n; inputs = inputs; next = m; rows = rs }) (ap (map machine_row) z ∙ view_recalled es)
     ∙ ap after_release y

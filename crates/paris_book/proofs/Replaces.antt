@@ -3,6 +3,7 @@ use Rattle.std.proofs.Common.{◌≡◌, ℕ, ◌<◌, ◌≤◌, ◌+◌, List,
 use Rattle.std.proofs.lemmas.List.{take-map, drop-map, map-append, take-append-drop}
 use Rattle.paris_names.specs.declared.keys.Key.{Key}
 use Rattle.paris_names.specs.Keys.{has_key}
+use Rattle.paris_names.specs.declared.limits.TheConstants.{MAX_EDITS}
 use Rattle.paris_board.specs.Board.{Board}
 use Rattle.paris_model.specs.Frame.{World}
 use Rattle.paris_model.specs.Instructions.{Plan, writes, one}
@@ -11,9 +12,10 @@ use Rattle.paris_machine.specs.State.{Row, Inputs, State, start_world, start_rec
 use Rattle.paris_machine.specs.Edits.{row_replaced}
 use Rattle.paris_book.specs.Kept.{ripen, Sound}
 use Rattle.paris_book.proofs.Swept.{swept, swept_entries}
-use Rattle.paris_book.specs.Whole.{RowsBelow, ids_of, Fitted, AllFitted, IsWhole}
+use Rattle.paris_program.specs.Program.{ids_of}
+use Rattle.paris_book.specs.Whole.{RowsBelow, Fitted, AllFitted, IsWhole}
 use Rattle.paris_book.specs.Marks.{fresh_data, writes_either}
-use Rattle.paris_book.specs.Entries.{Entry, plan_of, row_of}
+use Rattle.paris_book.specs.Entries.{Entry, entry_plan, machine_row}
 use Rattle.paris_book.proofs.Values.{Agree, sound_swept, swept_rows}
 use Rattle.paris_book.proofs.Origins.{ripe, sound-take}
 use Rattle.paris_book.proofs.Recipes.{past_all}
@@ -29,14 +31,14 @@ agree_either_ripen h e u f t = sym (agree_ripen h e f (or_first (has_key (writes
 
 sound_replace : (n : ℕ) (w : World) (h : Key → Bool) (es : List Entry) (p : ℕ) (e : Entry) (back : List Entry) (x : Plan) → drop p es ≡ e ∷ back → Sound w h es → Sound w h (take p es ++ (e.0, fresh_data x (n + 1)) ∷ swept_entries (n + 1) (writes_either e.1.plan x) back)
 sound_replace n w h es p e back x y s =
-    let w' = run w (map plan_of (take p es)) in
+    let w' = run w (map entry_plan (take p es)) in
     let h' = ripe h (take p es) in
     let u : Entry = (e.0, fresh_data x (n + 1)) in
     let rest : Sound w' h' (e ∷ back) = rw y at (sound-drop w h es p s) in
     sound-join w h (take p es) (u ∷ swept_entries (n + 1) (writes_either e.1.plan x) back) (sound-take w h es p s)
     (right_unsettled w' h' u refl, sound_swept (n + 1) (writes_either e.1.plan x) (one e.1.plan w') (one x w') (ripen h' e) (ripen h' u) (agree_either_one e.1.plan x w') (agree_either_ripen h' e u) back rest.1)
 
-pub replace_whole : (b : Board) (n m : ℕ) (inputs : Inputs) (es zs : List Entry) (p : ℕ) (e : Entry) (back : List Entry) (x : Plan) → n < 9223372036854775807 → Fitted inputs x → drop p es ≡ e ∷ back → IsWhole b n m inputs es
+pub replace_whole : (b : Board) (n m : ℕ) (inputs : Inputs) (es zs : List Entry) (p : ℕ) (e : Entry) (back : List Entry) (x : Plan) → n < MAX_EDITS → Fitted inputs x → drop p es ≡ e ∷ back → IsWhole b n m inputs es
     → zs ≡ take p es ++ (e.0, fresh_data x (n + 1)) ∷ swept_entries (n + 1) (writes_either e.1.plan x) back → IsWhole b (n + 1) m inputs zs
 replace_whole b n m inputs es zs p e back x few fit y w z =
     let d : Key → Bool = writes_either e.1.plan x in
@@ -64,16 +66,16 @@ pub replace_view : (b : Board) (n m : ℕ) (inputs : Inputs) (es zs : List Entry
 replace_view b n m inputs es zs s p e back x y w z v =
     let d : Key → Bool = writes_either e.1.plan x in
     let u : Entry = (e.0, fresh_data x (n + 1)) in
-    let rows : List Row = map row_of es in
-    let behind : drop p rows ≡ row_of e ∷ map row_of back = drop-map row_of p es ∙ ap (map row_of) y in
+    let rows : List Row = map machine_row es in
+    let behind : drop p rows ≡ machine_row e ∷ map machine_row back = drop-map machine_row p es ∙ ap (map machine_row) y in
     let own : RowsBelow n m (e ∷ back) = rw y at (rows-drop n m es p w.rows_below) in
     let low : e.1.set_by ≤ n = own.0 in
-    let not_of : NotOf e.0 (past_all (start_recipe inputs) (take p rows)) = rw (take-map row_of p es) (not_of_all e.0 (start_recipe inputs) (take p es) (λ f. refl) (apart_without es p e back y w.ids_apart).0) in
-    let below : Below (n + 1) (past_all (start_recipe inputs) (take p rows)) = rw (take-map row_of p es) (below_all n m (start_recipe inputs) (take p es) (λ k. start_below n inputs k w.inputs_below) (rows-take n m es p w.rows_below)) in
+    let not_of : NotOf e.0 (past_all (start_recipe inputs) (take p rows)) = rw (take-map machine_row p es) (not_of_all e.0 (start_recipe inputs) (take p es) (λ f. refl) (apart_without es p e back y w.ids_apart).0) in
+    let below : Below (n + 1) (past_all (start_recipe inputs) (take p rows)) = rw (take-map machine_row p es) (below_all n m (start_recipe inputs) (take p es) (λ k. start_below n inputs k w.inputs_below) (rows-take n m es p w.rows_below)) in
     ap (λ (ys : List Entry). state_of b (n + 1) m inputs ys) z
     ∙ ap (λ (rs : List Row). record { board = b; edits = n + 1; inputs = inputs; next = m; rows = rs })
-    (map-append row_of (take p es) (u ∷ swept_entries (n + 1) d back)
-    ∙ ap (λ ys. map row_of (take p es) ++ row_of u ∷ ys) (swept_rows (n + 1) d back)
-    ∙ ap (λ ys. ys ++ row_of u ∷ swept (n + 1) d (map row_of back)) (sym (take-map row_of p es))
-    ∙ sym (judged_replace (n + 1) (start_recipe inputs) rows p (row_of e) (map row_of back) x behind below not_of (omega arith)))
+    (map-append machine_row (take p es) (u ∷ swept_entries (n + 1) d back)
+    ∙ ap (λ ys. map machine_row (take p es) ++ machine_row u ∷ ys) (swept_rows (n + 1) d back)
+    ∙ ap (λ ys. ys ++ machine_row u ∷ swept (n + 1) d (map machine_row back)) (sym (take-map machine_row p es))
+    ∙ sym (judged_replace (n + 1) (start_recipe inputs) rows p (machine_row e) (map machine_row back) x behind below not_of (omega arith)))
     ∙ ap (λ (t : State). row_replaced t p x) v

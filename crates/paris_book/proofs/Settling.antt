@@ -20,8 +20,9 @@ use Rattle.paris_machine.specs.State.{Inputs, start_world}
 use Rattle.paris_machine.specs.Orders.{is_firm}
 use Rattle.paris_book.specs.Marks.{out_data, kept_data}
 use Rattle.paris_book.specs.Kept.{ripen, Sound, present}
-use Rattle.paris_book.specs.Whole.{RowsBelow, ids_of, Fitted, AllFitted, IsWhole}
-use Rattle.paris_book.specs.Entries.{Entry, plan_of, row_of, with_data}
+use Rattle.paris_program.specs.Program.{ids_of}
+use Rattle.paris_book.specs.Whole.{RowsBelow, Fitted, AllFitted, IsWhole}
+use Rattle.paris_book.specs.Entries.{Entry, entry_plan, machine_row, with_data}
 use Rattle.paris_events.specs.declared.verdicts.Verdict.TheVariants.{Stale, Repeated, Foreign, Kept}
 use Rattle.paris_book.specs.Among.{origin_among, firm_among, inputs_among}
 use Rattle.std.proofs.lemmas.Slice.Eq.{bytes_eq-Decides}
@@ -69,7 +70,7 @@ out_more h e u f x = by_has (has_key (writes e.1.plan) f) x
     by_has true y = absurd (let z : true ≡ false = sym y ∙ u in cc)
     by_has false y = y
 
-pub sound_kept : (w : World) (h : Key → Bool) (es : List Entry) (k : ℕ) (e : Entry) (t : Task) → slice_get es k ≡ Some e → t.plan ≡ e.1.plan → list_all (ripe h (take k es)) (reads e.1.plan) ≡ true → numbers_of t.inputs ≡ map (run w (map plan_of (take k es))) (reads e.1.plan) → Sound w h es → Sound w h (set es k (with_data (kept_data t) e))
+pub sound_kept : (w : World) (h : Key → Bool) (es : List Entry) (k : ℕ) (e : Entry) (t : Task) → slice_get es k ≡ Some e → t.plan ≡ e.1.plan → list_all (ripe h (take k es)) (reads e.1.plan) ≡ true → numbers_of t.inputs ≡ map (run w (map entry_plan (take k es))) (reads e.1.plan) → Sound w h es → Sound w h (set es k (with_data (kept_data t) e))
 sound_kept w h [] k e t x p a b s = absurd (cc)
 sound_kept w h (y ∷ es) zero e t x p a b s =
     let same : y ≡ e = cc in
@@ -147,7 +148,7 @@ firm_ripe es place (k ∷ ks) h =
     let here : ripe (λ _. true) (take place es) k ≡ true = ripe_is (λ _. true) k (take place es) ∙ by_origin (origin_among es place k) (and_first _ _ h) in
     rw here (firm_ripe es place ks (and_second (firm_among es place k) (list_all (firm_among es place) ks) h))
   where
-    by_origin : (o : Option Entry) → is_firm (option_map row_of o) ≡ true → is_firm_or true o ≡ true
+    by_origin : (o : Option Entry) → is_firm (option_map machine_row o) ≡ true → is_firm_or true o ≡ true
     by_origin None t = refl
     by_origin (Some e) t = t
 

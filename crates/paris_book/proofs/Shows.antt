@@ -22,8 +22,8 @@ use Rattle.paris_machine.specs.State.{Row, Inputs, input_of, numbers_in, start_w
 use Rattle.paris_machine.specs.Show.{now, origin_at, shown_of, show_at}
 use Rattle.paris_machine.specs.Orders.{is_firm}
 use Rattle.paris_book.specs.Kept.{last_kept, Sound, present}
-use Rattle.paris_book.specs.Whole.{shape_on, shape_of, shape_in, Shaped, Fitted, AllFitted}
-use Rattle.paris_book.specs.Entries.{Entry, id_of, plan_of, row_of}
+use Rattle.paris_book.specs.Whole.{shape_on, input_shape, shape_in, Shaped, Fitted, AllFitted}
+use Rattle.paris_book.specs.Entries.{Entry, id_of, entry_plan, machine_row}
 use Rattle.paris_machine.specs.declared.inputs.Input.{Input}
 use Rattle.paris_machine.specs.declared.events.Shown.TheVariants.{Settled as ShownSettled, Pending}
 use Rattle.paris_book.specs.Among.{origin_among, width_in_shape, value_among, look_among, look_shown, LookFits, firm_among}
@@ -33,15 +33,15 @@ use Rattle.paris_book.specs.declared.look.Look.{Look}
 use Rattle.paris_book.specs.declared.look.Look.TheVariants.{Settled as LookSettled, Pending as LookPending}
 use Rattle.paris_book.proofs.Inserts.{state_of}
 
-pub map-row : (es : List Entry) → map row_plan (map row_of es) ≡ map plan_of es
+pub map-row : (es : List Entry) → map row_plan (map machine_row es) ≡ map entry_plan es
 map-row [] = refl
 map-row (e ∷ es) = ap (λ x. e.1.plan ∷ x) (map-row es)
 
 pub now_is : (b : Board) (n m : ℕ) (inputs : Inputs) (es : List Entry) (place : ℕ) → now (state_of b n m inputs es) place ≡ present inputs es place
-now_is b n m inputs es place = ap (λ (rs : List Row). run (start_world inputs) (map row_plan rs)) (take-map row_of place es) ∙ ap (run (start_world inputs)) (map-row (take place es))
+now_is b n m inputs es place = ap (λ (rs : List Row). run (start_world inputs) (map row_plan rs)) (take-map machine_row place es) ∙ ap (run (start_world inputs)) (map-row (take place es))
 
-pub origin_row : (es : List Entry) (place : ℕ) (k : Key) → origin row_plan k (take place (map row_of es)) ≡ option_map row_of (origin_among es place k)
-origin_row es place k = ap (origin row_plan k) (take-map row_of place es) ∙ origin-map row_plan row_of k (take place es)
+pub origin_seen : (es : List Entry) (place : ℕ) (k : Key) → origin row_plan k (take place (map machine_row es)) ≡ option_map machine_row (origin_among es place k)
+origin_seen es place k = ap (origin row_plan k) (take-map machine_row place es) ∙ origin-map row_plan machine_row k (take place es)
 
 -- what the origin at a place tells
 pub tells_at : (inputs : Inputs) (es : List Entry) (k : Key) (place : ℕ) (o : Option Entry) → Sound (start_world inputs) (λ _. true) es → origin_among es place k ≡ o → Tells (start_world inputs) (take place es) k o
@@ -53,17 +53,17 @@ width_shaped o b k d e = ap width_in_shape e ∙ ap width_in_shape (ap (λ t. co
 -- the state and the entries show the same
 pub show_is : (b : Board) (n m : ℕ) (inputs : Inputs) (es : List Entry) (k : Key) (place : ℕ) → Shaped b inputs → is_declared b k ≡ true → show_at (state_of b n m inputs es) place k ≡ look_among inputs es place k
 show_is b n m inputs es k place shaped d =
-    ap₂ (λ (o : Option Row) (v : FieldNumbers). shown_of o v) (origin_row es place k)
+    ap₂ (λ (o : Option Row) (v : FieldNumbers). shown_of o v) (origin_seen es place k)
     (λ i. record { width = sym (width_shaped (shape_in inputs k) b k d (shaped k)) i; numbers = now_is b n m inputs es place i k })
 
 pub firm_is : (b : Board) (n m : ℕ) (inputs : Inputs) (es : List Entry) (k : Key) (place : ℕ) → is_firm (origin_at (state_of b n m inputs es) place k) ≡ firm_among es place k
-firm_is b n m inputs es k place = ap is_firm (origin_row es place k)
+firm_is b n m inputs es k place = ap is_firm (origin_seen es place k)
 
 -- a key whose origin is the start
 pub look_start : (inputs : Inputs) (es : List Entry) (k : Key) (place : ℕ) (x : Input) → Sound (start_world inputs) (λ _. true) es → origin_among es place k ≡ None → Some x ≡ input_of inputs k
     → (ShownSettled x.value ≡ look_among inputs es place k) × (shape_in inputs k ≡ Some (x.value.width, length x.value.numbers))
 look_start inputs es k place x s o e =
-    let shape : shape_in inputs k ≡ Some (x.value.width, length x.value.numbers) = ap shape_of (sym e) in
+    let shape : shape_in inputs k ≡ Some (x.value.width, length x.value.numbers) = ap input_shape (sym e) in
     let width : width_in_shape (shape_in inputs k) ≡ x.value.width = ap width_in_shape shape in
     let numbers : present inputs es place k ≡ x.value.numbers = tells_at inputs es k place None s o ∙ ap numbers_in (sym e) in
     (rw o (ap ShownSettled (λ i. record { width = sym width i; numbers = sym numbers i })), shape)
@@ -80,9 +80,9 @@ fitted_entry : (inputs : Inputs) (es : List Entry) (k : Key) (place : ℕ) (e : 
 fitted_entry inputs [] k zero e f o = absurd (cc)
 fitted_entry inputs [] k (suc place) e f o = absurd (cc)
 fitted_entry inputs (x ∷ es) k zero e f o = absurd (cc)
-fitted_entry inputs (x ∷ es) k (suc place) e f o = by_rest (fitted_entry inputs es k place e f.1) (origin plan_of k (take place es)) refl (has_key (writes x.1.plan) k) o
+fitted_entry inputs (x ∷ es) k (suc place) e f o = by_rest (fitted_entry inputs es k place e f.1) (origin entry_plan k (take place es)) refl (has_key (writes x.1.plan) k) o
   where
-    by_rest : (origin_among es place k ≡ Some e → Fitted inputs e.1.plan) → (r : Option Entry) → origin plan_of k (take place es) ≡ r → (b : Bool) → option_or r (cond b (Some x) None) ≡ Some e → Fitted inputs e.1.plan
+    by_rest : (origin_among es place k ≡ Some e → Fitted inputs e.1.plan) → (r : Option Entry) → origin entry_plan k (take place es) ≡ r → (b : Bool) → option_or r (cond b (Some x) None) ≡ Some e → Fitted inputs e.1.plan
     by_rest rest (Some y) q b h = rest (q ∙ h)
     by_rest rest None q true h = let same : x ≡ e = cc in subst (λ (z : Entry). Fitted inputs z.1.plan) same f.0
     by_rest rest None q false h = absurd (cc)
@@ -149,14 +149,14 @@ firm_lends inputs es k place p v firm shown shape fit h =
     let is : v ≡ value_among inputs es place k = shown_same v (value_among inputs es place k) value in
     (is ∙ (λ i. record { width = (sym (ap (λ (y : FieldNumbers). y.width) is) ∙ width) i; numbers = present inputs es place k }), ap (λ (s : ℕ × ℕ). s.1) same)
   where
-    by_origin : (o : Option Entry) → is_firm (option_map row_of o) ≡ true → shown_of (option_map row_of o) (value_among inputs es place k) ≡ ShownSettled (value_among inputs es place k)
+    by_origin : (o : Option Entry) → is_firm (option_map machine_row o) ≡ true → shown_of (option_map machine_row o) (value_among inputs es place k) ≡ ShownSettled (value_among inputs es place k)
     by_origin None t = refl
     by_origin (Some e) t = rw t refl
 
 pub firm_not_pending : (inputs : Inputs) (es : List Entry) (k : Key) (place : ℕ) (id : RowId) → firm_among es place k ≡ true → Pending id ≡ look_among inputs es place k → ⊥
 firm_not_pending inputs es k place id firm shown = by_origin (origin_among es place k) firm shown
   where
-    by_origin : (o : Option Entry) → is_firm (option_map row_of o) ≡ true → Pending id ≡ shown_of (option_map row_of o) (value_among inputs es place k) → ⊥
+    by_origin : (o : Option Entry) → is_firm (option_map machine_row o) ≡ true → Pending id ≡ shown_of (option_map machine_row o) (value_among inputs es place k) → ⊥
     by_origin None t h = absurd (cc)
     by_origin (Some e) t h = let wrong : Pending id ≡ ShownSettled (value_among inputs es place k) = h ∙ rw t refl in absurd (cc)
 
@@ -164,7 +164,7 @@ firm_not_pending inputs es k place id firm shown = by_origin (origin_among es pl
 pub fitted_known : (inputs : Inputs) (p : Plan) (k : Key) → Fitted inputs p → has_key (reads p) k ≡ true → IsSome (input_of inputs k)
 fitted_known inputs p k fit h = by_there (input_of inputs k) (fit k (ap (λ b. b || has_key (writes p) k) h))
   where
-    by_there : (o : Option Input) → shape_of o ≡ Some (key_width p k, processor_count p.axes) → IsSome o
+    by_there : (o : Option Input) → input_shape o ≡ Some (key_width p k, processor_count p.axes) → IsSome o
     by_there None e = absurd (cc)
     by_there (Some x) e = refl
 

@@ -14,7 +14,7 @@ use Rattle.paris_events.specs.Rows.{is_settled, is_waiting}
 use Rattle.paris_machine.specs.State.{Row, Inputs, State}
 use Rattle.paris_machine.specs.Orders.{next_ready, order_of, take_reply, taken, after_take}
 use Rattle.paris_book.specs.Marks.{out_data}
-use Rattle.paris_book.specs.Entries.{Entry, id_of, row_of, with_data}
+use Rattle.paris_book.specs.Entries.{Entry, id_of, machine_row, with_data}
 use Rattle.paris_events.specs.declared.rows.Status.{Status}
 use Rattle.paris_events.specs.declared.rows.Status.TheVariants.{Waiting, Out, Settled}
 use Rattle.paris_book.specs.Among.{firm_among, ready_among, next_among, order_among}
@@ -30,32 +30,32 @@ waiting_unsettled Settled h = absurd (let x : false ≡ true = h in cc)
 
 pub next_is : (b : Board) (n m : ℕ) (inputs : Inputs) (es : List Entry) → next_ready (state_of b n m inputs es) ≡ next_among es
 next_is b n m inputs es =
-    ap (λ (q : ℕ → Key → Bool). find (λ (e : ℕ × Row). is_waiting e.1.status && list_all (q e.0) (reads e.1.plan)) (enumerate_from 0 (map row_of es)))
+    ap (λ (q : ℕ → Key → Bool). find (λ (e : ℕ × Row). is_waiting e.1.status && list_all (q e.0) (reads e.1.plan)) (enumerate_from 0 (map machine_row es)))
     (fun_ext (λ place. fun_ext (λ k. firm_is b n m inputs es k place)))
 
 -- the row that was found
-pub next_found : (es : List Entry) (k : ℕ) → Some k ≡ option_map (λ e. e.0) (next_among es) → (e : Entry) × (next_among es ≡ Some (k, row_of e)) × (slice_get es k ≡ Some e)
+pub next_found : (es : List Entry) (k : ℕ) → Some k ≡ option_map (λ e. e.0) (next_among es) → (e : Entry) × (next_among es ≡ Some (k, machine_row e)) × (slice_get es k ≡ Some e)
 next_found es k h = found_by (ready_among es) es k h
 
-pub found_is_ready : (es : List Entry) (k : ℕ) (e : Entry) → next_among es ≡ Some (k, row_of e) → ready_among es (k, row_of e) ≡ true
-found_is_ready es k e x = found_passes (ready_among es) (enumerate_from 0 (map row_of es)) (k, row_of e) x
+pub found_is_ready : (es : List Entry) (k : ℕ) (e : Entry) → next_among es ≡ Some (k, machine_row e) → ready_among es (k, machine_row e) ≡ true
+found_is_ready es k e x = found_passes (ready_among es) (enumerate_from 0 (map machine_row es)) (k, machine_row e) x
 
-pub take_state : (b : Board) (n m : ℕ) (inputs : Inputs) (es : List Entry) (s : State) (k : ℕ) (e : Entry) → state_of b n m inputs es ≡ s → next_among es ≡ Some (k, row_of e) → state_of b n m inputs (set es k (with_data out_data e)) ≡ after_take s
+pub take_state : (b : Board) (n m : ℕ) (inputs : Inputs) (es : List Entry) (s : State) (k : ℕ) (e : Entry) → state_of b n m inputs es ≡ s → next_among es ≡ Some (k, machine_row e) → state_of b n m inputs (set es k (with_data out_data e)) ≡ after_take s
 take_state b n m inputs es s k e y x =
-    ap (λ (rs : List Row). record { board = b; edits = n; inputs = inputs; next = m; rows = rs }) (map-set row_of es k (with_data out_data e))
+    ap (λ (rs : List Row). record { board = b; edits = n; inputs = inputs; next = m; rows = rs }) (map-set machine_row es k (with_data out_data e))
     ∙ ap (taken (state_of b n m inputs es)) (sym x ∙ sym (next_is b n m inputs es))
     ∙ ap after_take y
 
-pub take_order : (b : Board) (n m : ℕ) (inputs : Inputs) (es : List Entry) (s : State) (k : ℕ) (e : Entry) → state_of b n m inputs es ≡ s → next_among es ≡ Some (k, row_of e) → Some (order_among inputs es k e) ≡ take_reply s
+pub take_order : (b : Board) (n m : ℕ) (inputs : Inputs) (es : List Entry) (s : State) (k : ℕ) (e : Entry) → state_of b n m inputs es ≡ s → next_among es ≡ Some (k, machine_row e) → Some (order_among inputs es k e) ≡ take_reply s
 take_order b n m inputs es s k e y x =
     ap (λ (w : World). Some (record { id = id_of e; edition = e.1.edition; plan = e.1.plan; inputs = map (λ f. field_of e.1.plan f (w f)) (reads e.1.plan) })) (sym (now_is b n m inputs es k))
     ∙ ap (option_map (order_of (state_of b n m inputs es))) (sym x ∙ sym (next_is b n m inputs es))
     ∙ ap take_reply y
 
-pub ready_unsettled : (es : List Entry) (k : ℕ) (e : Entry) → next_among es ≡ Some (k, row_of e) → is_settled e.1.status ≡ false
+pub ready_unsettled : (es : List Entry) (k : ℕ) (e : Entry) → next_among es ≡ Some (k, machine_row e) → is_settled e.1.status ≡ false
 ready_unsettled es k e x = waiting_unsettled e.1.status (and_first (is_waiting e.1.status) (list_all (firm_among es k) (reads e.1.plan)) (found_is_ready es k e x))
 
-pub ready_firm : (es : List Entry) (k : ℕ) (e u : Entry) → next_among es ≡ Some (k, row_of e) → slice_get es k ≡ Some e → slice_get es k ≡ Some u → list_all (firm_among es k) (reads u.1.plan) ≡ true
+pub ready_firm : (es : List Entry) (k : ℕ) (e u : Entry) → next_among es ≡ Some (k, machine_row e) → slice_get es k ≡ Some e → slice_get es k ≡ Some u → list_all (firm_among es k) (reads u.1.plan) ≡ true
 ready_firm es k e u x y z =
     let same : u ≡ e = ap (λ o. unwrap_or o u) (sym z ∙ y) in
     ap (λ (v : Entry). list_all (firm_among es k) (reads v.1.plan)) same

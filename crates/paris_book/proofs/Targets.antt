@@ -4,10 +4,10 @@ use Rattle.std.proofs.lemmas.Option.{slice_get_within}
 use Rattle.std.specs.Prelude.{IsSome}
 use Rattle.std.specs.Option.{option_map, unwrap_or}
 use Rattle.paris_board.specs.Board.{Board}
-use Rattle.paris_program.specs.Program.{place_of, place_in, row_of as data_of}
+use Rattle.paris_program.specs.Program.{place_of, place_in, row_of}
 use Rattle.paris_program.proofs.CallerLemmas.{row_there}
 use Rattle.paris_machine.specs.State.{Row, Inputs, State, find_id}
-use Rattle.paris_book.specs.Entries.{Entry, row_of}
+use Rattle.paris_book.specs.Entries.{Entry, machine_row}
 use Rattle.paris_book.specs.declared.rows.RowData.{RowData}
 use Rattle.paris_book.proofs.Finds.{found_some}
 use Rattle.paris_book.proofs.Entering.{entry_same, find_is}
@@ -20,14 +20,14 @@ pub record Target (rows : List Entry) (found : Option (ℕ × Row)) (id below : 
   pub just_below : below ≡ place + 1
   pub there : place_of rows id ≡ Some place
   pub at : slice_get rows place ≡ Some (id, row)
-  pub by_id : data_of rows id ≡ Some row
-  pub seen : found ≡ Some (place, row_of (id, row))
+  pub by_id : row_of rows id ≡ Some row
+  pub seen : found ≡ Some (place, machine_row (id, row))
 
 -- the row just before a place that a spot names
 pub target_of : (b : Board) (n m : ℕ) (inputs : Inputs) (rows : List Entry) (s : State) (id below : ℕ) → state_of b n m inputs rows ≡ s → option_map (λ e. e.0 + 1) (find_id id s.rows) ≡ Some below → Target rows (find_id id s.rows) id below
-target_of b n m inputs rows s id below view named = by_found (find_id id (map row_of rows)) refl (ap (λ (z : State). option_map (λ e. e.0 + 1) (find_id id z.rows)) view ∙ named)
+target_of b n m inputs rows s id below view named = by_found (find_id id (map machine_row rows)) refl (ap (λ (z : State). option_map (λ e. e.0 + 1) (find_id id z.rows)) view ∙ named)
   where
-    by_found : (o : Option (ℕ × Row)) → find_id id (map row_of rows) ≡ o → option_map (λ e. e.0 + 1) o ≡ Some below → Target rows (find_id id s.rows) id below
+    by_found : (o : Option (ℕ × Row)) → find_id id (map machine_row rows) ≡ o → option_map (λ e. e.0 + 1) o ≡ Some below → Target rows (find_id id s.rows) id below
     by_found None is h = absurd (cc)
     by_found (Some e) is h =
         let found = found_some id rows e.0 (sym (ap (option_map (λ e. e.0)) is)) in
@@ -41,14 +41,14 @@ target_of b n m inputs rows s id below view named = by_found (find_id id (map ro
           there = there;
           at = row.1;
           by_id = row.2;
-          seen = ap (λ (z : State). find_id id z.rows) (sym view) ∙ found.1 ∙ ap (λ (u : Entry). Some (e.0, row_of u)) (sym same);
+          seen = ap (λ (z : State). find_id id z.rows) (sym view) ∙ found.1 ∙ ap (λ (u : Entry). Some (e.0, machine_row u)) (sym same);
         }
 
 -- its data, where it was found by its id
-pub target_row : (rows : List Entry) (found : Option (ℕ × Row)) (id below : ℕ) (x : RowData) (t : Target rows found id below) → Some x ≡ data_of rows id → x ≡ t.row
+pub target_row : (rows : List Entry) (found : Option (ℕ × Row)) (id below : ℕ) (x : RowData) (t : Target rows found id below) → Some x ≡ row_of rows id → x ≡ t.row
 target_row rows found id below x t here = ap (λ o. unwrap_or o x) (here ∙ t.by_id)
 
-pub target_there : (rows : List Entry) (found : Option (ℕ × Row)) (id below : ℕ) → Target rows found id below → None ≡ data_of rows id → ⊥
+pub target_there : (rows : List Entry) (found : Option (ℕ × Row)) (id below : ℕ) → Target rows found id below → None ≡ row_of rows id → ⊥
 target_there rows found id below t none =
     let nothing : Option RowData = None in
     let wrong : nothing ≡ Some t.row = none ∙ t.by_id in

@@ -13,7 +13,7 @@ use Rattle.paris_book.specs.Marks.{stale_data}
 use Rattle.paris_book.specs.Kept.{ripen, Right, Sound}
 use Rattle.paris_depends.specs.Sweeps.{touches, spread}
 use Rattle.paris_book.proofs.Swept.{swept, swept_entries}
-use Rattle.paris_book.specs.Entries.{Entry, row_of, with_data}
+use Rattle.paris_book.specs.Entries.{Entry, machine_row, with_data}
 
 -- two functions of keys that agree on the keys that did not change
 abbrev pub Agree : {X : Type 0} → (Key → Bool) → (Key → X) → (Key → X) → Type 0
@@ -44,11 +44,11 @@ one_agree d w w' h p f t = one_is p w f ∙ by_has (has_key (writes p) f) (touch
     by_has true false e s = ap (λ xs. given p xs f) (map_agree d w w' h (reads p) e)
     by_has false c e s = h f s
 
-pub swept_rows : (n : ℕ) (d : Key → Bool) (es : List Entry) → map row_of (swept_entries n d es) ≡ swept n d (map row_of es)
+pub swept_rows : (n : ℕ) (d : Key → Bool) (es : List Entry) → map machine_row (swept_entries n d es) ≡ swept n d (map machine_row es)
 swept_rows n d [] = refl
 swept_rows n d (e ∷ es) = rw (swept_rows n (spread d e.1.plan) es) (by_touch (touches d e.1.plan))
   where
-    by_touch : (b : Bool) → (row_of (cond b (with_data (stale_data n) e) e) ∷ swept n (spread d e.1.plan) (map row_of es)) ≡ (cond b (unsettled n (row_of e)) (row_of e) ∷ swept n (spread d e.1.plan) (map row_of es))
+    by_touch : (b : Bool) → (machine_row (cond b (with_data (stale_data n) e) e) ∷ swept n (spread d e.1.plan) (map machine_row es)) ≡ (cond b (unsettled n (machine_row e)) (machine_row e) ∷ swept n (spread d e.1.plan) (map machine_row es))
     by_touch true = refl
     by_touch false = refl
 

@@ -1,4 +1,4 @@
--- What the machine shows, said of the entries.
+-- What the machine shows, said of a book's rows.
 use Rattle.std.specs.Prelude.{◌≡◌, ℕ, Bool, List, take, map, length, Option, Some, None, ◌&&◌, [], ◌∷◌, ◌++◌, if◌then◌else◌}
 use Rattle.std.specs.Option.{option_map}
 use Rattle.std.specs.List.{list_all, find, enumerate_from}
@@ -16,7 +16,7 @@ use Rattle.paris_machine.specs.Orders.{is_firm}
 use Rattle.paris_machine.specs.Lists.{fault_by}
 use Rattle.paris_book.specs.Whole.{shape_in}
 use Rattle.paris_book.specs.declared.inputs.InputData.{InputData}
-use Rattle.paris_book.specs.Entries.{Entry, id_of, plan_of, row_of}
+use Rattle.paris_book.specs.Entries.{Entry, id_of, entry_plan, machine_row}
 use Rattle.paris_book.specs.declared.look.Look.{Look}
 use Rattle.paris_book.specs.declared.look.Look.TheVariants.{Settled as LookSettled, Pending as LookPending}
 use Rattle.paris_events.specs.declared.rows.RowFault.{RowFault}
@@ -27,9 +27,9 @@ use Rattle.paris_machine.specs.declared.events.Shown.TheVariants.{Settled as Sho
 abbrev pub inputs_of : InputData → Inputs
 inputs_of d = record { fields = d.fields.items; flags = d.flags.items }
 
--- the last entry before a place that writes a key
+-- the last row before a place that writes a key
 abbrev pub origin_among : List Entry → ℕ → Key → Option Entry
-origin_among es place k = origin plan_of k (take place es)
+origin_among es place k = origin entry_plan k (take place es)
 
 abbrev pub width_in_shape : Option (ℕ × ℕ) → ℕ
 width_in_shape None = 0
@@ -41,7 +41,7 @@ value_among inputs es place k = record { width = width_in_shape (shape_in inputs
 
 -- what is shown of it
 abbrev pub look_among : Inputs → List Entry → ℕ → Key → Shown
-look_among inputs es place k = shown_of (option_map row_of (origin_among es place k)) (value_among inputs es place k)
+look_among inputs es place k = shown_of (option_map machine_row (origin_among es place k)) (value_among inputs es place k)
 
 -- a look, with the value that it lends
 abbrev pub look_shown : Look → Shown
@@ -55,13 +55,13 @@ LookFits (LookPending id) shape = Unit {0}
 
 -- whether the origin of a key is the start or settled
 abbrev pub firm_among : List Entry → ℕ → Key → Bool
-firm_among es place k = is_firm (option_map row_of (origin_among es place k))
+firm_among es place k = is_firm (option_map machine_row (origin_among es place k))
 
 abbrev pub ready_among : List Entry → ℕ × Row → Bool
 ready_among es e = is_waiting e.1.status && list_all (firm_among es e.0) (reads e.1.plan)
 
 abbrev pub next_among : List Entry → Option (ℕ × Row)
-next_among es = find (ready_among es) (enumerate_from 0 (map row_of es))
+next_among es = find (ready_among es) (enumerate_from 0 (map machine_row es))
 
 -- the values at the keys that a plan reads
 abbrev pub inputs_among : Inputs → List Entry → ℕ → Plan → List FieldNumbers
@@ -75,16 +75,16 @@ abbrev pub cause_told : Option Task → Option Refusal
 cause_told None = None
 cause_told (Some t) = refusal t.plan (value_at (reads t.plan) (numbers_of t.inputs))
 
--- why the result that a settled entry keeps was refused, if it was
+-- why the result that a settled row keeps was refused, if it was
 abbrev pub cause_kept : Entry → Option Refusal
 cause_kept e = if is_settled e.1.status then cause_told e.1.done else None
 
--- the settled entries whose results were refused
+-- the settled rows whose results were refused
 abbrev pub faults_kept : List Entry → List RowFault
 faults_kept [] = []
 faults_kept (e ∷ es) = fault_by (id_of e) (cause_kept e) ++ faults_kept es
 
--- the entries as they are listed
+-- the rows as they are listed
 abbrev pub listed_entry : Entry → RowLook
 listed_entry e = record { id = id_of e; edition = e.1.edition; status = e.1.status; instr = e.1.plan.instr; cause = cause_kept e }
 

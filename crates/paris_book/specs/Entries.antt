@@ -12,12 +12,12 @@ Entry = ℕ × RowData
 abbrev pub id_of : Entry → RowId
 id_of e = record { 0 = e.0 }
 
-abbrev pub plan_of : Entry → Plan
-plan_of e = e.1.plan
+abbrev pub entry_plan : Entry → Plan
+entry_plan e = e.1.plan
 
 -- what the machine sees of a row
-abbrev pub row_of : Entry → Row
-row_of e = record { id = id_of e; plan = e.1.plan; set_by = e.1.set_by; edition = e.1.edition; status = e.1.status }
+abbrev pub machine_row : Entry → Row
+machine_row e = record { id = id_of e; plan = e.1.plan; set_by = e.1.set_by; edition = e.1.edition; status = e.1.status }
 
 -- a row with its data changed, under its id
 abbrev pub with_data : (RowData → RowData) → Entry → Entry

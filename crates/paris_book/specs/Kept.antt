@@ -10,7 +10,7 @@ use Rattle.paris_model.specs.Run.{run}
 use Rattle.paris_exec.specs.Tasks.{Task, numbers_of}
 use Rattle.paris_events.specs.Rows.{is_settled}
 use Rattle.paris_machine.specs.State.{Inputs, start_world}
-use Rattle.paris_book.specs.Entries.{Entry, plan_of}
+use Rattle.paris_book.specs.Entries.{Entry, entry_plan}
 
 -- the plan and inputs of the result that a row keeps
 abbrev pub last_kept : Option Task → Option (Plan × List (List ℕ))
@@ -30,6 +30,6 @@ abbrev pub Sound : World → (Key → Bool) → List Entry → Type 0
 Sound w h [] = Unit {0}
 Sound w h (e ∷ es) = Right w h e × Sound (one e.1.plan w) (ripen h e) es
 
--- the world before the entry at a place
+-- the world before the row at a place
 abbrev pub present : Inputs → List Entry → ℕ → World
-present inputs es place = run (start_world inputs) (map plan_of (take place es))
+present inputs es place = run (start_world inputs) (map entry_plan (take place es))

@@ -1,4 +1,4 @@
--- Looks at a row, and verdicts, said of the entries.
+-- Looks at a row, and verdicts, said of a book's rows.
 use Rattle.std.specs.Prelude.{◌≡◌, ℕ, ◌==◌, Bool, true, false, ◌&&◌, List, length, Some, if◌then◌else◌}
 use Rattle.std.specs.List.{list_all}
 use Rattle.std.specs.Cmp.Lexicographic.{pointwise}
@@ -27,7 +27,7 @@ abbrev pub LooksAt : Look → Entry → Key → Type 0
 LooksAt (Settled v) e k = (is_settled e.1.status ≡ true) × ((d : Task) × (e.1.done ≡ Some d) × (v.now ≡ task_value d k) × (length v.now.numbers ≡ processor_count d.plan.axes))
 LooksAt (Pending id) e k = (is_settled e.1.status ≡ false) × (id ≡ id_of e)
 
--- whether a result is of the entry's plan and of the present values
+-- whether a result is of the row's plan and of the present values
 abbrev pub present_among : Inputs → List Entry → ℕ → Entry → Task → Bool
 present_among inputs es place e t = plan_eq e.1.plan t.plan && (list_all (firm_among es place) (reads e.1.plan) && pointwise field_eq (inputs_among inputs es place e.1.plan) t.inputs)
 

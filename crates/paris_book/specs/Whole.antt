@@ -1,11 +1,12 @@
 -- What is always true of a book.
-use Rattle.std.specs.Prelude.{◌≡◌, ℕ, ◌+◌, ◌<◌, ◌≤◌, List, [], ◌∷◌, true, false, ◌==◌, ◌||◌, map, length, Option, Some, None, if◌then◌else◌}
+use Rattle.std.specs.Prelude.{◌≡◌, ℕ, ◌+◌, ◌<◌, ◌≤◌, List, [], ◌∷◌, true, false, ◌==◌, ◌||◌, length, Option, Some, None, if◌then◌else◌}
 use Rattle.std.specs.List.{list_any}
 use Rattle.paris_names.specs.declared.keys.Key.{Key}
 use Rattle.paris_names.specs.Keys.{has_key}
 use Rattle.paris_geometry.specs.Geometry.{processor_count}
 use Rattle.paris_board.specs.Board.{Board, is_declared, width_of, count_of}
 use Rattle.paris_model.specs.Instructions.{Plan, reads, writes, key_width}
+use Rattle.paris_program.specs.Program.{ids_of}
 use Rattle.paris_book.specs.Kept.{Sound}
 use Rattle.paris_machine.specs.State.{Inputs, input_of, number_in, start_world}
 use Rattle.paris_machine.specs.declared.inputs.Input.{Input}
@@ -16,12 +17,12 @@ use Rattle.paris_names.specs.declared.limits.TheConstants.{MAX_EDITS}
 abbrev pub shape_on : Board → Key → Option (ℕ × ℕ)
 shape_on b k = if is_declared b k then Some (width_of b k, count_of b k) else None
 
-abbrev pub shape_of : Option Input → Option (ℕ × ℕ)
-shape_of None = None
-shape_of (Some i) = Some (i.value.width, length i.value.numbers)
+abbrev pub input_shape : Option Input → Option (ℕ × ℕ)
+input_shape None = None
+input_shape (Some i) = Some (i.value.width, length i.value.numbers)
 
 abbrev pub shape_in : Inputs → Key → Option (ℕ × ℕ)
-shape_in inputs k = shape_of (input_of inputs k)
+shape_in inputs k = input_shape (input_of inputs k)
 
 -- the input data is that of the declared keys
 abbrev pub Shaped : Board → Inputs → Type 0
@@ -39,9 +40,6 @@ RowsBelow n next (e ∷ es) = (e.1.set_by ≤ n) × (e.0 < next) × RowsBelow n 
 abbrev pub IdsApart : List ℕ → Type 0
 IdsApart [] = Unit {0}
 IdsApart (i ∷ is) = (list_any (λ j. j == i) is ≡ false) × IdsApart is
-
-abbrev pub ids_of : List Entry → List ℕ
-ids_of es = map (λ (e : Entry). e.0) es
 
 -- the keys of a plan have input data, of the plan's widths and its number of processors
 abbrev pub Fitted : Inputs → Plan → Type 0

@@ -1,6 +1,6 @@
 //! The book: edits, orders, results and looks.
 
-ghost use Rattle.std.specs.Prelude.{◌≡◌, ◌<◌, ◌≤◌, ◌+◌, ◌++◌, ◌∷◌, [], take, length, map, vec_len, vec_capacity, Ok, Err, Some, None, true, IsSome, IfOk, IfErr, OnOk, OnErr};
+ghost use Rattle.std.specs.Prelude.{◌≡◌, ◌<◌, ◌≤◌, ◌+◌, length, map, Ok, Err, Some, None, IsSome, IfOk, IfErr, OnOk, OnErr};
 ghost use Rattle.std.specs.Option.{option_map};
 ghost use Rattle.paris_names.specs.Faults.{IsFaultOf};
 ghost use Rattle.paris_names.specs.declared.faults.Fault.TheVariants as FaultCase;
@@ -11,10 +11,8 @@ ghost use Rattle.paris_machine.specs.Orders.{take_reply, after_take};
 ghost use Rattle.paris_machine.specs.Results.{verdict_of, after_bring};
 ghost use Rattle.paris_machine.specs.Edits.{edit_fault, edit_answer, accepted};
 ghost use Rattle.paris_machine.specs.Settling.{unsettled_rows};
-ghost use Rattle.paris_machine.specs.declared.events.Event.TheVariants as EventCase;
-ghost use Rattle.paris_machine.specs.Events.{reply_to, after, replies_to, after_all, has_value, grows};
 ghost use Rattle.paris_book.specs.Among.{look_shown};
-ghost use Rattle.paris_book.specs.Entries.{row_of};
+ghost use Rattle.paris_book.specs.Entries.{machine_row};
 ghost use Rattle.paris_book.specs.Marks.{out_data, kept_data};
 ghost use Rattle.paris_names.specs.declared.limits.TheConstants.{MAX_EDITS};
 
@@ -25,8 +23,7 @@ use crate::rows::RowData;
 use paris_board::Board;
 use paris_events::{Edit, EditReply, Status, Verdict};
 use paris_exec::{Done, Order};
-use paris_machine::{Event, Reply, Shown};
-use paris_names::{Fault, Items, KeyName, RowId, Spot};
+use paris_names::{Fault, KeyName, RowId, Spot};
 use paris_program::Program;
 use std::alloc::{AllocError, Global};
 use std::marker::Model;
@@ -48,11 +45,11 @@ impl Model for Book {
 
     ghost Value = { State };
 
-    ghost use Rattle.paris_book.specs.Entries.{row_of};
+    ghost use Rattle.paris_book.specs.Entries.{machine_row};
     ghost use Rattle.paris_book.specs.Among.{inputs_of};
     ghost use Rattle.paris_book.specs.Whole.{IsWhole};
 
-    ghost view = { λ a. record { board = a.board; edits = a.edits; inputs = inputs_of a.inputs; next = a.rows.next_id; rows = map row_of a.rows.rows } };
+    ghost view = { λ a. record { board = a.board; edits = a.edits; inputs = inputs_of a.inputs; next = a.rows.next_id; rows = map machine_row a.rows.rows } };
 
     ghost invariant = { λ a. IsWhole a.board a.edits a.rows.next_id (inputs_of a.inputs) a.rows.rows };
 }
@@ -155,94 +152,6 @@ impl Book {
         Ok(look_at(&self.inputs, &self.rows, place, &key))
     }
 
-    /// An edit as an event.
-    fn step_edit(&mut self, edit: &Edit) -> Result<Reply, AllocError>
-        ensures reply { IfOk result (λ reply. reply ≡ reply_to self.old (EventCase.Edit edit.now)) }
-        ensures state { OnOk result (self.new ≡ after self.old (EventCase.Edit edit.now)) }
-        ensures err { OnErr result (self.new ≡ self.old) }
-        ensures due { OnErr result (edit_fault self.old edit.now ≡ None) }
-    {
-        match self.apply(edit) {
-            Ok(answer) => Ok(Reply::Edit(Ok(answer))),
-            Err(fault) => {
-                if fault.is_no_memory() {
-                    return Err(AllocError);
-                }
-                Ok(Reply::Edit(Err(fault)))
-            }
-        }
-    }
-
-    /// A look as an event, whose reply holds a copy of the value.
-    fn step_show(&self, name: &KeyName, spot: &Spot) -> Result<Reply, AllocError>
-        ensures reply { IfOk result (λ reply. reply ≡ reply_to self.now (EventCase.Show name.now spot.now)) }
-        ensures value { OnErr result (has_value (show_reply self.now name.now spot.now) ≡ true) }
-    {
-        match self.show(*name, *spot) {
-            Err(fault) => Ok(Reply::Show(Err(fault))),
-            Ok(Look::Pending(id)) => Ok(Reply::Show(Ok(Shown::Pending(id)))),
-            Ok(Look::Settled(value)) => Ok(Reply::Show(Ok(Shown::Settled(value.copy()?)))),
-        }
-    }
-
-    /// One event. The error says that memory for it was refused, and hands the event back; the book is as it was. A refused edit, a
-    /// take where no row is ready, a result, a release and a look at a row that is to be settled take no memory.
-    pub fn step(&mut self, event: Event) -> Result<Reply, (Event, AllocError)>
-        ensures reply { IfOk result (λ reply. reply ≡ reply_to self.old event) }
-        ensures state { OnOk result (self.new ≡ after self.old event) }
-        ensures err { IfErr result (λ e. (e.0 ≡ event) × (self.new ≡ self.old)) }
-        ensures grows { OnErr result (grows self.old event ≡ true) }
-    {
-        match event {
-            Event::Edit(edit) => match self.step_edit(&edit) {
-                Ok(reply) => Ok(reply),
-                Err(refused) => Err((Event::Edit(edit), refused)),
-            },
-            Event::Take => match self.take() {
-                Ok(order) => Ok(Reply::Take(order)),
-                Err(refused) => Err((Event::Take, refused)),
-            },
-            Event::Bring(done) => Ok(Reply::Bring(self.bring(done))),
-            Event::Release => {
-                self.release();
-                Ok(Reply::Release)
-            }
-            Event::Show(name, spot) => match self.step_show(&name, &spot) {
-                Ok(reply) => Ok(reply),
-                Err(refused) => Err((Event::Show(name, spot), refused)),
-            },
-            Event::List => match self.list() {
-                Ok(looks) => Ok(Reply::List(looks)),
-                Err(refused) => Err((Event::List, refused)),
-            },
-        }
-    }
-
-    /// Any list of events, in order. The error says that memory was refused: it holds the replies so far, and the book is that
-    /// after the events of these.
-    pub fn run_events(
-        &mut self,
-        events: Vec<Event>,
-    ) -> Result<Items<Reply>, (Items<Reply>, AllocError)>
-        ensures replies { IfOk result (λ replies. replies ≡ replies_to self.old events.items) }
-        ensures state { OnOk result (self.new ≡ after_all self.old events.items) }
-        ensures err { IfErr result (λ e. (e.0 ≡ replies_to self.old (take (length e.0) events.items))
-            × (self.new ≡ after_all self.old (take (length e.0) events.items))) }
-        ensures short { IfErr result (λ e. length e.0 < length events.items) }
-    {
-        let mut replies = Vec::new(self.alloc);
-        if let Err(refused) = replies.reserve(events.len()) {
-            return Err((Items::new(replies), refused));
-        }
-        for event in events {
-            match self.step(event) {
-                Ok(reply) => push_reply(&mut replies, reply),
-                Err((_, refused)) => return Err((Items::new(replies), refused)),
-            }
-        }
-        Ok(Items::new(replies))
-    }
-
     /// How many edits were accepted.
     pub fn edits(&self) -> u64
         ensures { result ≡ self.now.edits }
@@ -255,18 +164,6 @@ impl Book {
         ensures { result ≡ unsettled_rows self.now.rows }
     {
         count_unsettled(&self.rows)
-    }
-}
-
-/// Adds a reply, for which there is room.
-fn push_reply(replies: &mut Vec<Reply>, reply: Reply)
-    requires { vec_len replies.old < vec_capacity replies.old }
-    ensures items { replies.new.items ≡ replies.old.items ++ reply ∷ [] }
-    ensures capacity { vec_capacity replies.old ≤ vec_capacity replies.new }
-{
-    match replies.push(reply) {
-        Ok(()) => {}
-        Err(_) => unreachable!(),
     }
 }
 
@@ -287,7 +184,7 @@ fn keep(row: &mut RowData, done: Done)
 
 /// How many of these rows are unsettled.
 pub(crate) fn count_unsettled(rows: &Program<RowData>) -> usize
-    ensures { result ≡ unsettled_rows (map row_of rows.now.rows) }
+    ensures { result ≡ unsettled_rows (map machine_row rows.now.rows) }
 {
     let mut count = 0;
     for place in 0..rows.len() {

@@ -3,6 +3,7 @@
 
 mod book;
 mod edits;
+mod events;
 mod inputs;
 mod laws;
 mod listing;

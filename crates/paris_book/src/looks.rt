@@ -13,7 +13,7 @@ ghost use Rattle.paris_book.specs.Kept.{Sound, present};
 ghost use Rattle.paris_book.specs.Whole.{AllFitted, Fitted, shape_in};
 ghost use Rattle.paris_book.specs.Among.{inputs_of, look_among, look_shown, LookFits, firm_among, ready_among, next_among, inputs_among, order_among};
 ghost use Rattle.paris_book.specs.Verdicts.{KeptFor, LooksAt, verdict_among};
-ghost use Rattle.paris_book.specs.Entries.{Entry, row_of};
+ghost use Rattle.paris_book.specs.Entries.{Entry, machine_row};
 
 use crate::inputs::{InputData, input_at};
 use crate::look::Look;
@@ -97,7 +97,7 @@ fn are_firm_at(rows: &Program<RowData>, place: usize, keys: &[Key]) -> bool
 /// Whether the row at a place waits, and the keys that it reads have the start or settled rows as origins.
 fn is_ready_at(rows: &Program<RowData>, place: usize) -> bool
     requires { place < length rows.now.rows }
-    ensures { (e : Entry) → slice_get rows.now.rows place ≡ Some e → result ≡ ready_among rows.now.rows (place, row_of e) }
+    ensures { (e : Entry) → slice_get rows.now.rows place ≡ Some e → result ≡ ready_among rows.now.rows (place, machine_row e) }
 {
     let (_, row) = rows.at(place);
     row.status.is_waiting() && are_firm_at(rows, place, row.plan.reads())
