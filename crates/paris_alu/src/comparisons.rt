@@ -30,7 +30,7 @@ fn less(
     y: &[Plane],
     vps: usize,
 ) -> Result<Plane, AllocError>
-    requires some { 0 < length x.now }
+    requires positive { 0 < length x.now }
     requires same { length x.now ≡ length y.now }
     requires x_planes { AllOf vps x.now }
     requires y_planes { AllOf vps y.now }
@@ -62,7 +62,7 @@ pub fn compare(
     y: &FieldValue,
     bits: u64,
 ) -> Result<Plane, AllocError>
-    requires some { 0 < bits }
+    requires positive { 0 < bits }
     requires x_width { bits ≤ x.now.width }
     requires y_width { bits ≤ y.now.width }
     requires same { length x.now.numbers ≡ length y.now.numbers }
@@ -102,7 +102,7 @@ fn maximum(
     y: &FieldValue,
     bits: u64,
 ) -> Result<FieldValue, AllocError>
-    requires some { 0 < bits }
+    requires positive { 0 < bits }
     requires narrow { bits ≤ 128 }
     requires x_width { bits ≤ x.now.width }
     requires y_width { bits ≤ y.now.width }
@@ -123,7 +123,7 @@ fn minimum(
     y: &FieldValue,
     bits: u64,
 ) -> Result<FieldValue, AllocError>
-    requires some { 0 < bits }
+    requires positive { 0 < bits }
     requires narrow { bits ≤ 128 }
     requires x_width { bits ≤ x.now.width }
     requires y_width { bits ≤ y.now.width }
@@ -145,7 +145,7 @@ pub fn extreme(
     y: &FieldValue,
     bits: u64,
 ) -> Result<FieldValue, AllocError>
-    requires some { 0 < bits }
+    requires positive { 0 < bits }
     requires narrow { bits ≤ 128 }
     requires x_width { bits ≤ x.now.width }
     requires y_width { bits ≤ y.now.width }

@@ -61,7 +61,7 @@ pub fn add(
     y: &FieldValue,
     bits: u64,
 ) -> Result<Sum, AllocError>
-    requires some { 0 < bits }
+    requires positive { 0 < bits }
     requires narrow { bits ≤ 128 }
     requires x_width { bits ≤ x.now.width }
     requires y_width { bits ≤ y.now.width }
@@ -92,7 +92,7 @@ pub fn add_carry(
     carry: &Plane,
     bits: u64,
 ) -> Result<Sum, AllocError>
-    requires some { 0 < bits }
+    requires positive { 0 < bits }
     requires narrow { bits ≤ 128 }
     requires x_width { bits ≤ x.now.width }
     requires y_width { bits ≤ y.now.width }
@@ -123,7 +123,7 @@ pub fn subtract(
     y: &FieldValue,
     bits: u64,
 ) -> Result<Sum, AllocError>
-    requires some { 0 < bits }
+    requires positive { 0 < bits }
     requires narrow { bits ≤ 128 }
     requires x_width { bits ≤ x.now.width }
     requires y_width { bits ≤ y.now.width }
@@ -148,7 +148,7 @@ pub fn subtract(
 
 /// The low `bits` bits of a signed field with the other sign.
 pub fn negate(alloc: Global, x: &FieldValue, bits: u64) -> Result<Overflowing, AllocError>
-    requires some { 0 < bits }
+    requires positive { 0 < bits }
     requires narrow { bits ≤ 128 }
     requires x_width { bits ≤ x.now.width }
     ensures value { IfOk result (λ negated. negated.value ≡ unary_field Negate bits x.now) }

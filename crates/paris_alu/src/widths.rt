@@ -29,7 +29,7 @@ pub fn extend(
     from_bits: u64,
     bits: u64,
 ) -> Result<Overflowing, AllocError>
-    requires some { 0 < bits }
+    requires positive { 0 < bits }
     requires narrow { bits ≤ 128 }
     requires from_some { 0 < from_bits }
     requires x_width { from_bits ≤ x.now.width }

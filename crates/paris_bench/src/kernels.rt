@@ -60,7 +60,7 @@ fn below_planes(x: &[Plane], y: &[Plane], less: &mut Plane, len: usize)
 
 /// Marks where the numbers of `x` are below those of `y`, as signed ones: the one that has the top bit is the lesser.
 fn less_planes(x: &[Plane], y: &[Plane], less: &mut Plane)
-    requires some { 0 < length x.now }
+    requires positive { 0 < length x.now }
     requires xy { length x.now ≡ length y.now }
     requires x_planes { AllOf (length less.old) x.now }
     requires y_planes { AllOf (length less.old) y.now }
@@ -85,7 +85,7 @@ fn xor_planes(x: &mut [Plane], y: &[Plane], vps: usize)
 
 /// Does the operator's work. `out` starts as `x`, or as what an earlier call left.
 fn work(operator: Operator, x: &[Plane], y: &[Plane], bits: &mut Plane, out: &mut [Plane])
-    requires some { 0 < length x.now }
+    requires positive { 0 < length x.now }
     requires xy { length x.now ≡ length y.now }
     requires xo { length x.now ≡ length out.old }
     requires x_planes { AllOf (length bits.old) x.now }

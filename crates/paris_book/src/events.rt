@@ -99,7 +99,7 @@ impl Book {
         ensures state { OnOk result (self.new ≡ after_all self.old events.items) }
         ensures err { IfErr result (λ e. (e.0 ≡ replies_to self.old (take (length e.0) events.items))
             × (self.new ≡ after_all self.old (take (length e.0) events.items))) }
-        ensures short { IfErr result (λ e. length e.0 < length events.items) }
+        ensures fewer { IfErr result (λ e. length e.0 < length events.items) }
     {
         let mut replies = Vec::new(self.alloc);
         if let Err(refused) = replies.reserve(events.len()) {

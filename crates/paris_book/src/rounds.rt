@@ -131,7 +131,7 @@ impl Book {
         gate: &G,
     ) -> Result<(), AllocError>
         requires workers { 0 < workers }
-        requires some { 0 < unsettled_rows self.old.rows }
+        requires positive { 0 < unsettled_rows self.old.rows }
         ensures advances { Advances self.old self.new }
         ensures ok { OnOk result (unsettled_rows self.new.rows < unsettled_rows self.old.rows) }
         ensures err { OnErr result (0 < unsettled_rows self.new.rows) }
@@ -160,7 +160,7 @@ impl Book {
         ensures same { OnErr result (all_settled self.new ≡ all_settled self.old) }
         ensures stay { OnErr result (StaySettled self.old.rows self.new.rows) }
         ensures left { IfErr result (λ fault. unsettled_rows self.new.rows + fault.ran ≡ unsettled_rows self.old.rows) }
-        ensures short { IfErr result (λ fault. fault.ran < unsettled_rows self.old.rows) }
+        ensures fewer { IfErr result (λ fault. fault.ran < unsettled_rows self.old.rows) }
         ensures runs { IfErr result (λ fault. RunsTo fault.ran (after_release self.old) (after_release self.new)) }
         ensures out { OnErr result (OutAreFirm self.new) }
     {

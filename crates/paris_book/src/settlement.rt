@@ -86,7 +86,7 @@ impl Book {
         ensures ran { IfOk result (λ ran. self.new ≡ ran_orders ran (after_release self.old)) }
         ensures stopped { IfErr result (λ fault. (self.new ≡ ran_orders fault.ran (after_release self.old))
             ⊎ (self.new ≡ after_take (ran_orders fault.ran (after_release self.old)))) }
-        ensures short { IfErr result (λ fault. fault.ran < unsettled_rows self.old.rows) }
+        ensures fewer { IfErr result (λ fault. fault.ran < unsettled_rows self.old.rows) }
         ensures left { IfErr result (λ fault. unsettled_rows self.new.rows + fault.ran ≡ unsettled_rows self.old.rows) }
     {
         let count = count_unsettled(&self.rows) as u64;

@@ -36,7 +36,7 @@ fn sum_of(
     y: &FieldValue,
     bits: u64,
 ) -> Result<Option<Sum>, AllocError>
-    requires some { 0 < bits }
+    requires positive { 0 < bits }
     requires narrow { bits ≤ 128 }
     requires x_width { bits ≤ x.now.width }
     requires y_width { bits ≤ y.now.width }
@@ -78,7 +78,7 @@ fn flagless(
     y: &FieldValue,
     bits: u64,
 ) -> Result<Option<FieldValue>, AllocError>
-    requires some { 0 < bits }
+    requires positive { 0 < bits }
     requires narrow { bits ≤ 128 }
     requires x_width { bits ≤ x.now.width }
     requires y_width { bits ≤ y.now.width }

@@ -52,7 +52,7 @@ fn keep_others(
 fn put(order: &Order, key: &Key, new: FieldValue) -> Result<FieldValue, AllocError>
     requires context { has_key (reads order.now.plan) (Flag order.now.plan.set_no Context) ≡ true }
     requires read { has_key (reads order.now.plan) key.now ≡ true }
-    requires short { new.width ≤ key_width order.now.plan key.now }
+    requires fits_key { new.width ≤ key_width order.now.plan key.now }
     requires count { length new.numbers ≡ processor_count order.now.plan.axes }
     ensures { IfOk result (λ value. value ≡ put_value order.now key.now new) }
 {
@@ -92,7 +92,7 @@ pub(crate) fn put_field(
     new: FieldValue,
 ) -> Result<Vec<FieldValue>, AllocError>
     requires read { AreRead order.now (Field to.now.field ∷ Flag order.now.plan.set_no Context ∷ []) }
-    requires short { new.width ≤ key_width order.now.plan (Field to.now.field) }
+    requires fits_key { new.width ≤ key_width order.now.plan (Field to.now.field) }
     requires count { length new.numbers ≡ processor_count order.now.plan.axes }
     ensures { IfOk result (λ values. values.items ≡ put_value order.now (Field to.now.field) new ∷ []) }
 {
@@ -125,7 +125,7 @@ pub(crate) fn put_overflowing(
     new: Overflowing,
 ) -> Result<Vec<FieldValue>, AllocError>
     requires read { AreRead order.now (Field to.now.field ∷ Flag order.now.plan.set_no Overflow ∷ Flag order.now.plan.set_no Context ∷ []) }
-    requires short { new.value.width ≤ key_width order.now.plan (Field to.now.field) }
+    requires fits_key { new.value.width ≤ key_width order.now.plan (Field to.now.field) }
     requires count { length new.value.numbers ≡ processor_count order.now.plan.axes }
     requires flags { length new.overflow ≡ processor_count order.now.plan.axes }
     ensures { IfOk result (λ values. values.items ≡ put_value order.now (Field to.now.field) new.value ∷ put_value order.now (Flag order.now.plan.set_no Overflow) (flag_value new.overflow) ∷ []) }
@@ -144,7 +144,7 @@ pub(crate) fn put_sum(
     new: Sum,
 ) -> Result<Vec<FieldValue>, AllocError>
     requires read { AreRead order.now (Field to.now.field ∷ Flag order.now.plan.set_no Carry ∷ Flag order.now.plan.set_no Overflow ∷ Flag order.now.plan.set_no Context ∷ []) }
-    requires short { new.value.width ≤ key_width order.now.plan (Field to.now.field) }
+    requires fits_key { new.value.width ≤ key_width order.now.plan (Field to.now.field) }
     requires count { length new.value.numbers ≡ processor_count order.now.plan.axes }
     requires carries { length new.carry ≡ processor_count order.now.plan.axes }
     requires overflows { length new.overflow ≡ processor_count order.now.plan.axes }

@@ -207,7 +207,7 @@ impl Geometry {
 /// The next coordinate in a direction on an axis of this length.
 fn next_coordinate(direction: Direction, length: u64, own: u64) -> u64
     requires small { own < length }
-    requires short { length ≤ MAX_PROCESSORS }
+    requires narrow { length ≤ MAX_PROCESSORS }
     ensures value { result ≡ neighbour_coordinate direction length own }
     ensures small { result < length }
 {

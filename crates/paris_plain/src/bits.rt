@@ -38,8 +38,8 @@ pub(crate) fn bit(is_set: bool) -> u128
 
 /// A number of the length, read as two's complement.
 pub(crate) fn signed_value(length: u64, x: u128) -> i128
-    requires some { 0 < length }
-    requires short { length ≤ MAX_WIDTH }
+    requires positive { 0 < length }
+    requires narrow { length ≤ MAX_WIDTH }
     requires x_fits { x < 2 ^ length }
     ensures value { result ≡ signed length x }
     ensures small { unsigned_abs result ≤ 2 ^ 63 }
@@ -65,8 +65,8 @@ pub(crate) fn low_signed_bits(length: u64, z: i128) -> u128
 
 /// Whether a signed number needs more bits than the length.
 pub(crate) fn is_outside(length: u64, z: i128) -> bool
-    requires some { 0 < length }
-    requires short { length ≤ MAX_WIDTH }
+    requires positive { 0 < length }
+    requires narrow { length ≤ MAX_WIDTH }
     ensures { result ≡ is_outside_signed length z }
 {
     if z >= 0 {

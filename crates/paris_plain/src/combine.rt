@@ -9,7 +9,7 @@ use paris_model::Combiner;
 
 /// Two numbers, combined.
 pub(crate) fn combine(combiner: Combiner, length: u64, x: u128, y: u128) -> u128
-    requires short { length ≤ MAX_WIDTH }
+    requires narrow { length ≤ MAX_WIDTH }
     requires x_fits { x < 2 ^ length }
     requires y_fits { y < 2 ^ length }
     ensures value { result ≡ combine combiner length x y }
@@ -39,7 +39,7 @@ pub(crate) fn unit(combiner: Combiner, length: u64) -> u128
 
 /// Numbers, combined with a first one.
 pub(crate) fn combined(combiner: Combiner, length: u64, start: u128, values: &[u128]) -> u128
-    requires short { length ≤ MAX_WIDTH }
+    requires narrow { length ≤ MAX_WIDTH }
     requires start_fits { start < 2 ^ length }
     requires fit { All (λ x. x < 2 ^ length) values.now }
     ensures { result ≡ combined combiner length start values.now }

@@ -32,8 +32,8 @@ fn binary_stored(
     right: Operand,
     length: u64,
 ) -> Result<Vec<u128>, AllocError>
-    requires some { 0 < length }
-    requires short { length ≤ MAX_WIDTH }
+    requires positive { 0 < length }
+    requires narrow { length ≤ MAX_WIDTH }
     ensures { IfOk result (λ numbers. numbers.items ≡ put_selected (frame_of_seen inputs.now) key.now length
         (λ v. binary_result operator length (low_at (frame_of_seen inputs.now) left length v) (low_at (frame_of_seen inputs.now) right length v) (flag_at (frame_of_seen inputs.now) Carry v) (field_at (frame_of_seen inputs.now) to v))) }
 {
@@ -83,8 +83,8 @@ fn overflow_stored(
     right: Operand,
     length: u64,
 ) -> Result<Vec<u128>, AllocError>
-    requires some { 0 < length }
-    requires short { length ≤ MAX_WIDTH }
+    requires positive { 0 < length }
+    requires narrow { length ≤ MAX_WIDTH }
     ensures { IfOk result (λ numbers. numbers.items ≡ put_selected (frame_of_seen inputs.now) key.now 1
         (λ v. bit (binary_overflow operator length (low_at (frame_of_seen inputs.now) left length v) (low_at (frame_of_seen inputs.now) right length v) (flag_at (frame_of_seen inputs.now) Carry v)))) }
 {
@@ -128,8 +128,8 @@ fn unary_overflow_stored(
     from: Operand,
     length: u64,
 ) -> Result<Vec<u128>, AllocError>
-    requires some { 0 < length }
-    requires short { length ≤ MAX_WIDTH }
+    requires positive { 0 < length }
+    requires narrow { length ≤ MAX_WIDTH }
     ensures { IfOk result (λ numbers. numbers.items ≡ put_selected (frame_of_seen inputs.now) key.now 1 (λ v. bit (unary_overflow operator length (low_at (frame_of_seen inputs.now) from length v)))) }
 {
     (0..inputs.vps())
@@ -194,7 +194,7 @@ fn resized_stored(
     length: u64,
     from_length: u64,
 ) -> Result<Vec<u128>, AllocError>
-    requires short { length ≤ MAX_WIDTH }
+    requires narrow { length ≤ MAX_WIDTH }
     requires from_some { 0 < from_length }
     requires from_short { from_length ≤ MAX_WIDTH }
     ensures { IfOk result (λ numbers. numbers.items ≡ put_selected (frame_of_seen inputs.now) key.now length (λ v. resize_result sign length from_length (low_at (frame_of_seen inputs.now) from from_length v))) }
@@ -217,8 +217,8 @@ fn resize_overflow_stored(
     length: u64,
     from_length: u64,
 ) -> Result<Vec<u128>, AllocError>
-    requires some { 0 < length }
-    requires short { length ≤ MAX_WIDTH }
+    requires positive { 0 < length }
+    requires narrow { length ≤ MAX_WIDTH }
     requires from_some { 0 < from_length }
     requires from_short { from_length ≤ MAX_WIDTH }
     ensures { IfOk result (λ numbers. numbers.items ≡ put_selected (frame_of_seen inputs.now) key.now 1 (λ v. bit (resize_overflow sign length from_length (low_at (frame_of_seen inputs.now) from from_length v)))) }
@@ -242,8 +242,8 @@ fn comparison_stored(
     right: Operand,
     length: u64,
 ) -> Result<Vec<u128>, AllocError>
-    requires some { 0 < length }
-    requires short { length ≤ MAX_WIDTH }
+    requires positive { 0 < length }
+    requires narrow { length ≤ MAX_WIDTH }
     ensures { IfOk result (λ numbers. numbers.items ≡ put_selected (frame_of_seen inputs.now) key.now 1
         (λ v. bit (compares comparison length (low_at (frame_of_seen inputs.now) left length v) (low_at (frame_of_seen inputs.now) right length v)))) }
 {
@@ -266,7 +266,7 @@ fn coordinate_stored(
     length: u64,
 ) -> Result<Vec<u128>, AllocError>
     requires there { is_bad_axis inputs.now.axes axis ≡ false }
-    requires short { length ≤ MAX_WIDTH }
+    requires narrow { length ≤ MAX_WIDTH }
     ensures { IfOk result (λ numbers. numbers.items ≡ put_selected (frame_of_seen inputs.now) key.now length (coordinate inputs.now.axes axis)) }
 {
     let geometry = inputs.geometry();

@@ -10,8 +10,8 @@ use paris_model::{BinaryOperator, Comparison, Sign, UnaryOperator};
 
 /// Whether a number is less than another.
 fn is_less(sign: Sign, length: u64, x: u128, y: u128) -> bool
-    requires some { 0 < length }
-    requires short { length ≤ MAX_WIDTH }
+    requires positive { 0 < length }
+    requires narrow { length ≤ MAX_WIDTH }
     requires x_fits { x < 2 ^ length }
     requires y_fits { y < 2 ^ length }
     ensures { result ≡ is_less sign length x y }
@@ -24,8 +24,8 @@ fn is_less(sign: Sign, length: u64, x: u128, y: u128) -> bool
 
 /// The product of two numbers, read as two's complement.
 fn signed_product(length: u64, x: u128, y: u128) -> i128
-    requires some { 0 < length }
-    requires short { length ≤ MAX_WIDTH }
+    requires positive { 0 < length }
+    requires narrow { length ≤ MAX_WIDTH }
     requires x_fits { x < 2 ^ length }
     requires y_fits { y < 2 ^ length }
     ensures { result ≡ signed length x *ℤ signed length y }
@@ -42,8 +42,8 @@ pub(crate) fn binary_value(
     carry: u128,
     old: u128,
 ) -> u128
-    requires some { 0 < length }
-    requires short { length ≤ MAX_WIDTH }
+    requires positive { 0 < length }
+    requires narrow { length ≤ MAX_WIDTH }
     requires x_fits { x < 2 ^ length }
     requires y_fits { y < 2 ^ length }
     requires carry_fits { carry < 2 }
@@ -75,7 +75,7 @@ pub(crate) fn binary_carries(
     y: u128,
     carry: u128,
 ) -> bool
-    requires short { length ≤ MAX_WIDTH }
+    requires narrow { length ≤ MAX_WIDTH }
     requires x_fits { x < 2 ^ length }
     requires y_fits { y < 2 ^ length }
     requires carry_fits { carry < 2 }
@@ -105,8 +105,8 @@ pub(crate) fn binary_overflows(
     y: u128,
     carry: u128,
 ) -> bool
-    requires some { 0 < length }
-    requires short { length ≤ MAX_WIDTH }
+    requires positive { 0 < length }
+    requires narrow { length ≤ MAX_WIDTH }
     requires x_fits { x < 2 ^ length }
     requires y_fits { y < 2 ^ length }
     requires carry_fits { carry < 2 }
@@ -135,7 +135,7 @@ pub(crate) fn binary_overflows(
 
 /// The result of an operator on one operand.
 pub(crate) fn unary_value(operator: UnaryOperator, length: u64, x: u128) -> u128
-    requires short { length ≤ MAX_WIDTH }
+    requires narrow { length ≤ MAX_WIDTH }
     requires x_fits { x < 2 ^ length }
     ensures { result ≡ unary_result operator length x }
 {
@@ -148,8 +148,8 @@ pub(crate) fn unary_value(operator: UnaryOperator, length: u64, x: u128) -> u128
 
 /// Whether the exact result of an operator on one operand needs more bits.
 pub(crate) fn unary_overflows(operator: UnaryOperator, length: u64, x: u128) -> bool
-    requires some { 0 < length }
-    requires short { length ≤ MAX_WIDTH }
+    requires positive { 0 < length }
+    requires narrow { length ≤ MAX_WIDTH }
     ensures { result ≡ unary_overflow operator length x }
 {
     match operator {
@@ -160,7 +160,7 @@ pub(crate) fn unary_overflows(operator: UnaryOperator, length: u64, x: u128) -> 
 
 /// A number of `from_length` bits as one of `length` bits.
 pub(crate) fn resized(sign: Sign, length: u64, from_length: u64, x: u128) -> u128
-    requires short { length ≤ MAX_WIDTH }
+    requires narrow { length ≤ MAX_WIDTH }
     requires from_some { 0 < from_length }
     requires from_short { from_length ≤ MAX_WIDTH }
     requires x_fits { x < 2 ^ from_length }
@@ -174,8 +174,8 @@ pub(crate) fn resized(sign: Sign, length: u64, from_length: u64, x: u128) -> u12
 
 /// Whether a number of `from_length` bits needs more than `length` bits.
 pub(crate) fn resize_overflows(sign: Sign, length: u64, from_length: u64, x: u128) -> bool
-    requires some { 0 < length }
-    requires short { length ≤ MAX_WIDTH }
+    requires positive { 0 < length }
+    requires narrow { length ≤ MAX_WIDTH }
     requires from_some { 0 < from_length }
     requires from_short { from_length ≤ MAX_WIDTH }
     requires x_fits { x < 2 ^ from_length }
@@ -189,8 +189,8 @@ pub(crate) fn resize_overflows(sign: Sign, length: u64, from_length: u64, x: u12
 
 /// Whether two numbers compare so.
 pub(crate) fn compare(comparison: Comparison, length: u64, x: u128, y: u128) -> bool
-    requires some { 0 < length }
-    requires short { length ≤ MAX_WIDTH }
+    requires positive { 0 < length }
+    requires narrow { length ≤ MAX_WIDTH }
     requires x_fits { x < 2 ^ length }
     requires y_fits { y < 2 ^ length }
     ensures { result ≡ compares comparison length x y }

@@ -82,7 +82,7 @@ fn scan_values(
     v: u32,
 ) -> Result<Vec<u128>, AllocError>
     requires there { is_bad_axis inputs.now.axes axis ≡ false }
-    requires short { length ≤ MAX_WIDTH }
+    requires narrow { length ≤ MAX_WIDTH }
     requires processor { v < processor_count inputs.now.axes }
     ensures { IfOk result (λ values. values.items ≡ scan_values inputs.now.axes axis direction inclusion (begins_segment (frame_of_seen inputs.now) segments.now) (is_selected (frame_of_seen inputs.now)) (low_at (frame_of_seen inputs.now) from length) v) }
 {
@@ -101,7 +101,7 @@ fn line_values(
     v: u32,
 ) -> Result<Vec<u128>, AllocError>
     requires there { is_bad_axis inputs.now.axes axis ≡ false }
-    requires short { length ≤ MAX_WIDTH }
+    requires narrow { length ≤ MAX_WIDTH }
     requires processor { v < processor_count inputs.now.axes }
     ensures { IfOk result (λ values. values.items ≡ line_values inputs.now.axes axis (is_selected (frame_of_seen inputs.now)) (low_at (frame_of_seen inputs.now) from length) v) }
 {
@@ -124,7 +124,7 @@ fn one_value(
 ) -> Result<Vec<u128>, AllocError>
     requires there { is_bad_axis inputs.now.axes axis ≡ false }
     requires within { nat_le (axis_length inputs.now.axes axis) coordinate ≡ false }
-    requires short { length ≤ MAX_WIDTH }
+    requires narrow { length ≤ MAX_WIDTH }
     requires processor { v < processor_count inputs.now.axes }
     ensures { IfOk result (λ values. values.items ≡ low_at (frame_of_seen inputs.now) from length (at_coordinate inputs.now.axes axis v coordinate) ∷ []) }
 {
@@ -197,7 +197,7 @@ fn combined_values(
 
 /// What values combine to; a copy is the first of them.
 fn result_of(i: &Line<Operand>, values: &[u128]) -> u128
-    requires short { line_length i.now ≤ MAX_WIDTH }
+    requires narrow { line_length i.now ≤ MAX_WIDTH }
     requires fit { All (λ x. x < 2 ^ line_length i.now) values.now }
     ensures { result ≡ result_of i.now values.now }
 {

@@ -64,7 +64,7 @@ fn combined_arrivals(
     mail: &[(u128, u128)],
     r: usize,
 ) -> u128
-    requires short { length ≤ MAX_WIDTH }
+    requires narrow { length ≤ MAX_WIDTH }
     requires own_fits { own < 2 ^ length }
     requires mail_fits { All (λ message. message.1 < 2 ^ length) mail.now }
     ensures { result ≡ combined combiner length own (arrivals mail.now r) }
@@ -196,7 +196,7 @@ fn combined_stored(
     to: Operand,
     length: u64,
 ) -> Result<Vec<u128>, AllocError>
-    requires short { length ≤ MAX_WIDTH }
+    requires narrow { length ≤ MAX_WIDTH }
     requires mail_fits { All (λ message. message.1 < 2 ^ length) mail.now }
     ensures { IfOk result (λ numbers. numbers.items ≡ put_where (frame_of_seen inputs.now) (gets_mail mail.now) key.now length (λ r. combined combiner length (low_at (frame_of_seen inputs.now) to length r) (arrivals mail.now r))) }
 {
@@ -239,7 +239,7 @@ fn combining_send_after(
     to: Operand,
     length: u64,
 ) -> Result<Vec<u128>, AllocError>
-    requires short { length ≤ MAX_WIDTH }
+    requires narrow { length ≤ MAX_WIDTH }
     requires mail_fits { All (λ message. message.1 < 2 ^ length) mail.now }
     ensures { IfOk result (λ numbers. numbers.items ≡ delivered (frame_of_seen inputs.now) mail.now to length (λ r. combined combiner length (low_at (frame_of_seen inputs.now) to length r) (arrivals mail.now r)) field) }
 {

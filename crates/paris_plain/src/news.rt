@@ -26,7 +26,7 @@ fn got(
     length: u64,
 ) -> Result<Vec<u128>, AllocError>
     requires there { is_bad_axis inputs.now.axes axis ≡ false }
-    requires short { length ≤ MAX_WIDTH }
+    requires narrow { length ≤ MAX_WIDTH }
     ensures { IfOk result (λ numbers. numbers.items ≡ put_selected (frame_of_seen inputs.now) key.now length (λ v. low_at (frame_of_seen inputs.now) from length (neighbour inputs.now.axes axis direction v))) }
 {
     let geometry = inputs.geometry();
@@ -49,7 +49,7 @@ fn sent(
     length: u64,
 ) -> Result<Vec<u128>, AllocError>
     requires there { is_bad_axis inputs.now.axes axis ≡ false }
-    requires short { length ≤ MAX_WIDTH }
+    requires narrow { length ≤ MAX_WIDTH }
     ensures { IfOk result (λ numbers. numbers.items ≡ put_where (frame_of_seen inputs.now) (λ r. is_selected (frame_of_seen inputs.now) (news_sender inputs.now.axes axis direction r)) key.now length
         (λ r. low_at (frame_of_seen inputs.now) from length (news_sender inputs.now.axes axis direction r))) }
 {

@@ -15,7 +15,7 @@ use std::alloc::{AllocError, Global};
 fn stored_length(inputs: &Inputs, i: &Unconditional<Operand, SetNo>) -> u64
     requires { IsFit inputs.now.axes (Action.OnAll i.now) }
     ensures value { result ≡ unconditional_length i.now }
-    ensures short { result ≤ MAX_WIDTH }
+    ensures narrow { result ≤ MAX_WIDTH }
 {
     match *i {
         Unconditional::MoveAlways { length, .. } => length,

@@ -45,8 +45,8 @@ enum Extent {
 
 impl Extent {
     fn length(self) -> u64
-        ensures some { 0 < result }
-        ensures short { result ≤ 64 }
+        ensures positive { 0 < result }
+        ensures narrow { result ≤ 64 }
     {
         match self {
             Extent::One => 1,
@@ -144,7 +144,7 @@ fn test_made(alloc: Global, test: Plane) -> Result<Made, AllocError> {
 impl Operation {
     /// What the call makes of the low `length` bits.
     fn made(self, alloc: Global, operands: &Operands, length: u64) -> Result<Made, AllocError>
-        requires some { 0 < length }
+        requires positive { 0 < length }
         requires within { length ≤ operands.now.width }
     {
         let x = &operands.left;
@@ -174,8 +174,8 @@ impl Operation {
 
     /// The instruction that leaves the same.
     fn action(self, length: u64) -> Action<Operand, SetNo>
-        requires some { 0 < length }
-        requires short { length ≤ 64 }
+        requires positive { 0 < length }
+        requires narrow { length ≤ 64 }
         ensures { (axes : List ℕ) → IsFit axes result }
     {
         match self {
@@ -241,7 +241,7 @@ fn run_short(
     seen: &Inputs,
     length: u64,
 ) -> Result<(), Fail>
-    requires some { 0 < length }
+    requires positive { 0 < length }
     requires within { length ≤ operands.now.width }
 {
     for operation in OPERATIONS {

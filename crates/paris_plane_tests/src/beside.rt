@@ -58,8 +58,8 @@ pub(crate) fn flag(name: FlagName) -> Key {
 
 /// An operator on the low bits of the left and the right field.
 pub(crate) fn binary(operator: BinaryOperator, length: u64) -> Action<Operand, SetNo>
-    requires some { 0 < length }
-    requires short { length ≤ 64 }
+    requires positive { 0 < length }
+    requires narrow { length ≤ 64 }
     ensures { (axes : List ℕ) → IsFit axes result }
 {
     Action::OnSelected(Conditional::Binary {
@@ -73,8 +73,8 @@ pub(crate) fn binary(operator: BinaryOperator, length: u64) -> Action<Operand, S
 
 /// An operator on the low bits of the left field.
 pub(crate) fn unary(operator: UnaryOperator, length: u64) -> Action<Operand, SetNo>
-    requires some { 0 < length }
-    requires short { length ≤ 64 }
+    requires positive { 0 < length }
+    requires narrow { length ≤ 64 }
     ensures { (axes : List ℕ) → IsFit axes result }
 {
     Action::OnSelected(Conditional::Unary {
@@ -87,8 +87,8 @@ pub(crate) fn unary(operator: UnaryOperator, length: u64) -> Action<Operand, Set
 
 /// The low `from_length` bits of the left field as a number of `length` bits.
 pub(crate) fn resize(sign: Sign, length: u64, from_length: u64) -> Action<Operand, SetNo>
-    requires some { 0 < length }
-    requires short { length ≤ 64 }
+    requires positive { 0 < length }
+    requires narrow { length ≤ 64 }
     requires from_some { 0 < from_length }
     requires from_short { from_length ≤ 64 }
     ensures { (axes : List ℕ) → IsFit axes result }
@@ -104,8 +104,8 @@ pub(crate) fn resize(sign: Sign, length: u64, from_length: u64) -> Action<Operan
 
 /// A comparison of the low bits of the left and the right field.
 pub(crate) fn compare(comparison: Comparison, length: u64) -> Action<Operand, SetNo>
-    requires some { 0 < length }
-    requires short { length ≤ 64 }
+    requires positive { 0 < length }
+    requires narrow { length ≤ 64 }
     ensures { (axes : List ℕ) → IsFit axes result }
 {
     Action::OnSelected(Conditional::Compare {

@@ -53,8 +53,8 @@ fn word(seed: u64, place: u64) -> u64 {
 
 /// A number of this width for processor v. Half of them are 0, 1, all ones, the top bit alone, or all bits below the top.
 fn number(width: u64, seed: u64, v: usize) -> u128
-    requires some { 0 < width }
-    requires short { width ≤ 64 }
+    requires positive { 0 < width }
+    requires narrow { width ≤ 64 }
     ensures { result < 2 ^ width }
 {
     let limit = 1u128 << width;
@@ -72,8 +72,8 @@ fn number(width: u64, seed: u64, v: usize) -> u128
 
 /// A number of this width for each of `count` processors.
 fn numbers(alloc: Global, width: u64, seed: u64, count: usize) -> Result<Vec<u128>, AllocError>
-    requires some { 0 < width }
-    requires short { width ≤ 64 }
+    requires positive { 0 < width }
+    requires narrow { width ≤ 64 }
     ensures count { IfOk result (λ list. length list.items ≡ count) }
     ensures fit { IfOk result (λ list. AllFit width list.items) }
 {
@@ -116,8 +116,8 @@ pub(crate) fn sample_of(
     width: u64,
     round: u64,
 ) -> Result<Sample, AllocError>
-    requires some { 0 < width }
-    requires short { width ≤ 64 }
+    requires positive { 0 < width }
+    requires narrow { width ≤ 64 }
 {
     let seed = word(count as u64, round.wrapping_mul(1000).wrapping_add(width));
     Ok(Sample {

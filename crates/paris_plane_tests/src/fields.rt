@@ -125,7 +125,7 @@ fn makes_zeros(rt: &impl Abort, alloc: Global, sample: &Sample) -> Result<(), Fa
 
 /// The planes of the low bits hold what a move of them leaves where zeros stood.
 fn lends_planes(rt: &impl Abort, alloc: Global, sample: &Sample, length: u64) -> Result<(), Fail>
-    requires some { 0 < length }
+    requires positive { 0 < length }
     requires within { length ≤ sample.now.width }
 {
     let seen = seen_by_all(rt, alloc, sample)?;
@@ -218,7 +218,7 @@ fn merged(
 
 /// A merge is a move in the processors of the mask.
 fn merges(rt: &impl Abort, alloc: Global, sample: &Sample, length: u64) -> Result<(), Fail>
-    requires some { 0 < length }
+    requires positive { 0 < length }
     requires within { length ≤ sample.now.width }
 {
     let seen = seen(

@@ -25,8 +25,8 @@ fn run_at(
     count: usize,
     width: u64,
 ) -> Result<(), Fail>
-    requires some { 0 < width }
-    requires short { width ≤ 64 }
+    requires positive { 0 < width }
+    requires narrow { width ≤ 64 }
 {
     for round in 0..rounds(count) {
         let sample = sample_of(alloc, count, width, round)?;

@@ -54,7 +54,7 @@ const CASES: &[Case] = &[
 
 /// A number of this width, which must be some bits, for processor v.
 fn number(width: u64, seed: u128, v: usize) -> u128
-    requires some { 0 < width }
+    requires positive { 0 < width }
     requires narrow { width ≤ 128 }
     ensures { result < 2 ^ width }
 {
@@ -66,7 +66,7 @@ fn number(width: u64, seed: u128, v: usize) -> u128
 
 /// A number for each of `count` processors.
 fn list(alloc: Global, width: u64, seed: u128, count: usize) -> Result<Vec<u128>, AllocError>
-    requires some { 0 < width }
+    requires positive { 0 < width }
     requires narrow { width ≤ 128 }
     ensures count { IfOk result (λ list. length list.items ≡ count) }
     ensures fit { IfOk result (λ list. AllFit width list.items) }
@@ -91,7 +91,7 @@ fn thirds(alloc: Global, count: usize) -> Result<Plane, AllocError>
 
 /// Each number is read back one by one and together, and from a copy.
 fn is_read_back(rt: &impl Abort, alloc: Global, width: u64, count: usize) -> Result<(), AllocError>
-    requires some { 0 < width }
+    requires positive { 0 < width }
     requires narrow { width ≤ 128 }
 {
     let numbers = list(alloc, width, 1, count)?;
@@ -120,7 +120,7 @@ fn numbers_are_read_back(rt: HostRuntime) -> Result<(), Fail> {
 
 /// Numbers are put in place of as many in the middle, and the others stay.
 fn is_edited(rt: &impl Abort, alloc: Global, width: u64, count: usize) -> Result<(), AllocError>
-    requires some { 0 < width }
+    requires positive { 0 < width }
     requires narrow { width ≤ 128 }
 {
     let from = count / 3;
@@ -151,7 +151,7 @@ fn numbers_are_put_in_the_middle(rt: HostRuntime) -> Result<(), Fail> {
 
 /// The low half of the bits is stored in each third processor.
 fn is_merged(rt: &impl Abort, alloc: Global, width: u64, count: usize) -> Result<(), AllocError>
-    requires some { 0 < width }
+    requires positive { 0 < width }
     requires narrow { width ≤ 128 }
 {
     let len = width - width / 2;

@@ -408,8 +408,8 @@ impl Operation {
         y: &FieldValue,
         len: u64,
     ) -> Result<Outcome, AllocError>
-        requires some { 0 < len }
-        requires short { len ≤ 64 }
+        requires positive { 0 < len }
+        requires narrow { len ≤ 64 }
         requires x_width { x.now.width ≡ 64 }
         requires y_width { y.now.width ≡ 64 }
         requires same { length x.now.numbers ≡ length y.now.numbers }

@@ -14,8 +14,8 @@ and_in-requires c =
     let xs : List (List Bool) = c.low-xs.result.now in
     let ds : List (List Bool) = c.in_ok-planes.planes.items in
     let nb : length c.in_ok-borrow.borrow ≡ n = ap length c.in_ok-borrow.ensures ∙ length-replicate c.len-vps.result false ∙ c.len-vps.ensures in
-    let id : L - 1 < length ds = omega (arith, c.in_ok-planes.ensures.count, c.low-xs.ensures.count, c.requires.some) in
-    let ix : L - 1 < length xs = omega (arith, c.low-xs.ensures.count, c.requires.some) in
+    let id : L - 1 < length ds = omega (arith, c.in_ok-planes.ensures.count, c.low-xs.ensures.count, c.requires.positive) in
+    let ix : L - 1 < length xs = omega (arith, c.low-xs.ensures.count, c.requires.positive) in
     let ed : c.index.result.now ≡ plane_at ds (L - 1) = get_or_read ds (L - 1) c.index.result.now id c.index.ensures [] in
     let ex : c.index-xs-top.result ≡ plane_at xs (L - 1) = get_or_read xs (L - 1) c.index-xs-top.result ix c.index-xs-top.is [] in
     ap length (c.in_ok-overflow.ensures ∙ ed) ∙ c.in_ok-planes.ensures.planes (L - 1) id ∙ nb ∙ sym (ap length ex ∙ c.low-xs.ensures.long (L - 1) ix)
@@ -32,9 +32,9 @@ returns c =
     let hx : Holds n L f xs = held n n L f xs refl c.low-xs.ensures.count c.low-xs.ensures.long c.low-xs.ensures.at in
     let none : before ≡ replicate n false = c.in_ok-borrow.ensures ∙ ap (λ (m : ℕ). replicate m false) c.len-vps.ensures in
     let a : Opposed n L f after ds = opposed n L f before after xs ds hx none c.in_ok-planes.ensures.count c.in_ok-planes.ensures.planes c.in_ok-planes.ensures.exact in
-    let ed : c.index.result.now ≡ plane_at ds (L - 1) = get_or_read ds (L - 1) c.index.result.now (omega (arith, a.count, c.requires.some)) c.index.ensures [] in
-    let ex : c.index-xs-top.result ≡ plane_at xs (L - 1) = get_or_read xs (L - 1) c.index-xs-top.result (omega (arith, hx.count, c.requires.some)) c.index-xs-top.is [] in
+    let ed : c.index.result.now ≡ plane_at ds (L - 1) = get_or_read ds (L - 1) c.index.result.now (omega (arith, a.count, c.requires.positive)) c.index.ensures [] in
+    let ex : c.index-xs-top.result ≡ plane_at xs (L - 1) = get_or_read xs (L - 1) c.index-xs-top.result (omega (arith, hx.count, c.requires.positive)) c.index-xs-top.is [] in
     record {
       value = c.from_planes.ensures ∙ ap (λ (m : ℕ). field_of m ds) c.len-vps.ensures ∙ opposite_field n L f after xs ds hx a;
-      overflow = opposite_overflow n L f after xs ds c.index.result.now c.index-xs-top.result c.and_in.new.self c.requires.some hx a ed ex (c.and_in.ensures ∙ ap (λ (p : List Bool). zip2 (λ a b. a && b) p c.index-xs-top.result) c.in_ok-overflow.ensures);
+      overflow = opposite_overflow n L f after xs ds c.index.result.now c.index-xs-top.result c.and_in.new.self c.requires.positive hx a ed ex (c.and_in.ensures ∙ ap (λ (p : List Bool). zip2 (λ a b. a && b) p c.index-xs-top.result) c.in_ok-overflow.ensures);
     }

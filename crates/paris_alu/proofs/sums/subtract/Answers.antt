@@ -10,17 +10,17 @@ pub overflow-requires-clause-x : goal.overflow-requires-clause-x
 overflow-requires-clause-x c =
     let n : ℕ = length c.args.x.now.numbers in
     let none : c.in_ok-borrow.borrow ≡ replicate n false = c.in_ok-borrow.ensures ∙ ap (λ (m : ℕ). replicate m false) c.len-vps.ensures in
-    last_long c.args.bits c.in_ok-planes.planes.items c.index.result.now c.requires.some (c.in_ok-planes.ensures.count ∙ c.low-xs.ensures.count) c.in_ok-planes.ensures.planes c.index.ensures
+    last_long c.args.bits c.in_ok-planes.planes.items c.index.result.now c.requires.positive (c.in_ok-planes.ensures.count ∙ c.low-xs.ensures.count) c.in_ok-planes.ensures.planes c.index.ensures
     ∙ ap length none ∙ length-replicate n false
-    ∙ sym (last_long c.args.bits c.low-xs.result.now c.index-xs-top.result c.requires.some c.low-xs.ensures.count c.low-xs.ensures.long c.index-xs-top.is)
+    ∙ sym (last_long c.args.bits c.low-xs.result.now c.index-xs-top.result c.requires.positive c.low-xs.ensures.count c.low-xs.ensures.long c.index-xs-top.is)
 
 pub overflow-requires-clause-y : goal.overflow-requires-clause-y
 overflow-requires-clause-y c =
     let n : ℕ = length c.args.x.now.numbers in
     let none : c.in_ok-borrow.borrow ≡ replicate n false = c.in_ok-borrow.ensures ∙ ap (λ (m : ℕ). replicate m false) c.len-vps.ensures in
-    last_long c.args.bits c.in_ok-planes.planes.items c.index.result.now c.requires.some (c.in_ok-planes.ensures.count ∙ c.low-xs.ensures.count) c.in_ok-planes.ensures.planes c.index.ensures
+    last_long c.args.bits c.in_ok-planes.planes.items c.index.result.now c.requires.positive (c.in_ok-planes.ensures.count ∙ c.low-xs.ensures.count) c.in_ok-planes.ensures.planes c.index.ensures
     ∙ ap length none ∙ length-replicate n false ∙ c.requires.same
-    ∙ sym (last_long c.args.bits c.low-ys.result.now c.index-ys-top.result c.requires.some c.low-ys.ensures.count c.low-ys.ensures.long c.index-ys-top.is)
+    ∙ sym (last_long c.args.bits c.low-ys.result.now c.index-ys-top.result c.requires.positive c.low-ys.ensures.count c.low-ys.ensures.long c.index-ys-top.is)
 
 pub returns : goal.returns
 returns c =
@@ -38,11 +38,11 @@ returns c =
     let none : before ≡ replicate n false = c.in_ok-borrow.ensures ∙ ap (λ (m : ℕ). replicate m false) c.len-vps.ensures in
     let a : Taken n L f g after ds =
     taken n L f g before after xs ys ds hx hy none c.difference_planes.ensures.long c.in_ok-planes.ensures.count c.in_ok-planes.ensures.planes c.in_ok-planes.ensures.exact in
-    let ed : c.index.result.now ≡ plane_at ds (L - 1) = get_or_read ds (L - 1) c.index.result.now (omega (arith, a.count, c.requires.some)) c.index.ensures [] in
-    let ex : c.index-xs-top.result ≡ plane_at xs (L - 1) = get_or_read xs (L - 1) c.index-xs-top.result (omega (arith, hx.count, c.requires.some)) c.index-xs-top.is [] in
-    let ey : c.index-ys-top.result ≡ plane_at ys (L - 1) = get_or_read ys (L - 1) c.index-ys-top.result (omega (arith, hy.count, c.requires.some)) c.index-ys-top.is [] in
+    let ed : c.index.result.now ≡ plane_at ds (L - 1) = get_or_read ds (L - 1) c.index.result.now (omega (arith, a.count, c.requires.positive)) c.index.ensures [] in
+    let ex : c.index-xs-top.result ≡ plane_at xs (L - 1) = get_or_read xs (L - 1) c.index-xs-top.result (omega (arith, hx.count, c.requires.positive)) c.index-xs-top.is [] in
+    let ey : c.index-ys-top.result ≡ plane_at ys (L - 1) = get_or_read ys (L - 1) c.index-ys-top.result (omega (arith, hy.count, c.requires.positive)) c.index-ys-top.is [] in
     record {
       value = c.from_planes.ensures ∙ ap (λ (m : ℕ). field_of m ds) c.len-vps.ensures ∙ difference_field c.args.sign n L f g after xs ys ds hx hy a;
       carry = difference_carry c.args.sign n L f g after xs ys ds hx hy a;
-      overflow = difference_overflow c.args.sign n L f g after xs ys ds c.index.result.now c.index-xs-top.result c.index-ys-top.result c.in_ok-overflow.overflow c.requires.some hx hy a ed ex ey c.in_ok-overflow.ensures;
+      overflow = difference_overflow c.args.sign n L f g after xs ys ds c.index.result.now c.index-xs-top.result c.index-ys-top.result c.in_ok-overflow.overflow c.requires.positive hx hy a ed ex ey c.in_ok-overflow.ensures;
     }

@@ -14,7 +14,7 @@ from_planes-requires-clause-long c =
     let kept : ℕ = c.min-kept.result in
     let which = shorter c.args.from_bits c.args.bits kept c.min-kept.ensures in
     let within = kept_le c.args.from_bits c.args.bits kept which in
-    let some = kept_some c.args.from_bits c.args.bits kept c.requires.from_some c.requires.some which in
+    let some = kept_some c.args.from_bits c.args.bits kept c.requires.from_some c.requires.positive which in
     let inx : kept - 1 < length xs = omega (arith, some, within.0, c.low-xs.ensures.count) in
     let et : c.index-xs-kept.result ≡ plane_at xs (kept - 1) = get_or_read xs (kept - 1) c.index-xs-kept.result inx c.index-xs-kept.is [] in
     let lr : length c.in_ok-rest.rest ≡ n = ap length c.in_ok-rest.ensures ∙ rest_long c.args.sign c.index-xs-kept.result ∙ ap length et ∙ c.low-xs.ensures.long (kept - 1) inx in
@@ -35,7 +35,7 @@ returns c =
     let hx : Holds n M f xs = held n n M f xs refl c.low-xs.ensures.count c.low-xs.ensures.long c.low-xs.ensures.at in
     let which = shorter M L kept c.min-kept.ensures in
     let within = kept_le M L kept which in
-    let some = kept_some M L kept c.requires.from_some c.requires.some which in
+    let some = kept_some M L kept c.requires.from_some c.requires.positive which in
     let inx : kept - 1 < length xs = omega (arith, some, within.0, c.low-xs.ensures.count) in
     let et : top ≡ plane_at xs (kept - 1) = get_or_read xs (kept - 1) top inx c.index-xs-kept.is [] in
     let er : rest ≡ by_sign c.args.sign (replicate (length top) false) top = c.in_ok-rest.ensures in
@@ -45,5 +45,5 @@ returns c =
     record {
       value = c.from_planes.ensures ∙ ap (λ (m : ℕ). field_of m zs) c.len-vps.ensures
           ∙ resized_value c.args.sign n M L kept f xs zs top rest hx c.requires.from_some (no_longer M L kept which) et er c.in_ok-planes.ensures lz;
-      overflow = resized_overflow c.args.sign n M L kept f xs top rest c.in_ok-overflow.overflow hx c.requires.from_some c.requires.some which et er lr (c.in_ok-overflow.ensures ∙ ap over (take_rest xs kept));
+      overflow = resized_overflow c.args.sign n M L kept f xs top rest c.in_ok-overflow.overflow hx c.requires.from_some c.requires.positive which et er lr (c.in_ok-overflow.ensures ∙ ap over (take_rest xs kept));
     }

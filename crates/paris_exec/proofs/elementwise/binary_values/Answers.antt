@@ -30,8 +30,8 @@ put_sum-requires-clause-read c =
     sum_read c.args.order.now c.args.operator c.args.to.now c.args.left.now c.args.right.now c.args.bits c.requires.acts
     (if_some _ c.in-Some.is c.in_ok-sum.ensures.flags)
 
-pub put_sum-requires-clause-short : goal.put_sum-requires-clause-short
-put_sum-requires-clause-short c =
+pub put_sum-requires-clause-fits_key : goal.put_sum-requires-clause-fits_key
+put_sum-requires-clause-fits_key c =
     subst (λ (y : FieldNumbers). y.width ≤ key_width c.args.order.now.plan (Field c.args.to.now.field)) (sym (if_some _ c.in-Some.is c.in_ok-sum.ensures.value))
     (binary_to c.args.order.now c.args.operator c.args.to.now c.args.left.now c.args.right.now c.args.bits c.requires.acts c.requires.fit)
 
@@ -64,8 +64,8 @@ flagless-requires-clause-y_width c =
 pub put_field-requires-clause-read : goal.put_field-requires-clause-read
 put_field-requires-clause-read c = flagless_read c.args.order.now c.args.operator c.args.to.now c.args.left.now c.args.right.now c.args.bits c.requires.acts
 
-pub put_field-requires-clause-short : goal.put_field-requires-clause-short
-put_field-requires-clause-short c =
+pub put_field-requires-clause-fits_key : goal.put_field-requires-clause-fits_key
+put_field-requires-clause-fits_key c =
     subst (λ (y : FieldNumbers). y.width ≤ key_width c.args.order.now.plan (Field c.args.to.now.field)) (sym (if_some _ c.in-Some-2.is c.in_ok-new.ensures.value))
     (binary_to c.args.order.now c.args.operator c.args.to.now c.args.left.now c.args.right.now c.args.bits c.requires.acts c.requires.fit)
 

@@ -22,8 +22,8 @@ constant-requires-clause-fits c =
 pub put_field-requires-clause-read : goal.put_field-requires-clause-read
 put_field-requires-clause-read c = field_read c.args.order.now (MoveConstant c.in-MoveConstant.to c.in-MoveConstant.value c.in-MoveConstant.length) (c.requires.acts ∙ ap OnSelected c.in-MoveConstant.is) c.in-MoveConstant.to.field [] refl
 
-pub put_field-requires-clause-short : goal.put_field-requires-clause-short
-put_field-requires-clause-short c =
+pub put_field-requires-clause-fits_key : goal.put_field-requires-clause-fits_key
+put_field-requires-clause-fits_key c =
     subst (λ (y : FieldNumbers). y.width ≤ key_width c.args.order.now.plan (Field c.in-MoveConstant.to.field)) (sym c.in_ok-new-in-MoveConstant.ensures)
     (alone_to c.args.order.now (MoveConstant c.in-MoveConstant.to c.in-MoveConstant.value c.in-MoveConstant.length) (c.requires.acts ∙ ap OnSelected c.in-MoveConstant.is) c.in-MoveConstant.to refl c.requires.fit c.in-MoveConstant.length (lengths_fit c.args.order.now (MoveConstant c.in-MoveConstant.to c.in-MoveConstant.value c.in-MoveConstant.length) (c.requires.acts ∙ ap OnSelected c.in-MoveConstant.is) c.requires.fit))
 
@@ -42,8 +42,8 @@ returns-in_ok-put_field-in-MoveConstant-clause-values c =
 pub put_field-requires-in-MyCoordinate-clause-read : goal.put_field-requires-in-MyCoordinate-clause-read
 put_field-requires-in-MyCoordinate-clause-read c = field_read c.args.order.now (MyCoordinate c.in-MyCoordinate.to c.in-MyCoordinate.axis c.in-MyCoordinate.length) (c.requires.acts ∙ ap OnSelected c.in-MyCoordinate.is) c.in-MyCoordinate.to.field [] refl
 
-pub put_field-requires-in-MyCoordinate-clause-short : goal.put_field-requires-in-MyCoordinate-clause-short
-put_field-requires-in-MyCoordinate-clause-short c =
+pub put_field-requires-in-MyCoordinate-clause-fits_key : goal.put_field-requires-in-MyCoordinate-clause-fits_key
+put_field-requires-in-MyCoordinate-clause-fits_key c =
     subst (λ (y : FieldNumbers). y.width ≤ key_width c.args.order.now.plan (Field c.in-MyCoordinate.to.field)) (sym c.in_ok-new-in-MyCoordinate.ensures)
     (alone_to c.args.order.now (MyCoordinate c.in-MyCoordinate.to c.in-MyCoordinate.axis c.in-MyCoordinate.length) (c.requires.acts ∙ ap OnSelected c.in-MyCoordinate.is) c.in-MyCoordinate.to refl c.requires.fit c.in-MyCoordinate.length (lengths_fit c.args.order.now (MyCoordinate c.in-MyCoordinate.to c.in-MyCoordinate.axis c.in-MyCoordinate.length) (c.requires.acts ∙ ap OnSelected c.in-MyCoordinate.is) c.requires.fit))
 
@@ -61,8 +61,8 @@ returns-in_ok-put_field-in-MyCoordinate-clause-values c =
 pub put_field-requires-in-MyAddress-clause-read : goal.put_field-requires-in-MyAddress-clause-read
 put_field-requires-in-MyAddress-clause-read c = field_read c.args.order.now (MyAddress c.in-MyAddress.to c.in-MyAddress.length) (c.requires.acts ∙ ap OnSelected c.in-MyAddress.is) c.in-MyAddress.to.field [] refl
 
-pub put_field-requires-in-MyAddress-clause-short : goal.put_field-requires-in-MyAddress-clause-short
-put_field-requires-in-MyAddress-clause-short c =
+pub put_field-requires-in-MyAddress-clause-fits_key : goal.put_field-requires-in-MyAddress-clause-fits_key
+put_field-requires-in-MyAddress-clause-fits_key c =
     subst (λ (y : FieldNumbers). y.width ≤ key_width c.args.order.now.plan (Field c.in-MyAddress.to.field)) (sym c.in_ok-new-in-MyAddress.ensures)
     (alone_to c.args.order.now (MyAddress c.in-MyAddress.to c.in-MyAddress.length) (c.requires.acts ∙ ap OnSelected c.in-MyAddress.is) c.in-MyAddress.to refl c.requires.fit c.in-MyAddress.length (lengths_fit c.args.order.now (MyAddress c.in-MyAddress.to c.in-MyAddress.length) (c.requires.acts ∙ ap OnSelected c.in-MyAddress.is) c.requires.fit))
 

@@ -14,8 +14,8 @@ pub put_overflowing-requires-clause-read : goal.put_overflowing-requires-clause-
 put_overflowing-requires-clause-read c =
     resize_read c.args.order.now c.args.sign c.args.to.now c.args.from.now c.args.bits c.args.from_bits c.requires.acts
 
-pub put_overflowing-requires-clause-short : goal.put_overflowing-requires-clause-short
-put_overflowing-requires-clause-short c =
+pub put_overflowing-requires-clause-fits_key : goal.put_overflowing-requires-clause-fits_key
+put_overflowing-requires-clause-fits_key c =
     subst (λ (y : FieldNumbers). y.width ≤ key_width c.args.order.now.plan (Field c.args.to.now.field)) (sym c.in_ok-resized.ensures.value) (resize_to c.args.order.now c.args.sign c.args.to.now c.args.from.now c.args.bits c.args.from_bits c.requires.acts c.requires.fit)
 
 pub put_overflowing-requires-clause-count : goal.put_overflowing-requires-clause-count

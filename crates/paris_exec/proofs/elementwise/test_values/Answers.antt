@@ -41,8 +41,8 @@ pub put_field-requires-clause-read : goal.put_field-requires-clause-read
 put_field-requires-clause-read c =
     field_read c.args.order.now (StoreTest c.in-StoreTest.to) (c.requires.acts ∙ ap OnSelected c.in-StoreTest.is) c.in-StoreTest.to.field [] refl
 
-pub put_field-requires-clause-short : goal.put_field-requires-clause-short
-put_field-requires-clause-short c =
+pub put_field-requires-clause-fits_key : goal.put_field-requires-clause-fits_key
+put_field-requires-clause-fits_key c =
     subst (λ (y : FieldNumbers). y.width ≤ key_width c.args.order.now.plan (Field c.in-StoreTest.to.field)) (sym (c.in_ok-new-in-StoreTest.ensures ∙ c.input-in-StoreTest.ensures.value)) (subst (λ n. n ≤ key_width c.args.order.now.plan (Field c.in-StoreTest.to.field)) (sym (flag_width c.args.order.now.plan c.set.result Test)) (one_bit_to c.args.order.now (StoreTest c.in-StoreTest.to) (c.requires.acts ∙ ap OnSelected c.in-StoreTest.is) c.in-StoreTest.to refl c.requires.fit))
 
 pub returns-in_ok-put_flag_alone-in-SetTest-clause-values : goal.returns-in_ok-put_flag_alone-in-SetTest-clause-values

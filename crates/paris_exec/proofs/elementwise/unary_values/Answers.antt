@@ -29,8 +29,8 @@ pub put_overflowing-requires-clause-read : goal.put_overflowing-requires-clause-
 put_overflowing-requires-clause-read c =
     unary_overflow_read c.args.order.now c.args.operator c.args.to.now c.args.from.now c.args.bits c.requires.acts (ap unary_flags c.in-Negate.is)
 
-pub put_overflowing-requires-clause-short : goal.put_overflowing-requires-clause-short
-put_overflowing-requires-clause-short c =
+pub put_overflowing-requires-clause-fits_key : goal.put_overflowing-requires-clause-fits_key
+put_overflowing-requires-clause-fits_key c =
     subst (λ (y : FieldNumbers). y.width ≤ key_width c.args.order.now.plan (Field c.args.to.now.field)) (sym c.in_ok-negate-in-Negate.ensures.value) (unary_to c.args.order.now c.args.operator c.args.to.now c.args.from.now c.args.bits c.requires.acts c.requires.fit)
 
 pub put_overflowing-requires-clause-count : goal.put_overflowing-requires-clause-count
@@ -45,8 +45,8 @@ pub put_field-requires-clause-read : goal.put_field-requires-clause-read
 put_field-requires-clause-read c =
     unary_read c.args.order.now c.args.operator c.args.to.now c.args.from.now c.args.bits c.requires.acts
 
-pub put_field-requires-clause-short : goal.put_field-requires-clause-short
-put_field-requires-clause-short c =
+pub put_field-requires-clause-fits_key : goal.put_field-requires-clause-fits_key
+put_field-requires-clause-fits_key c =
     subst (λ (y : FieldNumbers). y.width ≤ key_width c.args.order.now.plan (Field c.args.to.now.field)) (sym c.in_ok-invert-in-BitNot.ensures) (unary_to c.args.order.now c.args.operator c.args.to.now c.args.from.now c.args.bits c.requires.acts c.requires.fit)
 
 pub put_field-requires-clause-count : goal.put_field-requires-clause-count
@@ -57,8 +57,8 @@ pub put_field-requires-in-Move-clause-read : goal.put_field-requires-in-Move-cla
 put_field-requires-in-Move-clause-read c =
     unary_read c.args.order.now c.args.operator c.args.to.now c.args.from.now c.args.bits c.requires.acts
 
-pub put_field-requires-in-Move-clause-short : goal.put_field-requires-in-Move-clause-short
-put_field-requires-in-Move-clause-short c =
+pub put_field-requires-in-Move-clause-fits_key : goal.put_field-requires-in-Move-clause-fits_key
+put_field-requires-in-Move-clause-fits_key c =
     subst (λ (y : FieldNumbers). y.width ≤ key_width c.args.order.now.plan (Field c.args.to.now.field)) (sym c.in_ok-copy_low-in-Move.ensures) (unary_to c.args.order.now c.args.operator c.args.to.now c.args.from.now c.args.bits c.requires.acts c.requires.fit)
 
 pub put_field-requires-in-Move-clause-count : goal.put_field-requires-in-Move-clause-count

@@ -14,7 +14,7 @@ use Rattle.paris_book.proofs.book.Book.run_round.Goals as goal
 pub take_ready-requires : goal.take_ready-requires
 take_ready-requires g c =
     let left : unsettled_rows c.release.new.self.rows ≡ unsettled_rows c.args.self.now.rows = ap (λ (s : State). unsettled_rows s.rows) c.release.ensures ∙ count_recalled c.args.self.now.rows in
-    omega (arith, left, c.unsettled_count.ensures, c.requires.some)
+    omega (arith, left, c.unsettled_count.ensures, c.requires.positive)
 
 pub returns-in_err-slots-clause-advances : goal.returns-in_err-slots-clause-advances
 returns-in_err-slots-clause-advances g c =
@@ -25,7 +25,7 @@ pub returns-in_err-slots-clause-err : goal.returns-in_err-slots-clause-err
 returns-in_err-slots-clause-err g c =
     let first = c.args.self.now in
     let left = left_recalled first c.take_ready.new.self (recalled_since first c.release.new.self c.take_ready.new.self c.release.ensures c.in_err-slots.ensures.recalled) in
-    let some : 0 < unsettled_rows c.take_ready.new.self.rows = omega (arith, left, c.requires.some) in
+    let some : 0 < unsettled_rows c.take_ready.new.self.rows = omega (arith, left, c.requires.positive) in
     search (rules, some)
 
 pub returns-clause-advances : goal.returns-clause-advances
@@ -52,7 +52,7 @@ returns-clause-ok g c =
     let back : take c.in_ok-slots.slots.len (ran ++ drop (length ran) ordered) ≡ ran = written_back c.in_ok-slots.slots.len ran ordered (c.run_slots.auto.slots ∙ c.as_mut_slice.ensures.len) in
     on_ok_weaker c.bring_slots.result
     (λ all.
-    let fewer = round_settles out ordered ran apart (omega (arith, left, c.requires.some)) given executed (ap (list_all has_result) (sym back) ∙ all) in
+    let fewer = round_settles out ordered ran apart (omega (arith, left, c.requires.positive)) given executed (ap (list_all has_result) (sym back) ∙ all) in
     let state : unsettled_rows c.bring_slots.new.self.rows ≡ unsettled_rows (after_slots out ran).rows = ap (λ (s : State). unsettled_rows s.rows) (c.bring_slots.ensures.state ∙ ap (after_slots out) back) in
     omega (arith, fewer, state, left))
     c.bring_slots.ensures.ok

@@ -15,8 +15,8 @@ pub returns-then-is_err-clause-left : goal.returns-then-is_err-clause-left
 returns-then-is_err-clause-left g c =
     omega (arith, c.unsettled_count-count.ensures, c.unsettled_count-then-is_err.ensures, c.run_round.ensures.advances.fewer, c.loop-round.invariant.0.fewer)
 
-pub returns-then-is_err-clause-short : goal.returns-then-is_err-clause-short
-returns-then-is_err-clause-short g c =
+pub returns-then-is_err-clause-fewer : goal.returns-then-is_err-clause-fewer
+returns-then-is_err-clause-fewer g c =
     let some : 0 < unsettled_rows c.run_round.new.self.rows = search rules in
     omega (arith, c.unsettled_count-count.ensures, c.unsettled_count-then-is_err.ensures, c.run_round.ensures.advances.fewer, c.loop-round.invariant.0.fewer, some)
 
