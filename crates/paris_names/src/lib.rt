@@ -12,4 +12,4 @@ pub use faults::Fault;
 pub use ids::{Edition, RowId, Spot};
 pub use items::Items;
 pub use keys::{FieldNo, FlagName, Key, SetNo, has_key};
-pub use names::{KeyName, Name};
+pub use names::{KeyName, Name, NotAName};

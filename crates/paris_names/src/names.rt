@@ -1,6 +1,6 @@
 //! Names of sets, fields and keys.
 
-ghost use Rattle.std.specs.Prelude.{◌≡◌, ◌≤◌, length, true, codes};
+ghost use Rattle.std.specs.Prelude.{◌≡◌, ◌≤◌, length, true, codes, OkIff};
 ghost use Rattle.std.specs.Option.{SomeIff};
 ghost use Rattle.std.specs.List.{list_all};
 ghost use Rattle.std.specs.Str.{bytes_eq};
@@ -10,6 +10,8 @@ ghost use Rattle.paris_names.specs.declared.limits.TheConstants.{MAX_NAME};
 use crate::keys::FlagName;
 use crate::limits::MAX_NAME;
 use std::marker::Model;
+use std::str::FromStr;
+use thiserror::Error;
 
 /// A name of a set or a field: 1 to 16 bytes, a letter and then letters, digits, `-` and `_`, and not the word `none`.
 /// A clause sees its bytes.
@@ -104,6 +106,31 @@ impl Name {
         ensures name { is_name self.now ≡ true }
     {
         &self.buffer[..self.len]
+    }
+}
+
+/// A text that is no name.
+#[derive(Clone, Copy, PartialEq, Eq, Debug, Error)]
+#[error("a name is 1 to 16 bytes, a letter and then letters, digits, `-` and `_`, and not the word `none`")]
+pub struct NotAName;
+
+impl TryFrom<&[u8]> for Name {
+    type Error = NotAName;
+
+    ghost try_from_gives = { λ bytes result. OkIff result (is_name bytes.now ≡ true) bytes.now };
+
+    fn try_from(bytes: &[u8]) -> Result<Name, NotAName> {
+        Name::new(bytes).ok_or(NotAName)
+    }
+}
+
+impl FromStr for Name {
+    type Err = NotAName;
+
+    ghost from_str_gives = { λ text result. OkIff result (is_name text ≡ true) text };
+
+    fn from_str(text: &str) -> Result<Name, NotAName> {
+        Name::try_from(text.as_bytes())
     }
 }
 
