@@ -63,16 +63,30 @@ pub(crate) fn edit_of(rt: &impl Abort, alloc: Global, change: &Change) -> Result
     match change {
         Change::Set(text, axes) => {
             let axes = Items::new(Vec::from_slice(alloc, *axes)?);
-            Ok(Edit::AddSet(name(rt, *text), axes))
+            Ok(Edit::AddSet {
+                name: name(rt, *text),
+                axes,
+            })
         }
         Change::Field(text, set, width) => {
-            Ok(Edit::AddField(name(rt, *text), name(rt, *set), *width))
+            Ok(Edit::AddField {
+                name: name(rt, *text),
+                set: name(rt, *set),
+                width: *width,
+            })
         }
         Change::Input(text, from, numbers) => {
             let values = Items::new(Vec::from_slice(alloc, *numbers)?);
-            Ok(Edit::Input(key(rt, *text), *from, values))
+            Ok(Edit::Input {
+                key: key(rt, *text),
+                from: *from,
+                values,
+            })
         }
-        Change::Append(text) => Ok(Edit::Insert(Spot::End, instr_of(rt, *text))),
+        Change::Append(text) => Ok(Edit::Insert {
+            spot: Spot::End,
+            instr: instr_of(rt, *text),
+        }),
     }
 }
 
@@ -82,7 +96,10 @@ fn accepts(rt: &impl Abort, alloc: Global, book: &mut Book, change: &Change) -> 
 }
 
 fn inserts(rt: &impl Abort, book: &mut Book, spot: Spot, text: &[u8], id: u64) -> Result<(), Fail> {
-    let answer = book.edit(Edit::Insert(spot, instr_of(rt, text)));
+    let answer = book.edit(Edit::Insert {
+        spot,
+        instr: instr_of(rt, text),
+    });
     assert_eq!(rt; answer, Ok(EditReply::Row(RowId(id))));
     Ok(())
 }

@@ -124,9 +124,15 @@ fn key(rt: &impl Abort, text: &[u8]) -> KeyName {
 
 pub(crate) fn edit_of(rt: &impl Abort, change: &Change) -> Edit {
     match change {
-        Change::Insert(spot, written) => Edit::Insert(*spot, instr_of(rt, written)),
+        Change::Insert(spot, written) => Edit::Insert {
+            spot: *spot,
+            instr: instr_of(rt, written),
+        },
         Change::Delete(id) => Edit::Delete(RowId(*id)),
-        Change::Replace(id, written) => Edit::Replace(RowId(*id), instr_of(rt, written)),
+        Change::Replace(id, written) => Edit::Replace {
+            row: RowId(*id),
+            instr: instr_of(rt, written),
+        },
     }
 }
 
@@ -175,7 +181,11 @@ fn declares_field(rt: &impl Abort, book: &mut Book, field: &[u8], set: &[u8], wi
     accept(
         rt,
         book,
-        Edit::AddField(name(rt, field), name(rt, set), width),
+        Edit::AddField {
+            name: name(rt, field),
+            set: name(rt, set),
+            width,
+        },
     );
 }
 
@@ -188,12 +198,27 @@ fn gives(
     numbers: &[u128],
 ) -> Result<(), Fail> {
     let values = Items::new(Vec::from_slice(alloc, numbers)?);
-    accept(rt, book, Edit::Input(field_key(rt, field), from, values));
+    accept(
+        rt,
+        book,
+        Edit::Input {
+            key: field_key(rt, field),
+            from,
+            values,
+        },
+    );
     Ok(())
 }
 
 fn replaces(rt: &impl Abort, book: &mut Book, id: u64, written: &Written) {
-    accept(rt, book, Edit::Replace(RowId(id), instr_of(rt, written)));
+    accept(
+        rt,
+        book,
+        Edit::Replace {
+            row: RowId(id),
+            instr: instr_of(rt, written),
+        },
+    );
 }
 
 fn refuses(rt: &impl Abort, book: &mut Book, change: &Change, fault: Fault) -> Result<(), Fail> {
