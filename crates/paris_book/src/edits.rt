@@ -199,12 +199,12 @@ impl Book {
             return Err(Fault::EditionsSpent);
         }
         match edit {
-            Edit::AddSet(name, axes) => self.add_set(*name, axes.as_slice())?,
-            Edit::AddField(name, set, width) => self.add_field(*name, *set, *width)?,
-            Edit::Input(name, from, values) => self.set_input(*name, *from, values.as_slice())?,
-            Edit::Insert(spot, instr) => return Ok(EditReply::Row(self.insert(*spot, *instr)?)),
+            Edit::AddSet { name, axes } => self.add_set(*name, axes.as_slice())?,
+            Edit::AddField { name, set, width } => self.add_field(*name, *set, *width)?,
+            Edit::Input { key, from, values } => self.set_input(*key, *from, values.as_slice())?,
+            Edit::Insert { spot, instr } => return Ok(EditReply::Row(self.insert(*spot, *instr)?)),
             Edit::Delete(id) => self.delete(*id)?,
-            Edit::Replace(id, instr) => self.replace(*id, *instr)?,
+            Edit::Replace { row, instr } => self.replace(*row, *instr)?,
         }
         Ok(EditReply::Accepted)
     }

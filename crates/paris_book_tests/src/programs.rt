@@ -41,7 +41,14 @@ pub(crate) fn add_set(
     axes: &[u64],
 ) -> Result<(), AllocError> {
     let axes = Items::new(Vec::from_slice(alloc, axes)?);
-    accept(rt, book, Edit::AddSet(name(rt, b"s"), axes));
+    accept(
+        rt,
+        book,
+        Edit::AddSet {
+            name: name(rt, b"s"),
+            axes,
+        },
+    );
     Ok(())
 }
 
@@ -53,7 +60,15 @@ fn give(
     numbers: &[u128],
 ) -> Result<(), AllocError> {
     let values = Items::new(Vec::from_slice(alloc, numbers)?);
-    accept(rt, book, Edit::Input(key(rt, text), 0, values));
+    accept(
+        rt,
+        book,
+        Edit::Input {
+            key: key(rt, text),
+            from: 0,
+            values,
+        },
+    );
     Ok(())
 }
 
@@ -66,7 +81,15 @@ pub(crate) fn add_field(
 ) -> Result<(), AllocError> {
     let (text, width, numbers) = field;
     let set = name(rt, b"s");
-    accept(rt, book, Edit::AddField(name(rt, *text), set, *width));
+    accept(
+        rt,
+        book,
+        Edit::AddField {
+            name: name(rt, *text),
+            set,
+            width: *width,
+        },
+    );
     give(rt, alloc, book, *text, *numbers)
 }
 
@@ -112,7 +135,10 @@ pub(crate) fn append(rt: &impl Abort, book: &mut Book, program: &[&[u8]]) -> u64
     for text in program {
         count = count.wrapping_add(1);
         assert_eq!(rt;
-            book.edit(Edit::Insert(Spot::End, instr_of(rt, *text))),
+            book.edit(Edit::Insert {
+                spot: Spot::End,
+                instr: instr_of(rt, *text)
+            }),
             Ok(EditReply::Row(RowId(count)))
         );
     }

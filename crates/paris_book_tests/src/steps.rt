@@ -77,18 +77,35 @@ pub(crate) fn edit_of(rt: &impl Abort, alloc: Global, change: &Change) -> Result
     match change {
         Change::Set(text, axes) => {
             let axes = Items::new(Vec::from_slice(alloc, *axes)?);
-            Ok(Edit::AddSet(name(rt, *text), axes))
+            Ok(Edit::AddSet {
+                name: name(rt, *text),
+                axes,
+            })
         }
         Change::Field(text, set, width) => {
-            Ok(Edit::AddField(name(rt, *text), name(rt, *set), *width))
+            Ok(Edit::AddField {
+                name: name(rt, *text),
+                set: name(rt, *set),
+                width: *width,
+            })
         }
         Change::Input(text, from, numbers) => {
             let values = Items::new(Vec::from_slice(alloc, *numbers)?);
-            Ok(Edit::Input(key(rt, *text), *from, values))
+            Ok(Edit::Input {
+                key: key(rt, *text),
+                from: *from,
+                values,
+            })
         }
-        Change::Insert(spot, text) => Ok(Edit::Insert(*spot, instr_of(rt, *text))),
+        Change::Insert(spot, text) => Ok(Edit::Insert {
+            spot: *spot,
+            instr: instr_of(rt, *text),
+        }),
         Change::Delete(id) => Ok(Edit::Delete(RowId(*id))),
-        Change::Replace(id, text) => Ok(Edit::Replace(RowId(*id), instr_of(rt, *text))),
+        Change::Replace(id, text) => Ok(Edit::Replace {
+            row: RowId(*id),
+            instr: instr_of(rt, *text),
+        }),
     }
 }
 
@@ -128,7 +145,11 @@ fn accepts(rt: &impl Abort, alloc: Global, book: &mut Book, change: &Change) -> 
 
 fn declares_fields(rt: &impl Abort, book: &mut Book, fields: &[Text]) -> Result<(), Fail> {
     for field in fields {
-        let edit = Edit::AddField(name(rt, *field), name(rt, b"s"), 8);
+        let edit = Edit::AddField {
+            name: name(rt, *field),
+            set: name(rt, b"s"),
+            width: 8,
+        };
         programs::accept(rt, book, edit);
     }
     Ok(())
@@ -141,7 +162,10 @@ pub(crate) fn inserts(
     text: &[u8],
     id: u64,
 ) -> Result<(), Fail> {
-    let answer = book.edit(Edit::Insert(spot, instr_of(rt, text)));
+    let answer = book.edit(Edit::Insert {
+        spot,
+        instr: instr_of(rt, text),
+    });
     assert_eq!(rt; answer, Ok(EditReply::Row(RowId(id))));
     Ok(())
 }

@@ -8,21 +8,21 @@ use Rattle.paris_session.specs.Run.{StopsShort, HasCause, HasEnded, most_reads}
 use Rattle.paris_session.specs.declared.run.RunFault.{RunFault}
 use Rattle.paris_session.specs.declared.run.RunFault.TheVariants.{Read, Write, TooLong, NoMemory}
 
-abbrev pub fault_line : RunFault → List ℕ
-fault_line Read = codes "read fault\n"
-fault_line Write = codes "write fault\n"
-fault_line TooLong = codes "too long\n"
-fault_line NoMemory = codes "no memory\n"
+abbrev pub run_fault_line : RunFault → List ℕ
+run_fault_line Read = codes "read fault\n"
+run_fault_line Write = codes "write fault\n"
+run_fault_line TooLong = codes "too long\n"
+run_fault_line NoMemory = codes "no memory\n"
 
-abbrev pub fault_status : RunFault → ℕ
-fault_status Read = 3
-fault_status Write = 3
-fault_status TooLong = 3
-fault_status NoMemory = 4
+abbrev pub run_fault_status : RunFault → ℕ
+run_fault_status Read = 3
+run_fault_status Write = 3
+run_fault_status TooLong = 3
+run_fault_status NoMemory = 4
 
 -- whether some command was refused
 abbrev pub exit_status : ℕ → ℕ
-exit_status refused = if refused == 0 then 0 else 1
+exit_status refusals = if refusals == 0 then 0 else 1
 
 -- all bytes were read, their transcript was written, and the status says whether it has refused a command; the reader has ended, no
 -- call has failed, and no line names a fault
@@ -47,8 +47,8 @@ pub record Refuses (reader_old reader_new writer_old writer_new errors_old error
 -- the line, unless that writer has failed
 pub record Stops (reader_old reader_new writer_old writer_new errors_old errors_new : Option (List ℕ)) (run errors : Marks) (status : ℕ) : Type 0 where
   pub fault : RunFault
-  pub status_is : status ≡ fault_status fault
+  pub status_is : status ≡ run_fault_status fault
   pub short : StopsShort reader_old reader_new writer_old writer_new fault
   pub cause : HasCause fault run most_reads
-  pub named : WritesFront errors_old errors_new (fault_line fault)
-  pub whole : errors.write_failed ≡ false → Appends errors_old errors_new (fault_line fault)
+  pub named : WritesFront errors_old errors_new (run_fault_line fault)
+  pub whole : errors.write_failed ≡ false → Appends errors_old errors_new (run_fault_line fault)

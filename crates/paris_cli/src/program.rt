@@ -5,7 +5,7 @@ ghost use Rattle.std.specs.String.{string_bytes};
 ghost use Rattle.std.specs.Io.KnownBytes.{Appends};
 ghost use Rattle.paris_calls.specs.Calls.{no_marks};
 ghost use Rattle.paris_calls.specs.Texts.{WritesFront};
-ghost use Rattle.paris_cli.specs.Program.{Finishes, Refuses, Stops, fault_line, fault_status, exit_status};
+ghost use Rattle.paris_cli.specs.Program.{Finishes, Refuses, Stops, run_fault_line, run_fault_status, exit_status};
 ghost use Rattle.paris_cli.specs.Words.{AreTaken, refusal_line, refusal_status};
 ghost use Rattle.paris_names.specs.declared.limits.TheConstants.{MAX_WORKERS};
 
@@ -17,8 +17,8 @@ use std::sync::Wait;
 use std::thread::Threads;
 
 /// The line that names a fault.
-fn fault_line(fault: RunFault) -> &'static [u8]
-    ensures { result.now ≡ fault_line fault }
+fn run_fault_line(fault: RunFault) -> &'static [u8]
+    ensures { result.now ≡ run_fault_line fault }
 {
     match fault {
         RunFault::Read => b"read fault\n",
@@ -29,8 +29,8 @@ fn fault_line(fault: RunFault) -> &'static [u8]
 }
 
 /// The exit status of a run that stopped short.
-fn fault_status(fault: RunFault) -> u8
-    ensures { result ≡ fault_status fault }
+fn run_fault_status(fault: RunFault) -> u8
+    ensures { result ≡ run_fault_status fault }
 {
     match fault {
         RunFault::Read | RunFault::Write | RunFault::TooLong => 3,
@@ -103,10 +103,10 @@ fn run<H: Threads + Wait + Sync + AllocGlobal, R: Read, W: Write, E: Write>(
     ensures status { result ≢ 2 }
 {
     match run_script(rt, rt.alloc(), reader, writer, workers, &mut tallies.run) {
-        Ok(summary) => { if summary.refused == 0 { 0 } else { 1 } }
+        Ok(summary) => { if summary.refusals == 0 { 0 } else { 1 } }
         Err(fault) => {
-            report(rt, errors, &mut tallies.errors, fault_line(fault));
-            fault_status(fault)
+            report(rt, errors, &mut tallies.errors, run_fault_line(fault));
+            run_fault_status(fault)
         }
     }
 }

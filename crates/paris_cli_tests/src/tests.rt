@@ -337,7 +337,7 @@ fn counts_read_calls(rt: HostRuntime) {
             6,
             Ok(Summary {
                 commands: 1,
-                refused: 0,
+                refusals: 0,
             }),
         ),
     ] {

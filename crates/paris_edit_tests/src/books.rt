@@ -17,12 +17,19 @@ pub(crate) fn set(
     text: &[u8],
     axes: &[u64],
 ) -> Result<Edit, AllocError> {
-    Ok(Edit::AddSet(name(rt, text), Items::new(Vec::from_slice(alloc, axes)?)))
+    Ok(Edit::AddSet {
+        name: name(rt, text),
+        axes: Items::new(Vec::from_slice(alloc, axes)?),
+    })
 }
 
 /// Declares a field of the set `s`, of width 8.
 pub(crate) fn declare(rt: &impl Abort, text: &[u8]) -> Edit {
-    Edit::AddField(name(rt, text), name(rt, b"s"), 8)
+    Edit::AddField {
+        name: name(rt, text),
+        set: name(rt, b"s"),
+        width: 8,
+    }
 }
 
 /// Makes an edit that is accepted.
@@ -40,7 +47,7 @@ pub(crate) fn refuse(rt: &impl Abort, book: &mut Book, edit: Edit, fault: Fault)
 /// Puts an instruction into the program, which becomes the row of this id.
 pub(crate) fn insert(rt: &impl Abort, book: &mut Book, spot: Spot, instr: Instr, id: u64) {
     assert_eq!(rt;
-        book.edit(Edit::Insert(spot, instr)),
+        book.edit(Edit::Insert { spot, instr }),
         Ok(EditReply::Row(RowId(id)))
     );
 }

@@ -125,9 +125,25 @@ fn give_both(
 ) -> Result<(), AllocError> {
     let own = Items::new(Vec::from_slice(game.alloc, values)?);
     let others = Items::new(twin_values(game.alloc, &mut game.dice, values)?);
-    let name = key_name(rt, key);
-    accept(rt, &mut game.book, Edit::Input(name, from, own));
-    accept(rt, &mut game.twin, Edit::Input(name, from, others));
+    let key = key_name(rt, key);
+    accept(
+        rt,
+        &mut game.book,
+        Edit::Input {
+            key,
+            from,
+            values: own,
+        },
+    );
+    accept(
+        rt,
+        &mut game.twin,
+        Edit::Input {
+            key,
+            from,
+            values: others,
+        },
+    );
     Ok(())
 }
 
@@ -207,9 +223,15 @@ fn plays_delete(
 
 fn replace_both(rt: &impl Abort, game: &mut Game, id: u64, operation: Operation) {
     let other = twin_operation(&mut game.dice, operation);
-    let own = Edit::Replace(RowId(id), spelled(rt, operation));
+    let own = Edit::Replace {
+        row: RowId(id),
+        instr: spelled(rt, operation),
+    };
     accept(rt, &mut game.book, own);
-    let others = Edit::Replace(RowId(id), spelled(rt, other));
+    let others = Edit::Replace {
+        row: RowId(id),
+        instr: spelled(rt, other),
+    };
     accept(rt, &mut game.twin, others);
 }
 
@@ -287,7 +309,11 @@ fn run_once(rt: &impl Abort, game: &Game) -> Result<Book, Fail> {
         accept(
             rt,
             &mut book,
-            Edit::Input(key_name(rt, key as u64), 0, values),
+            Edit::Input {
+                key: key_name(rt, key as u64),
+                from: 0,
+                values,
+            },
         );
     }
     for (place, row) in game.rows.iter().enumerate() {

@@ -71,12 +71,12 @@ cause_line id (Collision processor) = decimal id.0 ++ (codes " collision " ++ (d
 cause_line id (BadAddress processor) = decimal id.0 ++ (codes " bad-address " ++ (decimal processor ++ codes "\n"))
 
 -- a row that is refused, with the cause
-abbrev pub fault_line : RowFault → List ℕ
-fault_line fault = cause_line fault.id fault.cause
+abbrev pub refused_row_line : RowFault → List ℕ
+refused_row_line fault = cause_line fault.id fault.cause
 
 -- the count of refused rows, and a line for each
 abbrev pub faults_text : List RowFault → List ℕ
-faults_text faults = (codes "faults " ++ (decimal (length faults) ++ codes "\n")) ++ flat_map fault_line faults
+faults_text faults = (codes "faults " ++ (decimal (length faults) ++ codes "\n")) ++ flat_map refused_row_line faults
 
 -- how many orders were run
 abbrev pub settled_text : ℕ → List ℕ

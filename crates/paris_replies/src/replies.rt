@@ -3,7 +3,7 @@
 ghost use Rattle.std.specs.Prelude.{◌≡◌, ℕ, ◌+◌, List, ◌++◌, IfOk, OnOk, codes};
 ghost use Rattle.std.specs.Fmt.{decimal};
 ghost use Rattle.std.specs.String.{string_bytes};
-ghost use Rattle.paris_replies.specs.Replies.{ok_text, edit_text, order_text, nothing_text, verdict_text, values_text, spaced, pending_text, status_word, row_line, list_text, fault_line, faults_text, settled_text, refusal_text};
+ghost use Rattle.paris_replies.specs.Replies.{ok_text, edit_text, order_text, nothing_text, verdict_text, values_text, spaced, pending_text, status_word, row_line, list_text, refused_row_line, faults_text, settled_text, refusal_text};
 
 use paris_events::{EditReply, RowFault, RowLook, Status, Verdict};
 use paris_model::Refusal;
@@ -133,7 +133,7 @@ pub fn list_text(alloc: Global, looks: &[RowLook]) -> Result<Vec<u8>, AllocError
 
 /// Adds the line of a row that is refused.
 fn add_fault(text: &mut String, fault: &RowFault) -> Result<(), AllocError>
-    ensures { OnOk result (string_bytes text.new ≡ string_bytes text.old ++ fault_line fault.now) }
+    ensures { OnOk result (string_bytes text.new ≡ string_bytes text.old ++ refused_row_line fault.now) }
 {
     let id = fault.id.0;
     match fault.cause {

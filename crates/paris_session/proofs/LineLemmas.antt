@@ -6,7 +6,7 @@ use Rattle.std.proofs.lemmas.Bool.{ltb-true, ltb-false}
 use Rattle.std.proofs.lemmas.Bool.Decides.{nat_tests}
 use Rattle.std.proofs.lemmas.Grind.{common_steps}
 use Rattle.std.proofs.lemmas.List.{take_all, length-take, take-append-le, length-append}
-use Rattle.paris_session.specs.Transcript.{Sitting, start, after, replies, answer, lines, ended, transcript, transcript_of_ended, sitting_after}
+use Rattle.paris_session.specs.Transcript.{Sitting, start, after_lines, replies, answer, lines, all_but_last, transcript, transcript_of_ended, sitting_after}
 use Rattle.paris_session.specs.Progress.{with_byte, ended_lines, open_line, said}
 
 -- what is kept of a line
@@ -118,24 +118,24 @@ replies_kept : (s : Sitting) (ls : List (List ℕ)) → replies s (map kept ls) 
 replies_kept s [] = refl
 replies_kept s (line ∷ rest) = rw (answer_kept s line) (ap (λ (l : List ℕ). (answer s line).1 ++ l) (replies_kept (answer s line).0 rest))
 
-after_kept : (s : Sitting) (ls : List (List ℕ)) → after s (map kept ls) ≡ after s ls
+after_kept : (s : Sitting) (ls : List (List ℕ)) → after_lines s (map kept ls) ≡ after_lines s ls
 after_kept s [] = refl
-after_kept s (line ∷ rest) = ap (λ (p : Sitting × List ℕ). after p.0 (map kept rest)) (answer_kept s line) ∙ after_kept (answer s line).0 rest
+after_kept s (line ∷ rest) = ap (λ (p : Sitting × List ℕ). after_lines p.0 (map kept rest)) (answer_kept s line) ∙ after_kept (answer s line).0 rest
 
 pub transcript_lines : (bs : List ℕ) → transcript bs ≡ replies start (ended_lines [] bs ++ open_line [] bs ∷ [])
 unfolding transcript
 transcript_lines bs = sym (ap (replies start) (all_lines bs) ∙ replies_kept start (lines bs))
 
-pub sitting_lines : (bs : List ℕ) → sitting_after bs ≡ after start (ended_lines [] bs ++ open_line [] bs ∷ [])
+pub sitting_lines : (bs : List ℕ) → sitting_after bs ≡ after_lines start (ended_lines [] bs ++ open_line [] bs ∷ [])
 unfolding sitting_after
-sitting_lines bs = sym (ap (after start) (all_lines bs) ∙ after_kept start (lines bs))
+sitting_lines bs = sym (ap (after_lines start) (all_lines bs) ∙ after_kept start (lines bs))
 
-ended_last : (ls : List (List ℕ)) (line : List ℕ) → ended (ls ++ line ∷ []) ≡ ls
+ended_last : (ls : List (List ℕ)) (line : List ℕ) → all_but_last (ls ++ line ∷ []) ≡ ls
 ended_last [] line = refl
 ended_last (a ∷ []) line = refl
 ended_last (a ∷ b ∷ ls) line = ap (λ (l : List (List ℕ)). a ∷ l) (ended_last (b ∷ ls) line)
 
-ended_map : (ls : List (List ℕ)) → ended (map kept ls) ≡ map kept (ended ls)
+ended_map : (ls : List (List ℕ)) → all_but_last (map kept ls) ≡ map kept (all_but_last ls)
 ended_map [] = refl
 ended_map (a ∷ []) = refl
 ended_map (a ∷ b ∷ ls) = ap (λ (l : List (List ℕ)). kept a ∷ l) (ended_map (b ∷ ls))
@@ -143,6 +143,6 @@ ended_map (a ∷ b ∷ ls) = ap (λ (l : List (List ℕ)). kept a ∷ l) (ended_
 pub ended_said : (bs : List ℕ) → said start [] bs ≡ transcript_of_ended bs
 unfolding transcript_of_ended
 ended_said bs =
-    let same : ended_lines [] bs ≡ map kept (ended (lines bs)) =
-    sym (ended_last (ended_lines [] bs) (open_line [] bs)) ∙ ap ended (all_lines bs) ∙ ended_map (lines bs) in
-    ap (replies start) same ∙ replies_kept start (ended (lines bs))
+    let same : ended_lines [] bs ≡ map kept (all_but_last (lines bs)) =
+    sym (ended_last (ended_lines [] bs) (open_line [] bs)) ∙ ap all_but_last (all_lines bs) ∙ ended_map (lines bs) in
+    ap (replies start) same ∙ replies_kept start (all_but_last (lines bs))

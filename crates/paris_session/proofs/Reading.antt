@@ -88,7 +88,7 @@ stops_answering reader0 reader1 reader2 writer0 writer1 writer2 s line bytes fau
 -- the run ends
 pub ends_well : (reader0 reader1 reader2 writer0 writer1 writer2 : Option (List ℕ)) (s : Sitting) (line : List ℕ) (summary : Summary) → Reading reader0 reader1 writer0 writer1 s line
     → Keeps reader1 reader2 → IsAtEnd reader2 → Appends writer1 writer2 (answer s line).1
-    → summary ≡ record { commands = (answer s line).0.commands; refused = (answer s line).0.refusals }
+    → summary ≡ record { commands = (answer s line).0.commands; refusals = (answer s line).0.refusals }
     → EndsWell reader0 reader2 writer0 writer2 summary
 ends_well reader0 reader1 reader2 writer0 writer1 writer2 s line summary old same end appended counted = record {
   read = old.read;

@@ -5,7 +5,7 @@ use Rattle.std.proofs.KnownBytes.{Appends-trans}
 use Rattle.std.proofs.Common.{Option}
 use Rattle.paris_calls.specs.Texts.{WritesFront}
 use Rattle.paris_session.specs.Transcript.{Sitting}
-use Rattle.paris_session.specs.Transcript.{after, replies, answer}
+use Rattle.paris_session.specs.Transcript.{after_lines, replies, answer}
 use Rattle.paris_session.specs.Progress.{with_byte, ended_lines, open_line, said, sitting_at}
 
 pub ended-append : (begun xs ys : List ℕ) → ended_lines begun (xs ++ ys) ≡ ended_lines begun xs ++ ended_lines (open_line begun xs) ys
@@ -23,15 +23,15 @@ open-append begun (b ∷ xs) ys =
     ≡ open_line (if t then open_line [] xs else open_line (with_byte begun b) xs) ys)
     [ true ↦ open-append [] xs ys | false ↦ open-append (with_byte begun b) xs ys ]
 
-pub after-append : (r : Sitting) (xs ys : List (List ℕ)) → after r (xs ++ ys) ≡ after (after r xs) ys
+pub after-append : (r : Sitting) (xs ys : List (List ℕ)) → after_lines r (xs ++ ys) ≡ after_lines (after_lines r xs) ys
 after-append r [] ys = refl
 after-append r (x ∷ xs) ys = after-append (answer r x).0 xs ys
 
-pub replies-append : (r : Sitting) (xs ys : List (List ℕ)) → replies r (xs ++ ys) ≡ replies r xs ++ replies (after r xs) ys
+pub replies-append : (r : Sitting) (xs ys : List (List ℕ)) → replies r (xs ++ ys) ≡ replies r xs ++ replies (after_lines r xs) ys
 replies-append r [] ys = refl
 replies-append r (x ∷ xs) ys =
     ap (λ (l : List ℕ). (answer r x).1 ++ l) (replies-append (answer r x).0 xs ys)
-    ∙ sym (append_assoc (answer r x).1 (replies (answer r x).0 xs) (replies (after (answer r x).0 xs) ys))
+    ∙ sym (append_assoc (answer r x).1 (replies (answer r x).0 xs) (replies (after_lines (answer r x).0 xs) ys))
 
 -- what is written at the bytes and at more of them
 pub said-append : (r : Sitting) (begun xs ys : List ℕ) → said r begun (xs ++ ys) ≡ said r begun xs ++ said (sitting_at r begun xs) (open_line begun xs) ys
@@ -40,7 +40,7 @@ said-append r begun xs ys =
 
 pub sitting_at-append : (r : Sitting) (begun xs ys : List ℕ) → sitting_at r begun (xs ++ ys) ≡ sitting_at (sitting_at r begun xs) (open_line begun xs) ys
 sitting_at-append r begun xs ys =
-    ap (after r) (ended-append begun xs ys) ∙ after-append r (ended_lines begun xs) (ended_lines (open_line begun xs) ys)
+    ap (after_lines r) (ended-append begun xs ys) ∙ after-append r (ended_lines begun xs) (ended_lines (open_line begun xs) ys)
 
 -- what is written at bytes and then at more of them
 pub more_said : (r s : Sitting) (begun going xs ys : List ℕ) (a b c : Option (List ℕ)) → s ≡ sitting_at r begun xs → going ≡ open_line begun xs

@@ -1,6 +1,10 @@
 -- How far a script is read: the lines that ended, and the line that has begun.
-use Rattle.std.specs.Prelude.{ℕ, ◌==◌, List, [], ◌∷◌, ◌++◌, length, if◌then◌else◌, nat_le}
-use Rattle.paris_session.specs.Transcript.{Sitting, after, replies, longest_line}
+use Rattle.std.specs.Prelude.{ℕ, ◌<◌, ◌==◌, List, [], ◌∷◌, ◌++◌, length, if◌then◌else◌, nat_le}
+use Rattle.paris_session.specs.Transcript.{Sitting, after_lines, replies, longest_line}
+
+-- the command that is being answered is counted: there are fewer refusals, and fewer orders, than commands
+abbrev pub IsCounted : Sitting → Type 0
+IsCounted s = (s.refusals < s.commands) × (length s.tray < s.commands)
 
 -- a line with one byte more; of a line that is too long, one byte too many is kept
 abbrev pub with_byte : List ℕ → ℕ → List ℕ
@@ -21,4 +25,4 @@ abbrev pub said : Sitting → List ℕ → List ℕ → List ℕ
 said s begun bytes = replies s (ended_lines begun bytes)
 
 abbrev pub sitting_at : Sitting → List ℕ → List ℕ → Sitting
-sitting_at s begun bytes = after s (ended_lines begun bytes)
+sitting_at s begun bytes = after_lines s (ended_lines begun bytes)

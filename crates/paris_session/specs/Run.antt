@@ -41,7 +41,7 @@ pub record EndsWell (reader_old reader_new writer_old writer_new : Option (List 
   pub consumed : Consumes reader_old reader_new read
   pub at_end : IsAtEnd reader_new
   pub written : Appends writer_old writer_new (transcript read)
-  pub counted : summary ≡ record { commands = (sitting_after read).commands; refused = (sitting_after read).refusals }
+  pub counted : summary ≡ record { commands = (sitting_after read).commands; refusals = (sitting_after read).refusals }
 
 abbrev pub AnswersEnded : RunFault → List ℕ → List ℕ → Type 0
 AnswersEnded Read read text = text ≡ transcript_of_ended read

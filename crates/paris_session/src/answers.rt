@@ -3,7 +3,8 @@
 ghost use Rattle.std.specs.Prelude.{◌≡◌, ℕ, ◌+◌, ◌^◌, ◌<◌, ◌≤◌, List, length, IfOk, OnOk, option_map, slice_get, nat_lt};
 ghost use Rattle.paris_text.specs.CommandReading.{command_of};
 ghost use Rattle.paris_book.specs.Among.{look_shown};
-ghost use Rattle.paris_session.specs.Transcript.{longest_line, shown_text, start, refused, edited, taken, brought, released, shown, listed, faulted, settled, order_at, commanded, commanded_by, answer};
+ghost use Rattle.paris_session.specs.Transcript.{longest_line, shown_text, start, with_command, fault_answer, answer_to_edit, answer_to_take, answer_to_bring, answer_to_release, answer_to_show, answer_to_list, answer_to_faults, answer_to_settle, order_at, answer_to_command, answer_to_read, answer};
+ghost use Rattle.paris_session.specs.Progress.{IsCounted};
 ghost use Rattle.paris_names.specs.declared.limits.TheConstants.{MAX_WORKERS};
 
 use paris_book::{Book, Look};
@@ -20,7 +21,7 @@ use std::thread::Threads;
 #[derive(Clone, Copy, Debug, PartialEq, Eq)]
 pub struct Summary {
     pub commands: u64,
-    pub refused: u64,
+    pub refusals: u64,
 }
 
 /// Whether a line is longer than a line may be.
@@ -48,10 +49,10 @@ fn look_text(alloc: Global, look: &Look<'_>) -> Result<Vec<u8>, AllocError>
 #[derive(Drop)]
 pub struct Session {
     book: Book,
-    orders: Vec<Order>,
+    tray: Vec<Order>,
     workers: usize,
-    answered: u64,
-    declined: u64,
+    commands: u64,
+    refusals: u64,
 }
 
 impl Model for Session {
@@ -61,9 +62,9 @@ impl Model for Session {
 
     ghost Value = { Sitting };
 
-    ghost view = { λ s. record { state = s.book; tray = s.orders.items; commands = s.answered; refusals = s.declined } };
+    ghost view = { λ s. record { state = s.book; tray = s.tray.items; commands = s.commands; refusals = s.refusals } };
 
-    ghost invariant = { λ s. (s.declined ≤ s.answered) × (length s.orders.items ≤ s.answered) × (1 ≤ s.workers) × (s.workers ≤ MAX_WORKERS) };
+    ghost invariant = { λ s. (s.refusals ≤ s.commands) × (length s.tray.items ≤ s.commands) × (1 ≤ s.workers) × (s.workers ≤ MAX_WORKERS) };
 }
 
 impl Session {
@@ -74,48 +75,53 @@ impl Session {
     {
         Session {
             book: Book::new(alloc),
-            orders: Vec::new(alloc),
+            tray: Vec::new(alloc),
             workers,
-            answered: 0,
-            declined: 0,
+            commands: 0,
+            refusals: 0,
         }
     }
 
     /// How many commands were answered, and how many of them were refused.
     pub fn summary(&self) -> Summary
-        ensures { result ≡ record { commands = self.now.commands; refused = self.now.refusals } }
+        ensures { result ≡ record { commands = self.now.commands; refusals = self.now.refusals } }
     {
         Summary {
-            commands: self.answered,
-            refused: self.declined,
+            commands: self.commands,
+            refusals: self.refusals,
         }
     }
 
     fn alloc(&self) -> Global {
-        *self.orders.allocator()
+        *self.tray.allocator()
+    }
+
+    /// Counts a command.
+    fn count(&mut self)
+        requires { self.old.commands < 2 ^ 62 }
+        ensures command { self.new ≡ with_command self.old }
+        ensures counted { IsCounted self.new }
+    {
+        self.commands += 1;
     }
 
     /// Answers a command that is refused.
     fn refuse(&mut self, fault: Fault) -> Result<Vec<u8>, AllocError>
-        requires { self.old.commands < 2 ^ 62 }
-        ensures { IfOk result (λ text. (self.new, text.items) ≡ refused self.old fault) }
+        requires { IsCounted self.old }
+        ensures { IfOk result (λ text. (self.new, text.items) ≡ fault_answer self.old fault) }
     {
         let text = paris_replies::refusal_text(self.alloc(), fault)?;
-        self.answered += 1;
-        self.declined += 1;
+        self.refusals += 1;
         Ok(text)
     }
 
     /// Answers a command that is an edit.
     fn answer_edit(&mut self, edit: Edit) -> Result<Vec<u8>, AllocError>
-        requires { self.old.commands < 2 ^ 62 }
-        ensures { IfOk result (λ text. (self.new, text.items) ≡ edited self.old edit) }
+        requires { IsCounted self.old }
+        ensures { IfOk result (λ text. (self.new, text.items) ≡ answer_to_edit self.old edit) }
     {
         match self.book.edit(edit) {
-            Ok(reply) => {
-                self.answered += 1;
-                paris_replies::edit_text(self.alloc(), reply)
-            }
+            Ok(reply) => paris_replies::edit_text(self.alloc(), reply),
             Err(fault) => {
                 if fault.is_no_memory() {
                     return Err(AllocError);
@@ -127,24 +133,20 @@ impl Session {
 
     /// Answers `take`.
     fn answer_take(&mut self) -> Result<Vec<u8>, AllocError>
-        requires { self.old.commands < 2 ^ 62 }
-        ensures { IfOk result (λ text. (self.new, text.items) ≡ taken self.old) }
+        requires { IsCounted self.old }
+        ensures { IfOk result (λ text. (self.new, text.items) ≡ answer_to_take self.old) }
     {
         match self.book.take()? {
-            None => {
-                self.answered += 1;
-                paris_replies::nothing_text(self.alloc())
-            }
+            None => paris_replies::nothing_text(self.alloc()),
             Some(order) => {
-                let number = self.orders.len() as u64 + 1;
+                let number = self.tray.len() as u64 + 1;
                 let text = paris_replies::order_text(
                     self.alloc(),
                     number,
                     order.id(),
                     order.edition(),
                 )?;
-                self.orders.push(order)?;
-                self.answered += 1;
+                self.tray.push(order)?;
                 Ok(text)
             }
         }
@@ -157,13 +159,13 @@ impl Session {
         if number == 0 {
             return None;
         }
-        self.orders.get(number as usize - 1)
+        self.tray.get(number as usize - 1)
     }
 
     /// Answers `bring`.
     fn answer_bring(&mut self, number: u64) -> Result<Vec<u8>, AllocError>
-        requires { self.old.commands < 2 ^ 62 }
-        ensures { IfOk result (λ text. (self.new, text.items) ≡ brought self.old number) }
+        requires { IsCounted self.old }
+        ensures { IfOk result (λ text. (self.new, text.items) ≡ answer_to_bring self.old number) }
     {
         let Some(order) = self.order(number) else {
             return self.refuse(Fault::NoOrder);
@@ -172,7 +174,6 @@ impl Session {
         match execute(self.alloc(), copy) {
             Ok(done) => {
                 let verdict = self.book.bring(done);
-                self.answered += 1;
                 paris_replies::verdict_text(self.alloc(), verdict)
             }
             Err((_, error)) => Err(error),
@@ -180,67 +181,50 @@ impl Session {
     }
 
     /// Answers `release`.
-    #[tactic(auto, unfolding(crate::specs::Transcript::released))]
+    #[tactic(auto, unfolding(crate::specs::Transcript::answer_to_release))]
     fn answer_release(&mut self) -> Result<Vec<u8>, AllocError>
-        requires { self.old.commands < 2 ^ 62 }
-        ensures { IfOk result (λ text. (self.new, text.items) ≡ released self.old) }
+        ensures { IfOk result (λ text. (self.new, text.items) ≡ answer_to_release self.old) }
     {
-        let text = paris_replies::ok_text(self.alloc())?;
         self.book.release();
-        self.answered += 1;
-        Ok(text)
+        paris_replies::ok_text(self.alloc())
     }
 
     /// Answers `show`.
     fn answer_show(&mut self, name: KeyName, spot: Spot) -> Result<Vec<u8>, AllocError>
-        requires { self.old.commands < 2 ^ 62 }
-        ensures { IfOk result (λ text. (self.new, text.items) ≡ shown self.old name spot) }
+        requires { IsCounted self.old }
+        ensures { IfOk result (λ text. (self.new, text.items) ≡ answer_to_show self.old name spot) }
     {
         match self.book.show(name, spot) {
-            Ok(look) => {
-                let text = look_text(self.alloc(), &look)?;
-                self.answered += 1;
-                Ok(text)
-            }
+            Ok(look) => look_text(self.alloc(), &look),
             Err(fault) => self.refuse(fault),
         }
     }
 
     /// Answers `list`.
-    #[tactic(auto, unfolding(crate::specs::Transcript::listed))]
-    fn answer_list(&mut self) -> Result<Vec<u8>, AllocError>
-        requires { self.old.commands < 2 ^ 62 }
-        ensures { IfOk result (λ text. (self.new, text.items) ≡ listed self.old) }
+    #[tactic(auto, unfolding(crate::specs::Transcript::answer_to_list))]
+    fn answer_list(&self) -> Result<Vec<u8>, AllocError>
+        ensures { IfOk result (λ text. (self.now, text.items) ≡ answer_to_list self.now) }
     {
         let looks = self.book.list()?;
-        let text = paris_replies::list_text(self.alloc(), looks.as_slice())?;
-        self.answered += 1;
-        Ok(text)
+        paris_replies::list_text(self.alloc(), looks.as_slice())
     }
 
     /// Answers `faults`.
-    #[tactic(auto, unfolding(crate::specs::Transcript::faulted))]
-    fn answer_faults(&mut self) -> Result<Vec<u8>, AllocError>
-        requires { self.old.commands < 2 ^ 62 }
-        ensures { IfOk result (λ text. (self.new, text.items) ≡ faulted self.old) }
+    #[tactic(auto, unfolding(crate::specs::Transcript::answer_to_faults))]
+    fn answer_faults(&self) -> Result<Vec<u8>, AllocError>
+        ensures { IfOk result (λ text. (self.now, text.items) ≡ answer_to_faults self.now) }
     {
         let faults = self.book.faults()?;
-        let text = paris_replies::faults_text(self.alloc(), faults.as_slice())?;
-        self.answered += 1;
-        Ok(text)
+        paris_replies::faults_text(self.alloc(), faults.as_slice())
     }
 
     /// Answers `settle`.
-    #[tactic(auto, unfolding(crate::specs::Transcript::settled))]
+    #[tactic(auto, unfolding(crate::specs::Transcript::answer_to_settle))]
     fn answer_settle<H: Threads + Sync>(&mut self, rt: &H) -> Result<Vec<u8>, AllocError>
-        requires { self.old.commands < 2 ^ 62 }
-        ensures { IfOk result (λ text. (self.new, text.items) ≡ settled self.old) }
+        ensures { IfOk result (λ text. (self.new, text.items) ≡ answer_to_settle self.old) }
     {
         match self.book.settle_par(rt, self.workers, &OpenGate) {
-            Ok(ran) => {
-                self.answered += 1;
-                paris_replies::settled_text(self.alloc(), ran)
-            }
+            Ok(ran) => paris_replies::settled_text(self.alloc(), ran),
             Err(_) => Err(AllocError),
         }
     }
@@ -251,20 +235,11 @@ impl Session {
         rt: &H,
         command: Command,
     ) -> Result<Vec<u8>, AllocError>
-        requires { self.old.commands < 2 ^ 62 }
-        ensures { IfOk result (λ text. (self.new, text.items) ≡ commanded self.old command) }
+        requires { IsCounted self.old }
+        ensures { IfOk result (λ text. (self.new, text.items) ≡ answer_to_command self.old command) }
     {
         match command {
-            Command::Set { name, axes } => self.answer_edit(Edit::AddSet(name, axes)),
-            Command::Field { name, set, width } => {
-                self.answer_edit(Edit::AddField(name, set, width))
-            }
-            Command::Input { key, from, values } => self.answer_edit(Edit::Input(
-                key, from, values,
-            )),
-            Command::Insert { spot, instr } => self.answer_edit(Edit::Insert(spot, instr)),
-            Command::Delete(row) => self.answer_edit(Edit::Delete(row)),
-            Command::Replace { row, instr } => self.answer_edit(Edit::Replace(row, instr)),
+            Command::Edit(edit) => self.answer_edit(edit),
             Command::Take => self.answer_take(),
             Command::Bring(number) => self.answer_bring(number),
             Command::Release => self.answer_release(),
@@ -277,8 +252,8 @@ impl Session {
 
     /// Answers a line by the reply to its command, and one that is no command by the column from which it is none.
     fn answer_line<H: Threads + Sync>(&mut self, rt: &H, line: &[u8]) -> Result<Vec<u8>, AllocError>
-        requires { self.old.commands < 2 ^ 62 }
-        ensures { IfOk result (λ text. (self.new, text.items) ≡ commanded_by self.old (command_of line.now)) }
+        requires { IsCounted self.old }
+        ensures { IfOk result (λ text. (self.new, text.items) ≡ answer_to_read self.old (command_of line.now)) }
     {
         match read_command(self.alloc(), line) {
             Ok(command) => self.answer_command(rt, command),
@@ -301,6 +276,7 @@ impl Session {
         if line.is_empty() || line[0] == b'#' {
             return Ok(Vec::new(self.alloc()));
         }
+        self.count();
         if is_overlong(line) {
             return self.refuse(Fault::Syntax(MAX_LINE as u64 + 1));
         }

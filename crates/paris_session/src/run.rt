@@ -151,7 +151,7 @@ impl Script {
         requires room { self.old.session.commands < 2 ^ 62 }
         ensures ok { IfOk result (λ summary. let last = answer self.old.session self.old.line.items in
             Appends (W.contents writer.old) (W.contents writer.new) last.1
-            × (summary ≡ record { commands = last.0.commands; refused = last.0.refusals })) }
+            × (summary ≡ record { commands = last.0.commands; refusals = last.0.refusals })) }
         ensures err { IfErr result (λ e. IsWriteFault e tally.old tally.new
             × WritesFront (W.contents writer.old) (W.contents writer.new) (answer self.old.session self.old.line.items).1) }
         ensures reads { SameReads tally.old tally.new }

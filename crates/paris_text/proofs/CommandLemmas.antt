@@ -3,6 +3,7 @@ use Rattle.std.proofs.Common.{◌≡◌, ℕ, ◌+◌, List, [], ◌∷◌, leng
 use Rattle.std.specs.List.{join_with_byte, list_all}
 use Rattle.std.proofs.lemmas.List.Splits.{join_with_byte-slice_split}
 use Rattle.std.proofs.lemmas.Result.{MatchResult-at_ok, MatchResult-at_err}
+use Rattle.paris_events.specs.declared.edits.Edit.TheVariants as edit
 use Rattle.paris_text.specs.declared.verbs.Verb.{Verb}
 use Rattle.paris_text.specs.declared.verbs.Verb.TheVariants as verb
 use Rattle.paris_text.specs.declared.commands.Command.{Command}
@@ -14,24 +15,24 @@ use Rattle.paris_text.specs.Columns.{IsColumn}
 use Rattle.paris_text.specs.Shapes.{spot_words, shape_of, IsOf, IsCommandLine}
 use Rattle.paris_text.specs.Commands.{command_words, command_spelling, IsCommandInBounds}
 use Rattle.paris_text.specs.Reading.{◌>>=◌, read_word}
-use Rattle.paris_text.specs.CommandReading.{Means, shape_at, command_from, verb_at, rest_at, command_at, command_of}
+use Rattle.paris_text.specs.CommandReading.{ShapeMeaning, shape_at, command_from, verb_at, rest_at, command_at, command_of}
 use Rattle.paris_text.specs.Laws.{CommandsAreRead, ColumnsOfCommands, CommandSpellingsDiffer, LinesAreCommands}
 use Rattle.paris_text.proofs.JoinLemmas.{split_joined}
 use Rattle.paris_text.proofs.MnemonicLemmas.{is_spaceless}
 use Rattle.paris_text.proofs.VerbLemmas.{verb_found, found_verb, verb_spaceless}
 use Rattle.paris_text.proofs.ColumnLemmas.{line_has_no_column, column_is_unique}
 use Rattle.paris_text.proofs.StepLemmas.{goes_on, goes_behind, wrong_word, missing_word, after_word}
-use Rattle.paris_text.proofs.ShapeLemmas.{shape_words, MeansFit, IsMeant, shape_read, shape_back, shape_spaceless}
+use Rattle.paris_text.proofs.ShapeLemmas.{shape_words, ShapeMeaningFits, IsMeant, shape_read, shape_back, shape_spaceless}
 
 -- the words of the command that is made of some meanings
-words_from : (v : Verb) (xs : Means (shape_of v)) → command_words (command_from v xs) ≡ verb_text v ∷ shape_words (shape_of v) xs
+words_from : (v : Verb) (xs : ShapeMeaning (shape_of v)) → command_words (command_from v xs) ≡ verb_text v ∷ shape_words (shape_of v) xs
 unfolding verb_text
 words_from verb.Set xs = refl
 words_from verb.Insert xs = refl
 words_from verb.Show xs = ap (λ (ws : List (List ℕ)). codes "show" ∷ key_text xs.0 ∷ ws) (sym (append-nil (spot_words xs.1.0)))
 words_from _ xs = refl
 
-fits_from : (v : Verb) (xs : Means (shape_of v)) → MeansFit (shape_of v) xs → IsCommandInBounds (command_from v xs)
+fits_from : (v : Verb) (xs : ShapeMeaning (shape_of v)) → ShapeMeaningFits (shape_of v) xs → IsCommandInBounds (command_from v xs)
 fits_from verb.Set xs fit = (fit.0, fit.1.0)
 fits_from verb.Field xs fit = (fit.0, fit.1.0, fit.1.1.0)
 fits_from verb.Input xs fit = (fit.0, fit.1.0, fit.1.1.0, fit.1.1.1)
@@ -49,17 +50,17 @@ fits_from verb.Settle xs fit = tt
 -- the meanings that a command is made of
 record MadeOf (c : Command) : Type 0 where
   first : Verb
-  means : Means (shape_of first)
+  means : ShapeMeaning (shape_of first)
   whole : command_from first means ≡ c
-  fits : MeansFit (shape_of first) means
+  fits : ShapeMeaningFits (shape_of first) means
 
 made_of : (c : Command) → IsCommandInBounds c → MadeOf c
-made_of (command.Set name axes) fit = record { first = verb.Set; means = (name, (axes, tt)); whole = refl; fits = (fit.0, (fit.1, tt)) }
-made_of (command.Field name set width) fit = record { first = verb.Field; means = (name, (set, (width, tt))); whole = refl; fits = (fit.0, (fit.1, (fit.2, tt))) }
-made_of (command.Input key from values) fit = record { first = verb.Input; means = (key, (from, values)); whole = refl; fits = (fit.0, (fit.1, (fit.2, fit.3))) }
-made_of (command.Insert spot instr) fit = record { first = verb.Insert; means = (spot, instr); whole = refl; fits = (fit.0, fit.1) }
-made_of (command.Delete row) fit = record { first = verb.Delete; means = (row.0, tt); whole = refl; fits = (fit, tt) }
-made_of (command.Replace row instr) fit = record { first = verb.Replace; means = (row.0, instr); whole = refl; fits = (fit.0, fit.1) }
+made_of (command.Edit (edit.AddSet name axes)) fit = record { first = verb.Set; means = (name, (axes, tt)); whole = refl; fits = (fit.0, (fit.1, tt)) }
+made_of (command.Edit (edit.AddField name set width)) fit = record { first = verb.Field; means = (name, (set, (width, tt))); whole = refl; fits = (fit.0, (fit.1, (fit.2, tt))) }
+made_of (command.Edit (edit.Input key from values)) fit = record { first = verb.Input; means = (key, (from, values)); whole = refl; fits = (fit.0, (fit.1, (fit.2, fit.3))) }
+made_of (command.Edit (edit.Insert spot instr)) fit = record { first = verb.Insert; means = (spot, instr); whole = refl; fits = (fit.0, fit.1) }
+made_of (command.Edit (edit.Delete row)) fit = record { first = verb.Delete; means = (row.0, tt); whole = refl; fits = (fit, tt) }
+made_of (command.Edit (edit.Replace row instr)) fit = record { first = verb.Replace; means = (row.0, instr); whole = refl; fits = (fit.0, fit.1) }
 made_of command.Take fit = record { first = verb.Take; means = tt; whole = refl; fits = tt }
 made_of (command.Bring order) fit = record { first = verb.Bring; means = (order, tt); whole = refl; fits = (fit, tt) }
 made_of command.Release fit = record { first = verb.Release; means = tt; whole = refl; fits = tt }

@@ -18,7 +18,7 @@ use Rattle.paris_text.specs.declared.mnemonics.Mnemonic.TheVariants.{Flag, News,
 use Rattle.paris_text.specs.Words.{words}
 use Rattle.paris_text.specs.Mnemonics.{text, mnemonic_word}
 use Rattle.paris_text.specs.Kinds.{spelled, Fits, Operand}
-use Rattle.paris_text.specs.Columns.{expects, AreOfKinds, IsLine, width, IsColumn}
+use Rattle.paris_text.specs.Columns.{expects, AreOfKinds, IsInstructionLine, width, IsColumn}
 use Rattle.paris_text.specs.Spelling.{Instruction, Parts, parts, words_of, operand_words, spelling, IsInBounds}
 use Rattle.paris_text.specs.Reading.{place, Gives, ◌>>=◌, read_word, mnemonic_at, Meanings, all_at, instr_of, operands_at, instr_at}
 use Rattle.paris_text.proofs.JoinLemmas.{split_joined}
@@ -86,20 +86,20 @@ made_is_spelled m xs fit =
 pub record IsInstr (ws : List (List ℕ)) (i : Instruction) : Type 0 where
   pub same : words_of i ≡ ws
   pub fit : IsInBounds i
-  pub inside : IsLine ws
+  pub inside : IsInstructionLine ws
 
 -- what reading an instruction behind the words `done` answers
 abbrev pub AnswersAfter : (List (List ℕ) → Type 0) → List (List ℕ) → List (List ℕ) → Result Instruction ℕ → Type 0
 AnswersAfter grammar done ws r = MatchResult r (IsInstr ws) (λ e. IsColumn grammar (done ++ ws) e)
 
 -- a line of this mnemonic, and none of another
-first_is : (m : Mnemonic) (w : List ℕ) (xs : List (List ℕ)) → mnemonic_word w ≡ Some m → IsLine (w ∷ xs) → AreOfKinds (expects m) xs
+first_is : (m : Mnemonic) (w : List ℕ) (xs : List (List ℕ)) → mnemonic_word w ≡ Some m → IsInstructionLine (w ∷ xs) → AreOfKinds (expects m) xs
 first_is m w xs found (n, is, all) =
     let again : mnemonic_word w ≡ Some n = subst (λ (v : List ℕ). mnemonic_word v ≡ Some n) (sym is) (text_found n) in
     let same : m ≡ n = cc in
     subst (λ (k : Mnemonic). AreOfKinds (expects k) xs) (sym same) all
 
-after_all : (grammar : List (List ℕ) → Type 0) (done : List (List ℕ)) → GoesOn grammar done IsLine → (m : Mnemonic) (c : ℕ) (w : List ℕ) (ws : List (List ℕ)) → c ≡ 1 + width done
+after_all : (grammar : List (List ℕ) → Type 0) (done : List (List ℕ)) → GoesOn grammar done IsInstructionLine → (m : Mnemonic) (c : ℕ) (w : List ℕ) (ws : List (List ℕ)) → c ≡ 1 + width done
     → mnemonic_word w ≡ Some m → (r : Result (Meanings (expects m)) ℕ)
     → MatchResult r (IsRead (expects m) ws) (λ e. fault_at (c + length w + 1) (expects m) ws ≡ Some e) → AnswersAfter grammar done (w ∷ ws) (r >>= λ xs. Ok (instr_of m xs))
 after_all grammar done goes m c w ws at found (Ok xs) h =
@@ -110,36 +110,36 @@ after_all grammar done goes m c w ws at found (Ok xs) h =
       inside = (m, sym first, h.2);
     }
 after_all grammar done goes m c w ws at found (Err e) h =
-    let goes' = goes_behind grammar done IsLine (AreOfKinds (expects m)) w goes (λ xs all. (m, sym (found_text w m found), all)) (λ xs line. first_is m w xs found line) in
+    let goes' = goes_behind grammar done IsInstructionLine (AreOfKinds (expects m)) w goes (λ xs all. (m, sym (found_text w m found), all)) (λ xs line. first_is m w xs found line) in
     further grammar done w ws e (column_is grammar (done ++ w ∷ []) (expects m) goes' ws (c + length w + 1) e (column_behind done w c at) h)
 
 -- some line of an instruction
-pub some_line : (ws : List (List ℕ)) × IsLine ws
+pub some_line : (ws : List (List ℕ)) × IsInstructionLine ws
 some_line = (text MyAddress ∷ (samples (expects MyAddress)).0, (MyAddress, refl, (samples (expects MyAddress)).1))
 
 -- a word that is no mnemonic begins no line
-no_mnemonic : (w : List ℕ) (ws : List (List ℕ)) → mnemonic_word w ≡ None → IsLine (w ∷ ws) → ⊥
+no_mnemonic : (w : List ℕ) (ws : List (List ℕ)) → mnemonic_word w ≡ None → IsInstructionLine (w ∷ ws) → ⊥
 no_mnemonic w ws none (m, is, all) =
     let some : mnemonic_word w ≡ Some m = subst (λ (v : List ℕ). mnemonic_word v ≡ Some m) (sym is) (text_found m) in
     let bad : None ≡ Some m = sym none ∙ some in
     cc
 
 -- reading an instruction behind other words of a line
-pub instr_read : (grammar : List (List ℕ) → Type 0) (done : List (List ℕ)) → GoesOn grammar done IsLine → (c : ℕ) (ws : List (List ℕ)) → c ≡ 1 + width done
+pub instr_read : (grammar : List (List ℕ) → Type 0) (done : List (List ℕ)) → GoesOn grammar done IsInstructionLine → (c : ℕ) (ws : List (List ℕ)) → c ≡ 1 + width done
     → AnswersAfter grammar done ws (instr_at (c, ws))
 unfolding instr_at mnemonic_at operands_at
-instr_read grammar done goes c [] at = missing_word grammar done IsLine goes some_line c (λ line. line) at
+instr_read grammar done goes c [] at = missing_word grammar done IsInstructionLine goes some_line c (λ line. line) at
 instr_read grammar done goes c (w ∷ ws) at = go (mnemonic_word w) refl
   where
     go : (o : Option Mnemonic) → mnemonic_word w ≡ o → AnswersAfter grammar done (w ∷ ws) (read_word o c w ws >>= (λ x. operands_at x.0 x.1))
-    go None none = wrong_word grammar done IsLine goes some_line w ws c (λ xs line. no_mnemonic w xs none line) at
+    go None none = wrong_word grammar done IsInstructionLine goes some_line w ws c (λ xs line. no_mnemonic w xs none line) at
     go (Some m) some = after_all grammar done goes m c w ws at some (all_at (expects m) (c + length w + 1, ws)) (all_read (expects m) (c + length w + 1) ws)
 
 abbrev pub Answers : Result Instruction ℕ → List (List ℕ) → Type 0
-Answers r ws = AnswersAfter IsLine [] ws r
+Answers r ws = AnswersAfter IsInstructionLine [] ws r
 
 pub line_answers : (line : List ℕ) → Answers (instr_at (1, words line)) (words line)
-line_answers line = instr_read IsLine [] (goes_on IsLine) 1 (words line) refl
+line_answers line = instr_read IsInstructionLine [] (goes_on IsInstructionLine) 1 (words line) refl
 
 -- what an instruction spells is read back
 words_back : (m : Mnemonic) (xs : Meanings (expects m)) → MeaningsFit (expects m) xs → (c : ℕ) → instr_at (c, text m ∷ texts (expects m) xs) ≡ Ok (instr_of m xs)
@@ -182,20 +182,20 @@ unfolding spelling
 gave_spelled (Err e) line h = tt
 gave_spelled (Ok i) line h =
     let read : instr_at (1, words line) ≡ Ok i = rw place_start at h in
-    let answer : IsInstr (words line) i = MatchResult-at_ok (IsInstr (words line)) (λ e. IsColumn IsLine (words line) e) i read (line_answers line) in
+    let answer : IsInstr (words line) i = MatchResult-at_ok (IsInstr (words line)) (λ e. IsColumn IsInstructionLine (words line) e) i read (line_answers line) in
     sym (ap (join_with_byte 32) answer.same ∙ join_with_byte-slice_split 32 line)
 
 pub gave_bounds : (r : Result Instruction Syntax) (line : List ℕ) → Gives (λ (x : Instruction). x) r (instr_at (place line 0)) → IfOk r (λ i. IsInBounds i)
 gave_bounds (Err e) line h = tt
 gave_bounds (Ok i) line h =
     let read : instr_at (1, words line) ≡ Ok i = rw place_start at h in
-    (MatchResult-at_ok (IsInstr (words line)) (λ e. IsColumn IsLine (words line) e) i read (line_answers line)).fit
+    (MatchResult-at_ok (IsInstr (words line)) (λ e. IsColumn IsInstructionLine (words line) e) i read (line_answers line)).fit
 
-pub gave_column : (r : Result Instruction Syntax) (line : List ℕ) → Gives (λ (x : Instruction). x) r (instr_at (place line 0)) → IfErr r (λ e. IsColumn IsLine (words line) e.0)
+pub gave_column : (r : Result Instruction Syntax) (line : List ℕ) → Gives (λ (x : Instruction). x) r (instr_at (place line 0)) → IfErr r (λ e. IsColumn IsInstructionLine (words line) e.0)
 gave_column (Ok i) line h = tt
 gave_column (Err e) line h =
     let read : instr_at (1, words line) ≡ Err e.0 = rw place_start at h in
-    MatchResult-at_err (IsInstr (words line)) (λ k. IsColumn IsLine (words line) k) e.0 read (line_answers line)
+    MatchResult-at_err (IsInstr (words line)) (λ k. IsColumn IsInstructionLine (words line) k) e.0 read (line_answers line)
 
 pub gave_back : (r : Result Instruction Syntax) (line : List ℕ) → Gives (λ (x : Instruction). x) r (instr_at (place line 0))
     → (i : Instruction) → IsInBounds i → line ≡ spelling i → r ≡ Ok i

@@ -21,7 +21,7 @@ use Rattle.paris_geometry.specs.declared.direction.Direction.{Direction}
 use Rattle.paris_geometry.specs.declared.direction.Direction.TheVariants.{Upward, Downward}
 use Rattle.paris_model.specs.declared.operators.Inclusion.{Inclusion}
 use Rattle.paris_model.specs.declared.operators.Inclusion.TheVariants.{Inclusive, Exclusive}
-use Rattle.paris_text.specs.Words.{is_digit, is_number, value_from, number_below, name_word, number_word, flag_word, dot_place, plain_key, flag_key, key_word, with_first, numbers_of, axes_word}
+use Rattle.paris_text.specs.Words.{is_digit, is_number, value_from, number_below, name_word, number_word, flag_word, dot_place, plain_key, flag_key, key_word, with_first, numbers_of_words, axes_word}
 use Rattle.paris_text.specs.Kinds.{Kind, Meaning, meaning, spelled, Fits, direction_word, inclusion_word, option_word, flag_name_text, dotted, key_text, axes_text}
 use Rattle.paris_text.specs.Kinds.Kind.{NameWord, NumberWord, ValueWord, DirectionWord, InclusionWord, OptionWord, KeyWord, AxesWord}
 use Rattle.paris_text.proofs.NumberLemmas.{spelled_back}
@@ -121,9 +121,9 @@ key_spells w = go (nat_eq (dot_place w) (length w)) refl
 abbrev SpellNumbers : List (List ℕ) → List ℕ → Type 0
 SpellNumbers ws ns = (map decimal ns ≡ ws) × AllByRecursion (λ n. n < 2 ^ 64) ns
 
-numbers_spell : (ws : List (List ℕ)) → IfSome (numbers_of ws) (SpellNumbers ws)
+numbers_spell : (ws : List (List ℕ)) → IfSome (numbers_of_words ws) (SpellNumbers ws)
 numbers_spell [] = (refl, tt)
-numbers_spell (w ∷ ws) = go (number_word w) (number_spells (2 ^ 64) (omega arith) w) (numbers_of ws) (numbers_spell ws)
+numbers_spell (w ∷ ws) = go (number_word w) (number_spells (2 ^ 64) (omega arith) w) (numbers_of_words ws) (numbers_spell ws)
   where
     go : (o : Option ℕ) → IfSome o (λ n. (decimal n ≡ w) × (n < 2 ^ 64)) → (os : Option (List ℕ)) → IfSome os (SpellNumbers ws) → IfSome (with_first o os) (SpellNumbers (w ∷ ws))
     go None h os later = tt
@@ -274,7 +274,7 @@ key_back key h = go key.flag refl
     go None e = plain_back key.name h
     go (Some flag) e = flagged_back key.name flag h
 
-numbers_back : (ns : List ℕ) → AllByRecursion (λ n. n < 2 ^ 64) ns → numbers_of (map decimal ns) ≡ Some ns
+numbers_back : (ns : List ℕ) → AllByRecursion (λ n. n < 2 ^ 64) ns → numbers_of_words (map decimal ns) ≡ Some ns
 numbers_back [] h = refl
 numbers_back (n ∷ ns) h = rw (number_back (2 ^ 64) n (omega arith) h.0, numbers_back ns h.1) refl
 

@@ -16,7 +16,7 @@ use Rattle.paris_text.specs.Spelling.{words_of, IsInBounds}
 use Rattle.paris_text.specs.Shapes.{Shape, spot_words, SpotFits, IsOf}
 use Rattle.paris_text.specs.Shapes.Shape.{Done, One, Many, AtSpot, Whole}
 use Rattle.paris_text.specs.Reading.{Place, ◌>>=◌, read_word, word_at, kind_at, end_at, instr_at}
-use Rattle.paris_text.specs.CommandReading.{each_at, many_at, spot_at, Means, shape_at}
+use Rattle.paris_text.specs.CommandReading.{each_at, many_at, spot_at, ShapeMeaning, shape_at}
 use Rattle.paris_text.proofs.MnemonicLemmas.{is_spaceless}
 use Rattle.paris_text.proofs.KindLemmas.{SpellsIt, meaning_spells, meaning_back, spelled_spaceless, sample}
 use Rattle.paris_text.proofs.StepLemmas.{GoesOn, goes_behind, column_behind, further, wrong_word, missing_word, after_word}
@@ -27,19 +27,19 @@ abbrev pub AreAll : Kind → List (List ℕ) → Type 0
 AreAll k ws = AllByRecursion (λ w. is_some (meaning k w) ≡ true) ws
 
 -- the words of what words of a shape stand for
-abbrev pub shape_words : (s : Shape) → Means s → List (List ℕ)
+abbrev pub shape_words : (s : Shape) → ShapeMeaning s → List (List ℕ)
 shape_words Done xs = []
 shape_words (One k rest) xs = spelled k xs.0 ∷ shape_words rest xs.1
 shape_words (Many k) xs = map (spelled k) xs
 shape_words (AtSpot rest) xs = spot_words xs.0 ++ shape_words rest xs.1
 shape_words Whole xs = words_of xs
 
-abbrev pub MeansFit : (s : Shape) → Means s → Type 0
-MeansFit Done xs = Unit {0}
-MeansFit (One k rest) xs = Fits k xs.0 × MeansFit rest xs.1
-MeansFit (Many k) xs = (xs ≢ []) × AllByRecursion (Fits k) xs
-MeansFit (AtSpot rest) xs = SpotFits xs.0 × MeansFit rest xs.1
-MeansFit Whole xs = IsInBounds xs
+abbrev pub ShapeMeaningFits : (s : Shape) → ShapeMeaning s → Type 0
+ShapeMeaningFits Done xs = Unit {0}
+ShapeMeaningFits (One k rest) xs = Fits k xs.0 × ShapeMeaningFits rest xs.1
+ShapeMeaningFits (Many k) xs = (xs ≢ []) × AllByRecursion (Fits k) xs
+ShapeMeaningFits (AtSpot rest) xs = SpotFits xs.0 × ShapeMeaningFits rest xs.1
+ShapeMeaningFits Whole xs = IsInBounds xs
 
 -- some words of each shape
 pub shape_sample : (s : Shape) → (ws : List (List ℕ)) × IsOf s ws
@@ -50,8 +50,8 @@ shape_sample (AtSpot rest) = (codes "start" ∷ (shape_sample rest).0, (Start, (
 shape_sample Whole = some_line
 
 -- what was read of words
-abbrev pub IsMeant : (s : Shape) → List (List ℕ) → Means s → Type 0
-IsMeant s ws xs = (shape_words s xs ≡ ws) × MeansFit s xs × IsOf s ws
+abbrev pub IsMeant : (s : Shape) → List (List ℕ) → ShapeMeaning s → Type 0
+IsMeant s ws xs = (shape_words s xs ≡ ws) × ShapeMeaningFits s xs × IsOf s ws
 
 abbrev IsEach : (k : Kind) → List (List ℕ) → List (Meaning k) → Type 0
 IsEach k ws xs = (map (spelled k) xs ≡ ws) × AllByRecursion (Fits k) xs × AreAll k ws
@@ -156,7 +156,7 @@ none_is_no_spot rest (After row, more, same, fits, all) = cc
 none_is_no_spot rest (End, more, same, fits, all) = cc
 
 -- the number behind `after`
-abbrev after_number : (rest : Shape) → ℕ × Means rest → Spot × Means rest
+abbrev after_number : (rest : Shape) → ℕ × ShapeMeaning rest → Spot × ShapeMeaning rest
 after_number rest y = (After (record { 0 = y.0 }), y.1)
 
 abbrev paired : {X Y : Type 0} → X → Y → Result (X × Y) ℕ
@@ -168,7 +168,7 @@ after_same : (rest : Shape) (r : Result (ℕ × Place) ℕ)
 after_same rest (Err e) = refl
 after_same rest (Ok x) = go (shape_at rest x.1)
   where
-    go : (q : Result (Means rest) ℕ) → (q >>= λ xs. paired (After (record { 0 = x.0 })) xs) ≡ ((q >>= λ xs. paired x.0 xs) >>= λ y. Ok (after_number rest y))
+    go : (q : Result (ShapeMeaning rest) ℕ) → (q >>= λ xs. paired (After (record { 0 = x.0 })) xs) ≡ ((q >>= λ xs. paired x.0 xs) >>= λ y. Ok (after_number rest y))
     go (Err e) = refl
     go (Ok xs) = refl
 
@@ -219,7 +219,7 @@ each_back : (k : Kind) (xs : List (Meaning k)) → AllByRecursion (Fits k) xs �
 each_back k [] fit c = refl
 each_back k (x ∷ xs) fit c = rw (meaning_back k x fit.0, each_back k xs fit.1 (c + length (spelled k x) + 1)) refl
 
-pub shape_back : (s : Shape) (xs : Means s) → MeansFit s xs → (c : ℕ) → shape_at s (c, shape_words s xs) ≡ Ok xs
+pub shape_back : (s : Shape) (xs : ShapeMeaning s) → ShapeMeaningFits s xs → (c : ℕ) → shape_at s (c, shape_words s xs) ≡ Ok xs
 unfolding end_at kind_at many_at spot_at word_at
 shape_back Done xs fit c = refl
 shape_back (One k rest) xs fit c = rw (meaning_back k xs.0 fit.0, shape_back rest xs.1 fit.1 (c + length (spelled k xs.0) + 1)) refl
@@ -242,7 +242,7 @@ spot_spaceless Start fit = refl
 spot_spaceless (After row) fit = rw (spelled_spaceless NumberWord row.0 fit) refl
 spot_spaceless End fit = refl
 
-pub shape_spaceless : (s : Shape) (xs : Means s) → MeansFit s xs → list_all is_spaceless (shape_words s xs) ≡ true
+pub shape_spaceless : (s : Shape) (xs : ShapeMeaning s) → ShapeMeaningFits s xs → list_all is_spaceless (shape_words s xs) ≡ true
 shape_spaceless Done xs fit = refl
 shape_spaceless (One k rest) xs fit = rw (spelled_spaceless k xs.0 fit.0, shape_spaceless rest xs.1 fit.1) refl
 shape_spaceless (Many k) xs fit = each_spaceless k xs fit.1

@@ -6,7 +6,7 @@ use Rattle.std.proofs.lemmas.List.Splits.{slice_split_first}
 use Rattle.std.proofs.lemmas.Bool.{ltb-true, ltb-false, le-ltb}
 use Rattle.std.proofs.lemmas.Bool.Decides.{nat_tests}
 use Rattle.std.proofs.lemmas.List.{drop-drop, length-drop, take_all, at_drop_more}
-use Rattle.paris_text.specs.Words.{words, value_from, name_word, number_word, with_first, numbers_of}
+use Rattle.paris_text.specs.Words.{words, value_from, name_word, number_word, with_first, numbers_of_words}
 use Rattle.paris_names.specs.Names.{is_name}
 use Rattle.paris_text.specs.Reading.{left}
 
@@ -94,19 +94,19 @@ left_all line =
     rw here refl
 
 -- a list of numbers stops at a word that is none
-pub numbers_stop : (ws : List (List ℕ)) (i : ℕ) (w : List ℕ) → i < length ws → w ≡ get_or ws i w → number_word w ≡ None → numbers_of (drop i ws) ≡ None
+pub numbers_stop : (ws : List (List ℕ)) (i : ℕ) (w : List ℕ) → i < length ws → w ≡ get_or ws i w → number_word w ≡ None → numbers_of_words (drop i ws) ≡ None
 numbers_stop ws i w within is none =
-    let here : numbers_of (drop i ws) ≡ with_first (number_word (get_or ws i w)) (numbers_of (drop (i + 1) ws)) = at_drop_more numbers_of ws i w within in
+    let here : numbers_of_words (drop i ws) ≡ with_first (number_word (get_or ws i w)) (numbers_of_words (drop (i + 1) ws)) = at_drop_more numbers_of_words ws i w within in
     let same : number_word (get_or ws i w) ≡ None = ap number_word (sym is) ∙ none in
-    here ∙ ap (λ (o : Option ℕ). with_first o (numbers_of (drop (i + 1) ws))) same
+    here ∙ ap (λ (o : Option ℕ). with_first o (numbers_of_words (drop (i + 1) ws))) same
 
 -- and goes on behind one
 pub numbers_more : (ws : List (List ℕ)) (i : ℕ) (w : List ℕ) (n : ℕ) → i < length ws → w ≡ get_or ws i w → number_word w ≡ Some n
-    → numbers_of (drop i ws) ≡ option_map (λ ns. n ∷ ns) (numbers_of (drop (i + 1) ws))
+    → numbers_of_words (drop i ws) ≡ option_map (λ ns. n ∷ ns) (numbers_of_words (drop (i + 1) ws))
 numbers_more ws i w n within is some =
-    let here : numbers_of (drop i ws) ≡ with_first (number_word (get_or ws i w)) (numbers_of (drop (i + 1) ws)) = at_drop_more numbers_of ws i w within in
+    let here : numbers_of_words (drop i ws) ≡ with_first (number_word (get_or ws i w)) (numbers_of_words (drop (i + 1) ws)) = at_drop_more numbers_of_words ws i w within in
     let same : number_word (get_or ws i w) ≡ Some n = ap number_word (sym is) ∙ some in
-    here ∙ ap (λ (o : Option ℕ). with_first o (numbers_of (drop (i + 1) ws))) same
+    here ∙ ap (λ (o : Option ℕ). with_first o (numbers_of_words (drop (i + 1) ws))) same
 
 pub numbers_on : (done : List ℕ) (n : ℕ) (o : Option (List ℕ)) → option_map (λ ns. done ++ ns) (option_map (λ ns. n ∷ ns) o) ≡ option_map (λ ns. (done ++ n ∷ []) ++ ns) o
 numbers_on done n None = refl

@@ -35,9 +35,9 @@ AreOfKinds (k ∷ ks) [] = ⊥
 AreOfKinds (k ∷ ks) (w ∷ ws) = (is_some (meaning k w) ≡ true) × AreOfKinds ks ws
 
 -- these words are a line of the grammar of instructions
-abbrev pub IsLine : List (List ℕ) → Type 0
-IsLine [] = ⊥
-IsLine (w ∷ ws) = (m : Mnemonic) × (w ≡ text m) × AreOfKinds (expects m) ws
+abbrev pub IsInstructionLine : List (List ℕ) → Type 0
+IsInstructionLine [] = ⊥
+IsInstructionLine (w ∷ ws) = (m : Mnemonic) × (w ≡ text m) × AreOfKinds (expects m) ws
 
 -- the lines of a grammar, each with its words
 abbrev pub Grammar : Type 1

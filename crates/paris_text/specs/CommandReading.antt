@@ -5,6 +5,7 @@ use Rattle.paris_names.specs.declared.faults.Fault.{Fault}
 use Rattle.paris_names.specs.declared.faults.Fault.TheVariants.{NoMemory, Syntax}
 use Rattle.paris_names.specs.declared.ids.Spot.{Spot}
 use Rattle.paris_names.specs.declared.ids.Spot.TheVariants.{Start, After, End}
+use Rattle.paris_events.specs.declared.edits.Edit.TheVariants as edit
 use Rattle.paris_text.specs.declared.verbs.Verb.{Verb}
 use Rattle.paris_text.specs.declared.verbs.Verb.TheVariants as verb
 use Rattle.paris_text.specs.declared.commands.Command.{Command}
@@ -46,15 +47,15 @@ abbrev pub alone_at : Command → Place → Result Command ℕ
 alone_at c p = end_at p >>= λ over. Ok c
 
 -- what words of a shape stand for
-abbrev pub Means : Shape → Type 0
-Means Done = Unit {0}
-Means (One k rest) = Meaning k × Means rest
-Means (Many k) = List (Meaning k)
-Means (AtSpot rest) = Spot × Means rest
-Means Whole = Instruction
+abbrev pub ShapeMeaning : Shape → Type 0
+ShapeMeaning Done = Unit {0}
+ShapeMeaning (One k rest) = Meaning k × ShapeMeaning rest
+ShapeMeaning (Many k) = List (Meaning k)
+ShapeMeaning (AtSpot rest) = Spot × ShapeMeaning rest
+ShapeMeaning Whole = Instruction
 
 -- words of this shape, and then the end of the line
-abbrev pub shape_at : (s : Shape) → Place → Result (Means s) ℕ
+abbrev pub shape_at : (s : Shape) → Place → Result (ShapeMeaning s) ℕ
 shape_at Done p = end_at p
 shape_at (One k rest) p = kind_at k p >>= λ x. shape_at rest x.1 >>= λ xs. Ok (x.0, xs)
 shape_at (Many k) p = many_at k p
@@ -62,13 +63,13 @@ shape_at (AtSpot rest) p = spot_at p >>= λ x. shape_at rest x.1 >>= λ xs. Ok (
 shape_at Whole p = instr_at p
 
 -- the command of a first word and of what the words behind it stand for
-abbrev pub command_from : (v : Verb) → Means (shape_of v) → Command
-command_from verb.Set (name, (axes, end)) = command.Set name axes
-command_from verb.Field (name, (set, (width, end))) = command.Field name set width
-command_from verb.Input (key, (from, values)) = command.Input key from values
-command_from verb.Insert (spot, instr) = command.Insert spot instr
-command_from verb.Delete (row, end) = command.Delete (record { 0 = row })
-command_from verb.Replace (row, instr) = command.Replace (record { 0 = row }) instr
+abbrev pub command_from : (v : Verb) → ShapeMeaning (shape_of v) → Command
+command_from verb.Set (name, (axes, end)) = command.Edit (edit.AddSet name axes)
+command_from verb.Field (name, (set, (width, end))) = command.Edit (edit.AddField name set width)
+command_from verb.Input (key, (from, values)) = command.Edit (edit.Input key from values)
+command_from verb.Insert (spot, instr) = command.Edit (edit.Insert spot instr)
+command_from verb.Delete (row, end) = command.Edit (edit.Delete (record { 0 = row }))
+command_from verb.Replace (row, instr) = command.Edit (edit.Replace (record { 0 = row }) instr)
 command_from verb.Take end = command.Take
 command_from verb.Bring (order, end) = command.Bring order
 command_from verb.Release end = command.Release

@@ -2,6 +2,8 @@
 use Rattle.std.specs.Prelude.{◌≢◌, ℕ, List, [], ◌∷◌, ◌++◌, map, codes}
 use Rattle.std.specs.List.{join_with_byte, AllByRecursion}
 use Rattle.std.specs.Fmt.{decimal}
+use Rattle.paris_events.specs.declared.edits.Edit.{Edit}
+use Rattle.paris_events.specs.declared.edits.Edit.TheVariants as edit
 use Rattle.paris_text.specs.declared.commands.Command.{Command}
 use Rattle.paris_text.specs.declared.commands.Command.TheVariants as command
 use Rattle.paris_text.specs.Kinds.{key_text, axes_text, Fits}
@@ -9,14 +11,18 @@ use Rattle.paris_text.specs.Kinds.Kind.{NameWord, NumberWord, ValueWord, KeyWord
 use Rattle.paris_text.specs.Spelling.{words_of, IsInBounds}
 use Rattle.paris_text.specs.Shapes.{spot_words, SpotFits}
 
+-- the words of a command that is an edit
+abbrev pub edit_words : Edit → List (List ℕ)
+edit_words (edit.AddSet name axes) = codes "set" ∷ name ∷ axes_text axes ∷ []
+edit_words (edit.AddField name set width) = codes "field" ∷ name ∷ set ∷ decimal width ∷ []
+edit_words (edit.Input key from values) = codes "input" ∷ key_text key ∷ decimal from ∷ map decimal values
+edit_words (edit.Insert spot instr) = codes "insert" ∷ (spot_words spot ++ words_of instr)
+edit_words (edit.Delete row) = codes "delete" ∷ decimal row.0 ∷ []
+edit_words (edit.Replace row instr) = codes "replace" ∷ decimal row.0 ∷ words_of instr
+
 -- the words of a command
 abbrev pub command_words : Command → List (List ℕ)
-command_words (command.Set name axes) = codes "set" ∷ name ∷ axes_text axes ∷ []
-command_words (command.Field name set width) = codes "field" ∷ name ∷ set ∷ decimal width ∷ []
-command_words (command.Input key from values) = codes "input" ∷ key_text key ∷ decimal from ∷ map decimal values
-command_words (command.Insert spot instr) = codes "insert" ∷ (spot_words spot ++ words_of instr)
-command_words (command.Delete row) = codes "delete" ∷ decimal row.0 ∷ []
-command_words (command.Replace row instr) = codes "replace" ∷ decimal row.0 ∷ words_of instr
+command_words (command.Edit e) = edit_words e
 command_words command.Take = codes "take" ∷ []
 command_words (command.Bring order) = codes "bring" ∷ decimal order ∷ []
 command_words command.Release = codes "release" ∷ []
@@ -30,13 +36,17 @@ unfoldable pub command_spelling : Command → List ℕ
 command_spelling c = join_with_byte 32 (command_words c)
 
 -- the names are names, the numbers are below the bounds of their kinds, and there is an axis and a value
+abbrev pub IsEditInBounds : Edit → Type 0
+IsEditInBounds (edit.AddSet name axes) = Fits NameWord name × Fits AxesWord axes
+IsEditInBounds (edit.AddField name set width) = Fits NameWord name × Fits NameWord set × Fits NumberWord width
+IsEditInBounds (edit.Input key from values) = Fits KeyWord key × Fits NumberWord from × (values ≢ []) × AllByRecursion (Fits ValueWord) values
+IsEditInBounds (edit.Insert spot instr) = SpotFits spot × IsInBounds instr
+IsEditInBounds (edit.Delete row) = Fits NumberWord row.0
+IsEditInBounds (edit.Replace row instr) = Fits NumberWord row.0 × IsInBounds instr
+
+-- the same of a command
 abbrev pub IsCommandInBounds : Command → Type 0
-IsCommandInBounds (command.Set name axes) = Fits NameWord name × Fits AxesWord axes
-IsCommandInBounds (command.Field name set width) = Fits NameWord name × Fits NameWord set × Fits NumberWord width
-IsCommandInBounds (command.Input key from values) = Fits KeyWord key × Fits NumberWord from × (values ≢ []) × AllByRecursion (Fits ValueWord) values
-IsCommandInBounds (command.Insert spot instr) = SpotFits spot × IsInBounds instr
-IsCommandInBounds (command.Delete row) = Fits NumberWord row.0
-IsCommandInBounds (command.Replace row instr) = Fits NumberWord row.0 × IsInBounds instr
+IsCommandInBounds (command.Edit e) = IsEditInBounds e
 IsCommandInBounds (command.Bring order) = Fits NumberWord order
 IsCommandInBounds (command.Show key spot) = Fits KeyWord key × SpotFits spot
 IsCommandInBounds command.Take = Unit {0}

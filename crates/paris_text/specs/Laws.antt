@@ -2,7 +2,7 @@
 use Rattle.std.specs.Prelude.{◌≡◌, ◌↔◌, ℕ, ◌+◌, List, length, Ok, Err}
 use Rattle.paris_text.specs.declared.commands.Command.{Command}
 use Rattle.paris_text.specs.Words.{words}
-use Rattle.paris_text.specs.Columns.{IsLine, IsColumn, width}
+use Rattle.paris_text.specs.Columns.{IsInstructionLine, IsColumn, width}
 use Rattle.paris_text.specs.Spelling.{Instruction, IsInBounds, spelling}
 use Rattle.paris_text.specs.Shapes.{IsCommandLine}
 use Rattle.paris_text.specs.Commands.{command_spelling, IsCommandInBounds}
@@ -14,14 +14,14 @@ SpellingsDiffer = (i j : Instruction) → IsInBounds i → IsInBounds j → spel
 
 -- a line is in the grammar exactly where it is the spelling of an instruction
 abbrev pub LinesAreSpellings : Type 0
-LinesAreSpellings = (line : List ℕ) → IsLine (words line) ↔ ((i : Instruction) × IsInBounds i × (line ≡ spelling i))
+LinesAreSpellings = (line : List ℕ) → IsInstructionLine (words line) ↔ ((i : Instruction) × IsInBounds i × (line ≡ spelling i))
 
 -- a line leaves the grammar at one column, and a line of the grammar at none
 abbrev pub ColumnsAreUnique : Type 0
-ColumnsAreUnique = (ws : List (List ℕ)) (a b : ℕ) → IsColumn IsLine ws a → IsColumn IsLine ws b → a ≡ b
+ColumnsAreUnique = (ws : List (List ℕ)) (a b : ℕ) → IsColumn IsInstructionLine ws a → IsColumn IsInstructionLine ws b → a ≡ b
 
 abbrev pub LinesHaveNoColumn : Type 0
-LinesHaveNoColumn = (ws : List (List ℕ)) (column : ℕ) → IsLine ws → IsColumn IsLine ws column → ⊥
+LinesHaveNoColumn = (ws : List (List ℕ)) (column : ℕ) → IsInstructionLine ws → IsColumn IsInstructionLine ws column → ⊥
 
 -- the words of a line, each with the space after it, have one byte more than the line
 abbrev pub WidthIsLength : Type 0

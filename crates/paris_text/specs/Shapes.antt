@@ -9,7 +9,7 @@ use Rattle.paris_text.specs.declared.verbs.Verb.TheVariants as verb
 use Rattle.paris_text.specs.Verbs.{verb_text}
 use Rattle.paris_text.specs.Kinds.{Kind, meaning}
 use Rattle.paris_text.specs.Kinds.Kind.{NameWord, NumberWord, ValueWord, KeyWord, AxesWord}
-use Rattle.paris_text.specs.Columns.{IsLine, Grammar}
+use Rattle.paris_text.specs.Columns.{IsInstructionLine, Grammar}
 
 -- what some words have to be, from the left
 pub data Shape : Type 0 where
@@ -61,7 +61,7 @@ IsOf (One k rest) (w ∷ ws) = (is_some (meaning k w) ≡ true) × IsOf rest ws
 IsOf (Many k) [] = ⊥
 IsOf (Many k) (w ∷ ws) = AllByRecursion (λ v. is_some (meaning k v) ≡ true) (w ∷ ws)
 IsOf (AtSpot rest) ws = (spot : Spot) × (more : List (List ℕ)) × (ws ≡ spot_words spot ++ more) × SpotFits spot × IsOf rest more
-IsOf Whole ws = IsLine ws
+IsOf Whole ws = IsInstructionLine ws
 
 -- these words are a line of the grammar of commands
 abbrev pub IsCommandLine : Grammar

@@ -88,9 +88,9 @@ words_of i = text (parts i).0 ∷ operand_words (parts i).1
 unfoldable pub spelling : Instruction → List ℕ
 spelling i = join_with_byte 32 (words_of i)
 
-abbrev pub AllFit : List Operand → Type 0
-AllFit os = AllByRecursion (λ o. Fits o.0 o.1) os
+abbrev pub OperandsFit : List Operand → Type 0
+OperandsFit os = AllByRecursion (λ o. Fits o.0 o.1) os
 
 -- the names are names, and the numbers are below the bounds of their kinds
 abbrev pub IsInBounds : Instruction → Type 0
-IsInBounds i = AllFit (parts i).1
+IsInBounds i = OperandsFit (parts i).1

@@ -70,10 +70,10 @@ with_first None ns = None
 with_first (Some n) ns = option_map (λ rest. n ∷ rest) ns
 
 -- the numbers that words spell, one by one
-abbrev pub numbers_of : List (List ℕ) → Option (List ℕ)
-numbers_of [] = Some []
-numbers_of (w ∷ ws) = with_first (number_word w) (numbers_of ws)
+abbrev pub numbers_of_words : List (List ℕ) → Option (List ℕ)
+numbers_of_words [] = Some []
+numbers_of_words (w ∷ ws) = with_first (number_word w) (numbers_of_words ws)
 
 -- numbers joined by `x`
 abbrev pub axes_word : List ℕ → Option (List ℕ)
-axes_word w = numbers_of (slice_split (λ b. nat_eq b 120) w)
+axes_word w = numbers_of_words (slice_split (λ b. nat_eq b 120) w)

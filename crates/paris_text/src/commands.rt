@@ -10,42 +10,15 @@ use crate::reader::{
     next_verb,
 };
 use crate::verbs::Verb;
-use paris_model::Instr;
-use paris_names::{Fault, Items, KeyName, Name, RowId, Spot};
+use paris_events::Edit;
+use paris_names::{Fault, KeyName, RowId, Spot};
 use std::alloc::Global;
 
 /// What a line of a script asks for.
 #[derive(Debug, Drop)]
 pub enum Command {
-    /// Declares a set of this name, with axes of these lengths.
-    Set {
-        name: Name,
-        axes: Items<u64>,
-    },
-    /// Declares a field of this name in the set of that name, with its width in bits.
-    Field {
-        name: Name,
-        set: Name,
-        width: u64,
-    },
-    /// Gives a key these values, from a processor on.
-    Input {
-        key: KeyName,
-        from: u64,
-        values: Items<u128>,
-    },
-    /// Puts an instruction at a place of the program.
-    Insert {
-        spot: Spot,
-        instr: Instr,
-    },
-    /// Takes a row out of the program.
-    Delete(RowId),
-    /// Puts an instruction in the place of a row's.
-    Replace {
-        row: RowId,
-        instr: Instr,
-    },
+    /// Edits the declarations, the input data or the program.
+    Edit(Edit),
     /// Takes an order for the first row that is ready.
     Take,
     /// Brings the result of the order of this number.
@@ -53,10 +26,7 @@ pub enum Command {
     /// Gives back the orders that were taken.
     Release,
     /// Shows a key at a place of the program.
-    Show {
-        key: KeyName,
-        spot: Spot,
-    },
+    Show { key: KeyName, spot: Spot },
     /// Lists the rows of the program.
     List,
     /// Lists the faults of the rows.
@@ -72,7 +42,7 @@ fn set_command(alloc: Global, line: &[u8], at: usize) -> Result<Command, Fault>
 {
     let (name, at) = next_name(line, at)?;
     let axes = last_axes(alloc, line, at)?;
-    Ok(Command::Set { name, axes })
+    Ok(Command::Edit(Edit::AddSet { name, axes }))
 }
 
 #[tactic(auto, unfolding(crate::specs::CommandReading::rest_at))]
@@ -84,7 +54,7 @@ fn field_command(line: &[u8], at: usize) -> Result<Command, Syntax>
     let (set, at) = next_name(line, at)?;
     let (width, at) = next_number(line, at)?;
     line_end(line, at)?;
-    Ok(Command::Field { name, set, width })
+    Ok(Command::Edit(Edit::AddField { name, set, width }))
 }
 
 #[tactic(auto, unfolding(crate::specs::CommandReading::rest_at))]
@@ -95,7 +65,7 @@ fn input_command(alloc: Global, line: &[u8], at: usize) -> Result<Command, Fault
     let (key, at) = next_key(line, at)?;
     let (from, at) = next_number(line, at)?;
     let values = next_values(alloc, line, at)?;
-    Ok(Command::Input { key, from, values })
+    Ok(Command::Edit(Edit::Input { key, from, values }))
 }
 
 #[tactic(auto, unfolding(crate::specs::CommandReading::rest_at))]
@@ -105,7 +75,7 @@ fn insert_command(line: &[u8], at: usize) -> Result<Command, Syntax>
 {
     let (spot, at) = next_spot(line, at)?;
     let instr = next_instr(line, at)?;
-    Ok(Command::Insert { spot, instr })
+    Ok(Command::Edit(Edit::Insert { spot, instr }))
 }
 
 #[tactic(auto, unfolding(crate::specs::CommandReading::rest_at))]
@@ -115,7 +85,7 @@ fn delete_command(line: &[u8], at: usize) -> Result<Command, Syntax>
 {
     let (row, at) = next_number(line, at)?;
     line_end(line, at)?;
-    Ok(Command::Delete(RowId(row)))
+    Ok(Command::Edit(Edit::Delete(RowId(row))))
 }
 
 #[tactic(auto, unfolding(crate::specs::CommandReading::rest_at))]
@@ -125,10 +95,10 @@ fn replace_command(line: &[u8], at: usize) -> Result<Command, Syntax>
 {
     let (row, at) = next_number(line, at)?;
     let instr = next_instr(line, at)?;
-    Ok(Command::Replace {
+    Ok(Command::Edit(Edit::Replace {
         row: RowId(row),
         instr,
-    })
+    }))
 }
 
 #[tactic(auto, unfolding(crate::specs::CommandReading::rest_at))]

@@ -4,7 +4,7 @@ ghost use Rattle.std.specs.Prelude.{◌≡◌, ◌+◌, ◌≤◌, length, IfOk,
 ghost use Rattle.paris_text.specs.declared.mnemonics.Mnemonic.TheVariants.{Binary, Unary, MoveConstant, Resize, Compare, MyCoordinate, MyAddress, MoveAlways, Flag, News as OfNews, Scan, CopyScan, Spread, CopySpread, Reduce, Get, Send, CombiningSend};
 ghost use Rattle.paris_text.specs.Words.{words};
 ghost use Rattle.paris_text.specs.Spelling.{Instruction, IsInBounds, spelling};
-ghost use Rattle.paris_text.specs.Columns.{IsLine, IsColumn};
+ghost use Rattle.paris_text.specs.Columns.{IsInstructionLine, IsColumn};
 ghost use Rattle.paris_text.specs.Reading.{place, Gives, operands_at, instr_at, flag_instr};
 
 use crate::mnemonics::{FlagAction, Mnemonic, NewsMove};
@@ -404,7 +404,7 @@ pub fn read_instr(line: &[u8]) -> Result<Instr, Syntax>
     ensures spelled { IfOk result (λ i. line.now ≡ spelling i) }
     ensures bounds { IfOk result (λ i. IsInBounds i) }
     ensures read { (i : Instruction) → IsInBounds i → line.now ≡ spelling i → result ≡ Ok i }
-    ensures column { IfErr result (λ e. IsColumn IsLine (words line.now) e.0) }
+    ensures column { IfErr result (λ e. IsColumn IsInstructionLine (words line.now) e.0) }
 {
     next_instr(line, 0)
 }

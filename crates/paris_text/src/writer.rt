@@ -5,7 +5,7 @@ ghost use Rattle.std.specs.Fmt.{decimal};
 ghost use Rattle.std.specs.List.{AllByRecursion};
 ghost use Rattle.paris_names.specs.Names.{is_name};
 ghost use Rattle.paris_text.specs.Kinds.{direction_text, inclusion_text, option_text, IsOptionalName};
-ghost use Rattle.paris_text.specs.Spelling.{parts, conditional_parts, unconditional_parts, news_parts, line_parts, mail_parts, operand_words, AllFit, spelling, IsInBounds};
+ghost use Rattle.paris_text.specs.Spelling.{parts, conditional_parts, unconditional_parts, news_parts, line_parts, mail_parts, operand_words, OperandsFit, spelling, IsInBounds};
 ghost use Rattle.paris_text.specs.Writing.{tail_text};
 
 use crate::mnemonics::{FlagAction, Mnemonic, NewsMove};
@@ -179,7 +179,7 @@ fn push_conditional(
     action: Conditional<Name, Name>,
 ) -> Result<(), AllocError>
     ensures text { OnOk result (line.new.items ≡ line.old.items ++ tail_text (operand_words (conditional_parts action).1)) }
-    ensures fits { OnOk result (AllFit (conditional_parts action).1) }
+    ensures fits { OnOk result (OperandsFit (conditional_parts action).1) }
 {
     match action {
         Conditional::Binary {
@@ -231,7 +231,7 @@ fn push_unconditional(
     action: Unconditional<Name, Name>,
 ) -> Result<(), AllocError>
     ensures text { OnOk result (line.new.items ≡ line.old.items ++ tail_text (operand_words (unconditional_parts action).1)) }
-    ensures fits { OnOk result (AllFit (unconditional_parts action).1) }
+    ensures fits { OnOk result (OperandsFit (unconditional_parts action).1) }
 {
     match action {
         Unconditional::MoveAlways { to, from, length } => push_both(
@@ -253,7 +253,7 @@ fn push_unconditional(
 
 fn push_news(alloc: Global, line: &mut Vec<u8>, action: News<Name>) -> Result<(), AllocError>
     ensures text { OnOk result (line.new.items ≡ line.old.items ++ tail_text (operand_words (news_parts action).1)) }
-    ensures fits { OnOk result (AllFit (news_parts action).1) }
+    ensures fits { OnOk result (OperandsFit (news_parts action).1) }
 {
     match action {
         News::Get {
@@ -319,7 +319,7 @@ fn push_copy_scan(
 
 fn push_line(alloc: Global, line: &mut Vec<u8>, action: Line<Name>) -> Result<(), AllocError>
     ensures text { OnOk result (line.new.items ≡ line.old.items ++ tail_text (operand_words (line_parts action).1)) }
-    ensures fits { OnOk result (AllFit (line_parts action).1) }
+    ensures fits { OnOk result (OperandsFit (line_parts action).1) }
 {
     match action {
         Line::Scan {
@@ -369,7 +369,7 @@ fn push_line(alloc: Global, line: &mut Vec<u8>, action: Line<Name>) -> Result<()
 
 fn push_mail(alloc: Global, line: &mut Vec<u8>, action: Mail<Name>) -> Result<(), AllocError>
     ensures text { OnOk result (line.new.items ≡ line.old.items ++ tail_text (operand_words (mail_parts action).1)) }
-    ensures fits { OnOk result (AllFit (mail_parts action).1) }
+    ensures fits { OnOk result (OperandsFit (mail_parts action).1) }
 {
     match action {
         Mail::Get {

@@ -3,7 +3,7 @@ use Rattle.std.specs.List.{slice_split}
 use Rattle.std.proofs.lemmas.List.{length_push, drop_all}
 use Rattle.std.proofs.lemmas.Iterator.Splits.{YieldsList-from_slice_split}
 use Rattle.std.proofs.lemmas.Iterator.Consumers.{YieldsList-turn, YieldsList-end}
-use Rattle.paris_text.specs.Words.{number_word, numbers_of}
+use Rattle.paris_text.specs.Words.{number_word, numbers_of_words}
 use Rattle.paris_text.proofs.WordLemmas.{numbers_stop, numbers_more, numbers_on}
 use Rattle.paris_text.proofs.words.axes_of_word.Goals as goal
 
@@ -24,7 +24,7 @@ loop-part-preserved c =
     let n = c.in-Some-number_of_word.axis in
     let some : number_word c.in-Some.part.now ≡ Some n = cc in
     let more = numbers_more all _ _ n turn.0 turn.1 some in
-    let later = numbers_of (drop (length c.loop-part.yielded + 1) all) in
+    let later = numbers_of_words (drop (length c.loop-part.yielded + 1) all) in
     let same = c.loop-part.invariant.2 ∙ ap (λ (o : _). option_map (λ vs. done ++ vs) o) more ∙ numbers_on done n later in
     (search rules, search rules, rw (c.in_ok-push.ensures.items, length_push) same)
 

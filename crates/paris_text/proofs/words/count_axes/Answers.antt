@@ -3,7 +3,7 @@ use Rattle.std.specs.List.{slice_split}
 use Rattle.std.proofs.lemmas.List.{length_push, drop_all}
 use Rattle.std.proofs.lemmas.Iterator.Splits.{YieldsList-from_slice_split}
 use Rattle.std.proofs.lemmas.Iterator.Consumers.{YieldsList-turn, YieldsList-end}
-use Rattle.paris_text.specs.Words.{number_word, numbers_of}
+use Rattle.paris_text.specs.Words.{number_word, numbers_of_words}
 use Rattle.paris_text.proofs.WordLemmas.{numbers_stop, numbers_more}
 use Rattle.paris_text.proofs.RoomLemmas.{lengths_on}
 use Rattle.paris_text.proofs.words.count_axes.Goals as goal
@@ -24,7 +24,7 @@ loop-part-preserved c =
     let n = c.in-Some-number_of_word.field-0 in
     let some : number_word c.in-Some.part.now ≡ Some n = cc in
     let more = numbers_more all _ _ n turn.0 turn.1 some in
-    let later = numbers_of (drop (length c.loop-part.yielded + 1) all) in
+    let later = numbers_of_words (drop (length c.loop-part.yielded + 1) all) in
     let same = c.loop-part.invariant.3 ∙ ap (λ (o : _). option_map (λ vs. c.loop-part.count + length vs) o) more ∙ lengths_on c.loop-part.count n later in
     (search rules, search rules, rw length_push (ap (λ k. k + 1) c.loop-part.invariant.2), rw length_push same)
 

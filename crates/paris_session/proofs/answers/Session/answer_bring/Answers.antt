@@ -9,7 +9,7 @@ returns-in_default c = IfOk-weaker c.refuse.result _ _ (λ text h. bring_none c.
 
 pub returns-in-Ok : goal.returns-in-Ok
 returns-in-Ok c =
-    let s : Sitting = record { state = c.self.inside.book; tray = c.self.inside.orders.items; commands = c.self.inside.answered; refusals = c.self.inside.declined } in
+    let s : Sitting = record { state = c.self.inside.book; tray = c.self.inside.tray.items; commands = c.self.inside.commands; refusals = c.self.inside.refusals } in
     let same = c.in-Ok.ensures.ok ∙ c.in_ok-copy.ensures in
     rw (← c.self.view_is) (IfOk-weaker c.verdict_text.result _ _
     (λ text h. bring_some s c.args.number _ _ _ _ _ (rw (← c.self.view_is) at c.in-Some.ensures) same c.bring-verdict.ensures.state c.bring-verdict.ensures.answer h) c.verdict_text.ensures)

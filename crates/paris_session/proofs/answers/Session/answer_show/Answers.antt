@@ -5,10 +5,10 @@ use Rattle.paris_session.specs.Transcript.{Sitting}
 use Rattle.paris_session.proofs.AnswerLemmas.{show_accepted, show_refused}
 use Rattle.paris_session.proofs.answers.Session.answer_show.Goals as goal
 
-pub returns-in_ok-text-in-Ok : goal.returns-in_ok-text-in-Ok
-returns-in_ok-text-in-Ok c =
-    let s : Sitting = record { state = c.self.inside.book; tray = c.self.inside.orders.items; commands = c.self.inside.answered; refusals = c.self.inside.declined } in
-    rw (← c.self.view_is) (show_accepted s c.args.name c.args.spot _ _ c.in-Ok.ensures.shown c.in_ok-text-in-Ok.ensures)
+pub returns-in-Ok : goal.returns-in-Ok
+returns-in-Ok c =
+    let s : Sitting = record { state = c.self.inside.book; tray = c.self.inside.tray.items; commands = c.self.inside.commands; refusals = c.self.inside.refusals } in
+    rw (← c.self.view_is) (IfOk-weaker c.look_text.result _ _ (λ text h. show_accepted s c.args.name c.args.spot _ _ c.in-Ok.ensures.shown h) c.look_text.ensures)
 
 pub returns-in-Err : goal.returns-in-Err
 returns-in-Err c =
