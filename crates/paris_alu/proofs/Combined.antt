@@ -9,7 +9,7 @@ use Rattle.std.proofs.lemmas.Simd.{get_or-zip2, length-zip2}
 use Rattle.std.proofs.lemmas.List.{get_or-map, length-map}
 use Rattle.paris_model.specs.Store.{bit, low, everywhere}
 use Rattle.paris_plane.specs.Bits.{differ}
-use Rattle.paris_field.specs.Numbers.{AllOf, field_of, number_at}
+use Rattle.paris_field.specs.Numbers.{AllOf, value_of_planes, number_at}
 use Rattle.paris_field.proofs.Numbers.{below_two}
 use Rattle.paris_field.proofs.Lists.{below_of}
 use Rattle.paris_alu.proofs.Places.{Holds, field_is}
@@ -104,19 +104,19 @@ all_inverted n xs all k below =
     ap length (get_or-map (map not) xs k [] [] h) ∙ length-map (get_or xs k []) not ∙ all k h
 
 -- the fields
-pub bitwise_field : (op : ℕ → ℕ → ℕ) (n L : ℕ) (f g : ℕ → ℕ) (xs ys zs : List (List Bool)) → Holds n L f xs → Holds n L g ys → length zs ≡ length xs → ((v : ℕ) → v < n → number_at zs v ≡ op (number_at xs v) (number_at ys v)) → field_of n zs ≡ record { width = L; numbers = everywhere n (λ v. low L (op (f v) (g v))) }
+pub bitwise_field : (op : ℕ → ℕ → ℕ) (n L : ℕ) (f g : ℕ → ℕ) (xs ys zs : List (List Bool)) → Holds n L f xs → Holds n L g ys → length zs ≡ length xs → ((v : ℕ) → v < n → number_at zs v ≡ op (number_at xs v) (number_at ys v)) → value_of_planes n zs ≡ record { width = L; numbers = everywhere n (λ v. low L (op (f v) (g v))) }
 bitwise_field op n L f g xs ys zs x y long at =
     field_is n L zs (λ v. low L (op (f v) (g v))) (long ∙ x.count) (λ v h.
     sym (mod_small (2 ^ L) (number_at zs v) (below_of zs v L (long ∙ x.count)))
     ∙ ap (low L) (at v h ∙ ap (λ z. op z (number_at ys v)) (x.at v h) ∙ ap (op (f v)) (y.at v h)))
 
-pub inverted_field : (n L : ℕ) (f : ℕ → ℕ) (xs : List (List Bool)) → Holds n L f xs → field_of n (map (map not) xs) ≡ record { width = L; numbers = everywhere n (λ v. low L (2 ^ L - 1 - f v)) }
+pub inverted_field : (n L : ℕ) (f : ℕ → ℕ) (xs : List (List Bool)) → Holds n L f xs → value_of_planes n (map (map not) xs) ≡ record { width = L; numbers = everywhere n (λ v. low L (2 ^ L - 1 - f v)) }
 inverted_field n L f xs x =
     let long : length (map (map not) xs) ≡ L = length-map xs (map not) ∙ x.count in
     field_is n L (map (map not) xs) (λ v. low L (2 ^ L - 1 - f v)) long (λ v h.
     sym (mod_small (2 ^ L) (number_at (map (map not) xs) v) (below_of (map (map not) xs) v L long))
     ∙ ap (low L) (omega (arith, inverted_number n xs v x.long h, x.at v h, ap (λ k. 2 ^ k) x.count)))
 
-pub copied_field : (n L : ℕ) (f : ℕ → ℕ) (xs : List (List Bool)) → Holds n L f xs → field_of n xs ≡ record { width = L; numbers = everywhere n (λ v. low L (f v)) }
+pub copied_field : (n L : ℕ) (f : ℕ → ℕ) (xs : List (List Bool)) → Holds n L f xs → value_of_planes n xs ≡ record { width = L; numbers = everywhere n (λ v. low L (f v)) }
 copied_field n L f xs x =
     field_is n L xs (λ v. low L (f v)) x.count (λ v h. sym (mod_small (2 ^ L) (number_at xs v) (below_of xs v L x.count)) ∙ ap (low L) (x.at v h))

@@ -7,7 +7,7 @@ use Rattle.paris_model.specs.Store.{low, everywhere}
 use Rattle.paris_model.specs.Elementwise.{is_less}
 use Rattle.paris_plane.specs.Bits.{zip3, borrow_bit}
 use Rattle.paris_field.specs.Fields.{FieldNumbers}
-use Rattle.paris_field.specs.Numbers.{AllOf, field_of, number_at, plane_at}
+use Rattle.paris_field.specs.Numbers.{AllOf, value_of_planes, number_at, plane_at}
 use Rattle.paris_alu.specs.Alu.{bits_everywhere}
 use Rattle.paris_alu.proofs.Places.{Holds, bits_same, everywhere_same, field_is, get_or-bits_everywhere, get_triple, length-bits_everywhere, length_triple, plane_is}
 use Rattle.paris_alu.proofs.Chains.{chain_more}
@@ -86,7 +86,7 @@ chosen_field R n L f g xs ys mask value x y is e =
 
 -- planes of one list where a mask is 1, and of another elsewhere
 pub selected_field : (n : ℕ) (xs ys old new : List (List Bool)) (mask : List Bool) → length xs ≡ length ys → old ≡ xs → length new ≡ length old → ((v : ℕ) → v < n → number_at (take (length xs) new) v ≡ cond (get_or mask v false) (number_at (take (length xs) ys) v) (number_at (take (length xs) old) v))
-    → field_of n new ≡ record { width = length xs; numbers = everywhere n (λ v. if get_or mask v false then number_at ys v else number_at xs v) }
+    → value_of_planes n new ≡ record { width = length xs; numbers = everywhere n (λ v. if get_or mask v false then number_at ys v else number_at xs v) }
 selected_field n xs ys old new mask same copied long low =
     let count : length new ≡ length xs = long ∙ ap length copied in
     field_is n (length xs) new (λ v. if get_or mask v false then number_at ys v else number_at xs v) count (λ v h.

@@ -8,7 +8,7 @@ use Rattle.paris_model.specs.Store.{everywhere}
 use Rattle.paris_plane.specs.Bits.{zip3}
 use Rattle.paris_plane.proofs.Bits.{length-zip3, get_or-zip3}
 use Rattle.paris_field.specs.Fields.{FieldNumbers}
-use Rattle.paris_field.specs.Numbers.{AllOf, bit_in, field_of, number_at, numbers, plane_at}
+use Rattle.paris_field.specs.Numbers.{AllOf, bit_in, value_of_planes, number_at, numbers, plane_at}
 use Rattle.paris_field.proofs.Lists.{numbers_are}
 use Rattle.paris_alu.specs.Alu.{bits_everywhere}
 
@@ -30,7 +30,7 @@ pub bits_same : (n : ℕ) (f g : ℕ → Bool) → ((v : ℕ) → v < n → f v 
 bits_same n f g each = plane_is (bits_everywhere n f) n g (length-bits_everywhere n f) (λ v h. get_or-bits_everywhere n f v h ∙ each v h)
 
 -- a field whose planes hold f
-pub field_is : (n L : ℕ) (ps : List (List Bool)) (f : ℕ → ℕ) → length ps ≡ L → ((v : ℕ) → v < n → number_at ps v ≡ f v) → field_of n ps ≡ record { width = L; numbers = everywhere n f }
+pub field_is : (n L : ℕ) (ps : List (List Bool)) (f : ℕ → ℕ) → length ps ≡ L → ((v : ℕ) → v < n → number_at ps v ≡ f v) → value_of_planes n ps ≡ record { width = L; numbers = everywhere n f }
 field_is n L ps f long each =
     let field : ℕ → List ℕ → FieldNumbers = λ w xs. record { width = w; numbers = xs } in
     let e : numbers n ps ≡ everywhere n f =

@@ -8,7 +8,7 @@ use Rattle.paris_model.specs.declared.operators.Sign.{Sign}
 use Rattle.paris_model.specs.declared.operators.Sign.TheVariants.{Unsigned, Signed}
 use Rattle.paris_model.specs.Store.{everywhere, signed, low_signed, is_outside_signed}
 use Rattle.paris_model.specs.Elementwise.{resize_result, resize_overflow}
-use Rattle.paris_field.specs.Numbers.{AllOf, bit_in, field_of, number_at, plane_at}
+use Rattle.paris_field.specs.Numbers.{AllOf, bit_in, value_of_planes, number_at, plane_at}
 use Rattle.paris_field.proofs.Numbers.{number_at_low, number_at_lt, number_at_more, number_at_split, zero_bit_in}
 use Rattle.paris_alu.specs.Alu.{bits_everywhere}
 use Rattle.paris_alu.specs.Bits.{by_sign}
@@ -56,7 +56,7 @@ resized_at Signed n M L kept v f xs zs top rest x some h (inr p) et er is =
     (ap (λ z. number_at (replicate (L - M) rest) v + z) (sym r) ∙ number_repeated (L - M) rest v ∙ ap (λ z. 2 ^ (L - M) * z) r)
     ∙ ap (λ z. low_signed L (signed M z)) (sym e)
 
-pub resized_value : (sign : Sign) (n M L kept : ℕ) (f : ℕ → ℕ) (xs zs : List (List Bool)) (top rest : List Bool) → Holds n M f xs → 0 < M → ((L ≤ M) × (kept ≡ L)) ⊎ ((M ≤ L) × (kept ≡ M)) → top ≡ plane_at xs (kept - 1) → rest ≡ by_sign sign (replicate (length top) false) top → zs ≡ take kept xs ++ replicate (L - length (take kept xs)) rest → length zs ≡ L → field_of n zs ≡ record { width = L; numbers = everywhere n (λ v. resize_result sign L M (f v)) }
+pub resized_value : (sign : Sign) (n M L kept : ℕ) (f : ℕ → ℕ) (xs zs : List (List Bool)) (top rest : List Bool) → Holds n M f xs → 0 < M → ((L ≤ M) × (kept ≡ L)) ⊎ ((M ≤ L) × (kept ≡ M)) → top ≡ plane_at xs (kept - 1) → rest ≡ by_sign sign (replicate (length top) false) top → zs ≡ take kept xs ++ replicate (L - length (take kept xs)) rest → length zs ≡ L → value_of_planes n zs ≡ record { width = L; numbers = everywhere n (λ v. resize_result sign L M (f v)) }
 resized_value sign n M L kept f xs zs top rest x some which et er is long =
     field_is n L zs (λ v. resize_result sign L M (f v)) long (λ v h. resized_at sign n M L kept v f xs zs top rest x some h which et er is)
 

@@ -9,7 +9,7 @@ use Rattle.paris_model.specs.declared.operators.BinaryOperator.TheVariants.{Sign
 use Rattle.paris_model.specs.Store.{low, everywhere, signed, is_outside_signed}
 use Rattle.paris_model.specs.Elementwise.{binary_result, binary_carry, binary_overflow}
 use Rattle.paris_plane.specs.Bits.{zip3}
-use Rattle.paris_field.specs.Numbers.{AllOf, bit_in, field_of, number_at, plane_at}
+use Rattle.paris_field.specs.Numbers.{AllOf, bit_in, value_of_planes, number_at, plane_at}
 use Rattle.paris_field.proofs.Numbers.{sum_mod, carry_is, below_two, zero_bit_in}
 use Rattle.paris_field.proofs.Lists.{below_of}
 use Rattle.paris_alu.specs.Alu.{bits_everywhere, sum_operator, difference_operator}
@@ -72,7 +72,7 @@ none_before : (x n v : ℕ) (before : List Bool) → before ≡ replicate n fals
 none_before x n v before none = omega (arith, ap (λ l. bit_in l v) none, zero_bit_in n v)
 
 -- the sums
-pub sum_field : (sign : Sign) (n L : ℕ) (f g : ℕ → ℕ) (before after : List Bool) (ss : List (List Bool)) → before ≡ replicate n false → Added n L f g before after ss → field_of n ss ≡ record { width = L; numbers = everywhere n (λ v. low L (binary_result (sum_operator sign) L (f v) (g v) 0 0)) }
+pub sum_field : (sign : Sign) (n L : ℕ) (f g : ℕ → ℕ) (before after : List Bool) (ss : List (List Bool)) → before ≡ replicate n false → Added n L f g before after ss → value_of_planes n ss ≡ record { width = L; numbers = everywhere n (λ v. low L (binary_result (sum_operator sign) L (f v) (g v) 0 0)) }
 sum_field sign n L f g before after ss none a =
     field_is n L ss (λ v. low L (binary_result (sum_operator sign) L (f v) (g v) 0 0)) a.count (λ v h.
     sum_low a v h ∙ ap (low L) (none_before (f v + g v) n v before none ∙ sym (sum_is sign L (f v) (g v))))
@@ -106,14 +106,14 @@ sum_overflow Signed n L f g before after xs ys ss s x y plane some none hx hy a 
     ∙ signed_sum_at some none hx hy a v h)
 
 -- the sums with a carried bit
-pub carried_field : (n L : ℕ) (f g : ℕ → ℕ) (before after : List Bool) (ss : List (List Bool)) → Added n L f g before after ss → field_of n ss ≡ record { width = L; numbers = everywhere n (λ v. low L (f v + g v + bit_in before v)) }
+pub carried_field : (n L : ℕ) (f g : ℕ → ℕ) (before after : List Bool) (ss : List (List Bool)) → Added n L f g before after ss → value_of_planes n ss ≡ record { width = L; numbers = everywhere n (λ v. low L (f v + g v + bit_in before v)) }
 carried_field n L f g before after ss a = field_is n L ss (λ v. low L (f v + g v + bit_in before v)) a.count (λ v h. sum_low a v h)
 
 pub carried_plane : (n L : ℕ) (f g : ℕ → ℕ) (before after : List Bool) (xs ys ss : List (List Bool)) → Holds n L f xs → Holds n L g ys → Added n L f g before after ss → after ≡ bits_everywhere n (λ v. leb (2 ^ L) (f v + g v + bit_in before v))
 carried_plane n L f g before after xs ys ss x y a = plane_is after n (λ v. leb (2 ^ L) (f v + g v + bit_in before v)) a.carries (λ v h. sum_carries a v h (held_lt x v h) (held_lt y v h))
 
 -- the differences
-pub difference_field : (sign : Sign) (n L : ℕ) (f g : ℕ → ℕ) (after : List Bool) (xs ys ds : List (List Bool)) → Holds n L f xs → Holds n L g ys → Taken n L f g after ds → field_of n ds ≡ record { width = L; numbers = everywhere n (λ v. low L (binary_result (difference_operator sign) L (f v) (g v) 0 0)) }
+pub difference_field : (sign : Sign) (n L : ℕ) (f g : ℕ → ℕ) (after : List Bool) (xs ys ds : List (List Bool)) → Holds n L f xs → Holds n L g ys → Taken n L f g after ds → value_of_planes n ds ≡ record { width = L; numbers = everywhere n (λ v. low L (binary_result (difference_operator sign) L (f v) (g v) 0 0)) }
 difference_field sign n L f g after xs ys ds x y a =
     field_is n L ds (λ v. low L (binary_result (difference_operator sign) L (f v) (g v) 0 0)) a.count (λ v h.
     difference_mod (2 ^ L) (number_at ds v) (f v) (g v) (get_or after v false) (below_of ds v L a.count) (held_lt x v h) (held_lt y v h) (a.exact v h)
@@ -154,7 +154,7 @@ pub record Opposed (n L : ℕ) (f : ℕ → ℕ) (after : List Bool) (ds : List 
   pub long : AllOf n ds
   pub exact : (v : ℕ) → v < n → 2 ^ L * bit_in after v ≡ number_at ds v + f v
 
-pub opposite_field : (n L : ℕ) (f : ℕ → ℕ) (after : List Bool) (xs ds : List (List Bool)) → Holds n L f xs → Opposed n L f after ds → field_of n ds ≡ record { width = L; numbers = everywhere n (λ v. low L (2 ^ L - f v)) }
+pub opposite_field : (n L : ℕ) (f : ℕ → ℕ) (after : List Bool) (xs ds : List (List Bool)) → Holds n L f xs → Opposed n L f after ds → value_of_planes n ds ≡ record { width = L; numbers = everywhere n (λ v. low L (2 ^ L - f v)) }
 opposite_field n L f after xs ds x a =
     field_is n L ds (λ v. low L (2 ^ L - f v)) a.count (λ v h. opposite_mod (2 ^ L) (number_at ds v) (f v) (get_or after v false) (below_of ds v L a.count) (held_lt x v h) (a.exact v h))
 

@@ -3,7 +3,7 @@
 ghost use Rattle.std.specs.Prelude.{◌≡◌, ◌≤◌, IfOk, length, ℕ};
 ghost use Rattle.std.specs.Simd.Lanes.{zip2};
 ghost use Rattle.paris_model.specs.declared.operators.UnaryOperator.TheVariants.{BitNot, Move};
-ghost use Rattle.paris_field.specs.Numbers.{AllOf, field_of};
+ghost use Rattle.paris_field.specs.Numbers.{AllOf, value_of_planes};
 ghost use Rattle.paris_alu.specs.Alu.{binary_field, bitwise_operator, unary_field};
 
 use crate::planes::{combined_planes, inverted_planes};
@@ -30,7 +30,7 @@ fn combined<O: WordOp>(
     requires same { length x.now ≡ length y.now }
     requires x_planes { AllOf vps x.now }
     requires y_planes { AllOf vps y.now }
-    ensures { IfOk result (λ value. value ≡ field_of vps (zip2 (zip2 O.bit) x.now y.now)) }
+    ensures { IfOk result (λ value. value ≡ value_of_planes vps (zip2 (zip2 O.bit) x.now y.now)) }
 {
     let planes = combined_planes::<O>(alloc, x, y)?;
     Ok(FieldValue::from_planes(planes, vps))

@@ -6,7 +6,7 @@ use Rattle.std.proofs.lemmas.List.{length-map}
 use Rattle.std.proofs.lemmas.Map.Entries.{length-values_of}
 use Rattle.std.proofs.lemmas.Option.{slice_get_within}
 use Rattle.indexmap.specs.IndexMap.{values}
-use Rattle.paris_board.specs.Board.{Board, DeclaredSet, DeclaredField, AreFields, axes_of, field_at}
+use Rattle.paris_board.specs.Board.{Board, DeclaredSet, DeclaredField, AreFields, axes_of, declaration_at}
 use Rattle.paris_board.specs.BoardFields.{declared_set, declared_field, board_of, IsSound}
 use Rattle.paris_board.specs.declared.declarations.FieldDeclaration.{FieldDeclaration}
 use Rattle.paris_board.specs.declared.declarations.Board.TheInside.{Inside}
@@ -37,15 +37,15 @@ field_of sets (f ∷ fs) (suc i) d are within = field_of sets fs i d are.3 (omeg
 
 -- what is known of the field at a place, with its set and its width
 pub record IsFieldAt (b : Board) (f set_no width : ℕ) : Type 0 where
-  pub set_is : set_no ≡ (field_at b f).set_no
-  pub width_is : width ≡ (field_at b f).width
+  pub set_is : set_no ≡ (declaration_at b f).set_no
+  pub width_is : width ≡ (declaration_at b f).width
   pub of_board : IsFieldOf (length b.sets) set_no width
 
 field_known : (b : Inside) (f : ℕ) (v : FieldDeclaration) → IsSound b → slice_get (values b.fields) f ≡ Some v → IsFieldAt (board_of b) f v.set v.width
 field_known b f v sound h =
     let none : DeclaredField = record { name = []; set_no = 0; width = 0 } in
-    let set_is : v.set ≡ (field_at (board_of b) f).set_no = sym (declared_at declared_field (λ (f : DeclaredField). f.set_no) (λ (v : FieldDeclaration). v.set) (λ e. refl) none b.fields.entries f v h) in
-    let width_is : v.width ≡ (field_at (board_of b) f).width = sym (declared_at declared_field (λ (f : DeclaredField). f.width) (λ (v : FieldDeclaration). v.width) (λ e. refl) none b.fields.entries f v h) in
+    let set_is : v.set ≡ (declaration_at (board_of b) f).set_no = sym (declared_at declared_field (λ (f : DeclaredField). f.set_no) (λ (v : FieldDeclaration). v.set) (λ e. refl) none b.fields.entries f v h) in
+    let width_is : v.width ≡ (declaration_at (board_of b) f).width = sym (declared_at declared_field (λ (f : DeclaredField). f.width) (λ (v : FieldDeclaration). v.width) (λ e. refl) none b.fields.entries f v h) in
     let here : f < length (values_of b.fields.entries) = slice_get_within (values_of b.fields.entries) f v h in
     let within : f < length (board_of b).fields = omega (arith, length-values_of b.fields.entries, length-map b.fields.entries declared_field) in
     record { set_is = set_is; width_is = width_is; of_board = rw (set_is, width_is) (field_of (length (board_of b).sets) (board_of b).fields f none sound.board within) }

@@ -48,8 +48,8 @@ is_taken b name = is_some (set_named b name) || is_some (field_named b name)
 abbrev pub axes_of : Board → ℕ → List ℕ
 axes_of b s = (slice_index_or b.sets s (record { name = []; axes = [] })).axes
 
-abbrev pub field_at : Board → ℕ → DeclaredField
-field_at b f = slice_index_or b.fields f (record { name = []; set_no = 0; width = 0 })
+abbrev pub declaration_at : Board → ℕ → DeclaredField
+declaration_at b f = slice_index_or b.fields f (record { name = []; set_no = 0; width = 0 })
 
 abbrev pub is_declared : Board → Key → Bool
 is_declared b (Field f) = nat_lt f (length b.fields)
@@ -57,11 +57,11 @@ is_declared b (Flag s flag) = nat_lt s (length b.sets)
 
 -- the set of a key, and its width in bits: a flag is one bit wide
 abbrev pub set_of_key : Board → Key → ℕ
-set_of_key b (Field f) = (field_at b f).set_no
+set_of_key b (Field f) = (declaration_at b f).set_no
 set_of_key b (Flag s flag) = s
 
 abbrev pub width_of : Board → Key → ℕ
-width_of b (Field f) = (field_at b f).width
+width_of b (Field f) = (declaration_at b f).width
 width_of b (Flag s flag) = 1
 
 -- how many processors the set of a key has

@@ -3,7 +3,7 @@
 ghost use Rattle.std.specs.Prelude.{◌≡◌, ℕ, ◌<◌, ◌≤◌, length, true, None, Some, IfOk, IfErr, IfSome, ok_or};
 ghost use Rattle.paris_names.specs.declared.faults.Fault.TheVariants as Fault;
 ghost use Rattle.paris_names.specs.Faults.{IsFaultOf};
-ghost use Rattle.paris_board.specs.Board.{empty_board, set_named, field_named, key_named, is_taken, axes_of, is_declared, field_at, set_of_key, width_of, set_fault, field_fault, with_set, with_field, IsBoard};
+ghost use Rattle.paris_board.specs.Board.{empty_board, set_named, field_named, key_named, is_taken, axes_of, is_declared, declaration_at, set_of_key, width_of, set_fault, field_fault, with_set, with_field, IsBoard};
 ghost use Rattle.paris_names.specs.declared.limits.TheConstants.{MAX_FIELDS, MAX_SETS, MAX_WIDTH};
 
 use indexmap::IndexMap;
@@ -196,9 +196,9 @@ impl Board {
 
     fn declaration(&self, field: FieldNo) -> FieldDeclaration
         requires { field < length self.now.fields }
-        ensures set { result.set ≡ (field_at self.now field).set_no }
+        ensures set { result.set ≡ (declaration_at self.now field).set_no }
         ensures declared { result.set < length self.now.sets }
-        ensures width { result.width ≡ (field_at self.now field).width }
+        ensures width { result.width ≡ (declaration_at self.now field).width }
         ensures positive { 0 < result.width }
         ensures small { result.width ≤ MAX_WIDTH }
     {

@@ -14,7 +14,7 @@ use Rattle.paris_names.specs.Keys.{has_key, key_eq}
 use Rattle.paris_names.specs.declared.limits.TheConstants.{MAX_EDITS}
 use Rattle.paris_names.proofs.KeyLists.{key_eq-same}
 use Rattle.paris_geometry.specs.Geometry.{processor_count}
-use Rattle.paris_board.specs.Board.{Board, DeclaredField, DeclaredSet, is_declared, width_of, count_of, axes_of, field_at, with_set, with_field, AreFields, IsBoard}
+use Rattle.paris_board.specs.Board.{Board, DeclaredField, DeclaredSet, is_declared, width_of, count_of, axes_of, declaration_at, with_set, with_field, AreFields, IsBoard}
 use Rattle.paris_model.specs.Instructions.{Plan, reads, writes, key_width}
 use Rattle.paris_model.specs.Recipe.{same}
 use Rattle.paris_machine.specs.State.{Row, Inputs, flag_input, input_of, numbers_in, number_in, start_world, start_recipe, declared_input, declared_flags}
@@ -223,7 +223,7 @@ module _ (b : Board) (n m : ℕ) (inputs : Inputs) (name axes : List ℕ) where
           ap (option_map (λ y. flag_input y flag)) (get-push_other inputs.flags (declared_flags (n + 1) (processor_count axes)) s (apart_of s (length inputs.flags) t))
 
   set_shape_old : (k : Key) → IsBoard b → length inputs.flags ≡ length b.sets → is_new_flag (length inputs.flags) k ≡ false → shape_on (with_set b name axes) k ≡ shape_on b k
-  set_shape_old (Field f) board many t = shape_same b (with_set b name axes) (Field f) refl (λ e. (refl, ap processor_count (ap (λ (x : DeclaredSet). x.axes) (or-push_before b.sets (record { name = name; axes = axes }) (record { name = []; axes = [] }) (field_at b f).set_no (known_set (length b.sets) b.fields f (record { name = []; set_no = 0; width = 0 }) board (less_than f (length b.fields) e))))))
+  set_shape_old (Field f) board many t = shape_same b (with_set b name axes) (Field f) refl (λ e. (refl, ap processor_count (ap (λ (x : DeclaredSet). x.axes) (or-push_before b.sets (record { name = name; axes = axes }) (record { name = []; axes = [] }) (declaration_at b f).set_no (known_set (length b.sets) b.fields f (record { name = []; set_no = 0; width = 0 }) board (less_than f (length b.fields) e))))))
   set_shape_old (Flag s flag) board many t =
       let same_length : length (with_set b name axes).sets ≡ length b.sets + 1 = length-push b.sets (record { name = name; axes = axes }) in
       let declared : nat_lt s (length (with_set b name axes).sets) ≡ nat_lt s (length b.sets) = ap (nat_lt s) same_length ∙ lt_next s (length b.sets) (λ e. apart_of s (length inputs.flags) t (e ∙ sym many)) in
@@ -299,7 +299,7 @@ module _ (b : Board) (n m : ℕ) (inputs : Inputs) (name : List ℕ) (set width 
   field_shape_old (Field f) many t =
       let long : length (with_field b name set width).fields ≡ length b.fields + 1 = length-push b.fields new_field in
       let declared : nat_lt f (length (with_field b name set width).fields) ≡ nat_lt f (length b.fields) = ap (nat_lt f) long ∙ lt_next f (length b.fields) (λ e. apart_of f (length inputs.fields) t (e ∙ sym many)) in
-      shape_same b (with_field b name set width) (Field f) declared (λ e. let at : field_at (with_field b name set width) f ≡ field_at b f = or-push_before b.fields new_field no_field f (less_than f (length b.fields) e) in (ap (λ (x : DeclaredField). x.width) at, ap (λ (x : DeclaredField). processor_count (axes_of b x.set_no)) at))
+      shape_same b (with_field b name set width) (Field f) declared (λ e. let at : declaration_at (with_field b name set width) f ≡ declaration_at b f = or-push_before b.fields new_field no_field f (less_than f (length b.fields) e) in (ap (λ (x : DeclaredField). x.width) at, ap (λ (x : DeclaredField). processor_count (axes_of b x.set_no)) at))
   field_shape_old (Flag s flag) many t = refl
 
   field_shape_new : (k : Key) → length inputs.fields ≡ length b.fields → is_new_field (length inputs.fields) k ≡ true → shape_on (with_field b name set width) k ≡ Some (width, processor_count (axes_of b set))
@@ -308,7 +308,7 @@ module _ (b : Board) (n m : ℕ) (inputs : Inputs) (name : List ℕ) (set width 
       let at : f ≡ length b.fields = eqb-true f (length inputs.fields) t ∙ many in
       let long : length (with_field b name set width).fields ≡ length b.fields + 1 = length-push b.fields new_field in
       let declared : nat_lt f (length (with_field b name set width).fields) ≡ true = lt_of f (length (with_field b name set width).fields) (omega (arith, at, long)) in
-      let there : field_at (with_field b name set width) f ≡ new_field = ap (λ i. get_or (b.fields ++ new_field ∷ []) i no_field) at ∙ or-push_last b.fields new_field no_field in
+      let there : declaration_at (with_field b name set width) f ≡ new_field = ap (λ i. get_or (b.fields ++ new_field ∷ []) i no_field) at ∙ or-push_last b.fields new_field no_field in
       let wide : width_of (with_field b name set width) (Field f) ≡ width = ap (λ (x : DeclaredField). x.width) there in
       let many : count_of (with_field b name set width) (Field f) ≡ processor_count (axes_of b set) = ap (λ (x : DeclaredField). processor_count (axes_of b x.set_no)) there in
       rw (declared, wide, many) refl

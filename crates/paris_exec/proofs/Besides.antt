@@ -11,7 +11,7 @@ use Rattle.paris_model.specs.declared.actions.Refusal.{Refusal}
 use Rattle.std.specs.Prelude.{unwrap_or}
 use Rattle.paris_model.specs.Frame.{World}
 use Rattle.paris_model.proofs.Counts.{after_count}
-use Rattle.paris_model.specs.Instructions.{Plan, reads, writes, key_width, value_at, after, outcome, outcome_in, refusal, given, held}
+use Rattle.paris_model.specs.Instructions.{Plan, reads, writes, key_width, value_at, after_plan, outcome, outcome_in, refusal, given, held}
 use Rattle.paris_model.proofs.Worlds.{refused_reads, value_at-map}
 use Rattle.paris_field.specs.Fields.{FieldNumbers}
 use Rattle.paris_exec.specs.Tasks.{Task, numbers_of, field_of, fits_key, fits_keys, fits, fields_of, told, task_outcome, task_value, beside}
@@ -100,9 +100,9 @@ outcome_holds t k h = by_refusal (refusal t.plan (value_at (reads t.plan) (numbe
     by_refusal : (o : Option Refusal) → refusal t.plan (value_at (reads t.plan) (numbers_of t.inputs)) ≡ o → HoldsAt t k (told t.plan (outcome_in t.plan (value_at (reads t.plan) (numbers_of t.inputs)) o))
     by_refusal None e =
         let w : World = value_at (reads t.plan) (numbers_of t.inputs) in (
-          field_of t.plan k (after t.plan w k),
-          beside_fields t.plan (writes t.plan) (after t.plan w) k h,
-          ap (field_of t.plan k) (sym (given_is t.plan (numbers_of t.inputs) k None e ∙ value_at-map (after t.plan w) (writes t.plan) k h)),
+          field_of t.plan k (after_plan t.plan w k),
+          beside_fields t.plan (writes t.plan) (after_plan t.plan w) k h,
+          ap (field_of t.plan k) (sym (given_is t.plan (numbers_of t.inputs) k None e ∙ value_at-map (after_plan t.plan w) (writes t.plan) k h)),
           after_count t.plan w k h,
         )
     by_refusal (Some cause) e =

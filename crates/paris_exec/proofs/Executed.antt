@@ -17,7 +17,7 @@ use Rattle.paris_model.specs.declared.actions.Operand.{Operand}
 use Rattle.paris_model.specs.declared.actions.Action.{Action}
 use Rattle.paris_model.specs.Fits.{IsFit}
 use Rattle.paris_model.specs.Frame.{World}
-use Rattle.paris_model.specs.Instructions.{Plan, reads, writes, key_width, width_among, operands, value_at, after, refusal, outcome, outcome_in}
+use Rattle.paris_model.specs.Instructions.{Plan, reads, writes, key_width, width_among, operands, value_at, after_plan, refusal, outcome, outcome_in}
 use Rattle.paris_model.proofs.Direct.{after_inputs_fit}
 use Rattle.paris_plain.specs.Plain.{Seen, frame_of_seen, is_flag, are_bits, flags_are_bits, unless_refused, plain_outcome}
 use Rattle.paris_field.specs.Fields.{FieldNumbers, AllFit}
@@ -96,10 +96,10 @@ or_true_rest true b e = refl
 or_true_rest false b e = e
 
 -- what a plan leaves at the keys that it writes fits them
-pub left_fit : (p : Plan) (xs : List FieldNumbers) → IsFit p.axes p.action → fits p xs ≡ true → AllNumbersFit xs → FitKeys p (writes p) (map (after p (value_at (reads p) (numbers_of xs))) (writes p))
+pub left_fit : (p : Plan) (xs : List FieldNumbers) → IsFit p.axes p.action → fits p xs ≡ true → AllNumbersFit xs → FitKeys p (writes p) (map (after_plan p (value_at (reads p) (numbers_of xs))) (writes p))
 left_fit p xs fit h all = each (writes p) (λ k written. written)
   where
-    each : (ks : List Key) → ((k : Key) → has_key ks k ≡ true → has_key (writes p) k ≡ true) → FitKeys p ks (map (after p (value_at (reads p) (numbers_of xs))) ks)
+    each : (ks : List Key) → ((k : Key) → has_key ks k ≡ true → has_key (writes p) k ≡ true) → FitKeys p ks (map (after_plan p (value_at (reads p) (numbers_of xs))) ks)
     each [] among = tt
     each (k ∷ ks) among = (
       key_narrow p k fit,
@@ -112,7 +112,7 @@ module _ (t : Task) where
   seen : World
   seen = value_at (reads t.plan) (numbers_of t.inputs)
 
-  outcome_by : (o : Option Refusal) → refusal t.plan seen ≡ o → (r : Result (List (List ℕ)) Refusal) → r ≡ unless_refused o (map (after t.plan seen) (writes t.plan)) → task_outcome t ≡ told t.plan r
+  outcome_by : (o : Option Refusal) → refusal t.plan seen ≡ o → (r : Result (List (List ℕ)) Refusal) → r ≡ unless_refused o (map (after_plan t.plan seen) (writes t.plan)) → task_outcome t ≡ told t.plan r
   unfolding outcome seen
   outcome_by None e r is = ap (λ o. told t.plan (outcome_in t.plan seen o)) e ∙ ap (told t.plan) (sym is)
   outcome_by (Some cause) e r is = ap (λ o. told t.plan (outcome_in t.plan seen o)) e ∙ ap (told t.plan) (sym is)
@@ -133,10 +133,10 @@ answered t p xs x i ks r is seen_is action_is keys_are plan_is inputs_are =
     is ∙ rw (seen_is, action_is, keys_are, inputs_are, plan_is) refl
 
 pub lists_given : (t : Task) (r : Result (List (List ℕ)) Refusal) (lists : List (List ℕ)) → r ≡ plain_outcome (frame_of_seen (seen_by t.plan t.inputs)) t.plan.action (writes t.plan) → r ≡ Ok lists
-    → lists ≡ map (after t.plan (value_at (reads t.plan) (numbers_of t.inputs))) (writes t.plan)
+    → lists ≡ map (after_plan t.plan (value_at (reads t.plan) (numbers_of t.inputs))) (writes t.plan)
 lists_given t r lists is ok =
     let w = value_at (reads t.plan) (numbers_of t.inputs) in
-    lists_left (refusal t.plan w) (map (after t.plan w) (writes t.plan)) lists (sym ok ∙ is)
+    lists_left (refusal t.plan w) (map (after_plan t.plan w) (writes t.plan)) lists (sym ok ∙ is)
 
 -- one value more of those at keys
 fields_next : (p : Plan) (ks : List Key) (xs : List (List ℕ)) (i : ℕ) (k : Key) (x : List ℕ) → i < length ks → length xs ≡ length ks
@@ -179,4 +179,4 @@ fit_more xs i x within at here before = rw (take_more xs i x within) (All-push F
 pub direct_outcome : (t : Task) (xs : List FieldNumbers) → refusal t.plan (seen_at t) ≡ None → xs ≡ left_values t → Values xs ≡ task_outcome t
 direct_outcome t xs direct is =
     ap Values is
-    ∙ sym (outcome_given t (Ok (map (after t.plan (seen_at t)) (writes t.plan))) (ap (λ o. unless_refused o (map (after t.plan (seen_at t)) (writes t.plan))) (sym direct)))
+    ∙ sym (outcome_given t (Ok (map (after_plan t.plan (seen_at t)) (writes t.plan))) (ap (λ o. unless_refused o (map (after_plan t.plan (seen_at t)) (writes t.plan))) (sym direct)))

@@ -24,7 +24,7 @@ use Rattle.std.proofs.lemmas.List.{get_or-replicate, length-replicate}
 use lib.Pow.{pow_pos}
 use Rattle.paris_model.specs.declared.operators.UnaryOperator.TheVariants.{Move}
 use Rattle.paris_model.specs.Fits.{IsFit, is_wide, is_bad_length, has_bad_length, has_bad_operand, unconditional_bad_operand, have_field_widths}
-use Rattle.paris_model.specs.Instructions.{reads, writes, key_width, after, after_in, target_keys, source_keys, read_keys, stores_all_bits, operands, width_among}
+use Rattle.paris_model.specs.Instructions.{reads, writes, key_width, after_plan, after_in, target_keys, source_keys, read_keys, stores_all_bits, operands, width_among}
 use Rattle.paris_model.proofs.Direct.{value_at-unread}
 use Rattle.paris_model.proofs.Widths.{key_width-is, width_first, some_width, index_below}
 use Rattle.paris_model.proofs.Worlds.{or_false_first, or_false_second, or_true_second, reads_sources, reads_targets, reads_keys}
@@ -68,7 +68,7 @@ module _ (t : Task) (i : Unconditional Operand ℕ) (acts : t.plan.action ≡ On
 
   pub left_alone : left_values t ≡ field_of t.plan k (unconditional_after (frame_at t) i k) ∷ []
   left_alone =
-      ap (λ js. fields_of t.plan js (map (after t.plan (seen_at t)) js)) writes_one
+      ap (λ js. fields_of t.plan js (map (after_plan t.plan (seen_at t)) js)) writes_one
       ∙ ap (λ a. field_of t.plan k (after_in (frame_at t) a k) ∷ []) acts
 
   -- bits that are stored whole

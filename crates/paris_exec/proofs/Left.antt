@@ -24,7 +24,7 @@ use Rattle.paris_model.specs.Store.{low, bit, everywhere, stored}
 use Rattle.paris_model.specs.Elementwise.{binary_result, binary_flags, binary_carry, binary_overflow, unary_result, unary_flags, unary_overflow, resize_result, resize_overflow, compares}
 use Rattle.paris_model.specs.Frame.{at, low_at, field_at, flag_at, is_selected, put_selected}
 use Rattle.paris_model.specs.Conditional.{conditional_after, conditional_source_flags}
-use Rattle.paris_model.specs.Instructions.{reads, writes, after, after_in, target_keys, source_keys, source_fields, source_flags, field_keys, flag_keys, stores_all_bits}
+use Rattle.paris_model.specs.Instructions.{reads, writes, after_plan, after_in, target_keys, source_keys, source_fields, source_flags, field_keys, flag_keys, stores_all_bits}
 use Rattle.paris_model.proofs.Stores.{everywhere-same, everywhere-at}
 use Rattle.paris_model.proofs.Worlds.{has_key-append, or_true_second, reads_sources, reads_targets}
 use Rattle.paris_field.specs.Fields.{FieldNumbers}
@@ -85,7 +85,7 @@ module _ (t : Task) (i : Conditional Operand ℕ) (acts : t.plan.action ≡ OnSe
       (has_key-append (field_keys (source_fields (OnSelected i))) (flag_keys t.plan.set_no (source_flags (OnSelected i))) (Flag t.plan.set_no Context)
       ∙ or_true_second _ _ (context_flag t.plan.set_no i))
 
-  pub after_selected : (k : Key) → after t.plan (seen_at t) k ≡ conditional_after (frame_at t) i k
+  pub after_selected : (k : Key) → after_plan t.plan (seen_at t) k ≡ conditional_after (frame_at t) i k
   after_selected k = ap (λ a. after_in (frame_at t) a k) acts
 
   pub writes_in_order : writes t.plan ≡ in_order (target_keys t.plan.set_no (OnSelected i))
@@ -93,8 +93,8 @@ module _ (t : Task) (i : Conditional Operand ℕ) (acts : t.plan.action ≡ OnSe
   writes_in_order = ap (λ a. in_order (target_keys t.plan.set_no a)) acts
 
   -- the values that are left, where the keys that are written are known
-  left_at : (ks : List Key) → in_order (target_keys t.plan.set_no (OnSelected i)) ≡ ks → left_values t ≡ fields_of t.plan ks (map (after t.plan (seen_at t)) ks)
-  left_at ks e = ap (λ js. fields_of t.plan js (map (after t.plan (seen_at t)) js)) (writes_in_order ∙ e)
+  left_at : (ks : List Key) → in_order (target_keys t.plan.set_no (OnSelected i)) ≡ ks → left_values t ≡ fields_of t.plan ks (map (after_plan t.plan (seen_at t)) ks)
+  left_at ks e = ap (λ js. fields_of t.plan js (map (after_plan t.plan (seen_at t)) js)) (writes_in_order ∙ e)
 
   pub left_one : (k : Key) (x : FieldNumbers) → target_keys t.plan.set_no (OnSelected i) ≡ k ∷ [] → put_value t k x ≡ field_of t.plan k (conditional_after (frame_at t) i k) → put_value t k x ∷ [] ≡ left_values t
   left_one k x targets is =
@@ -115,7 +115,7 @@ module _ (t : Task) (i : Conditional Operand ℕ) (acts : t.plan.action ≡ OnSe
       → put_value t (Field d) x ∷ put_value t (Flag t.plan.set_no Overflow) y ∷ [] ≡ left_values t
   left_two x y targets first second =
       ap (λ z. z ∷ put_value t (Flag t.plan.set_no Overflow) y ∷ []) (first ∙ ap (field_of t.plan (Field d)) (sym (after_selected t i acts (Field d))))
-      ∙ ap (λ z. field_of t.plan (Field d) (after t.plan (seen_at t) (Field d)) ∷ z ∷ []) (second ∙ ap (field_of t.plan (Flag t.plan.set_no Overflow)) (sym (after_selected t i acts (Flag t.plan.set_no Overflow))))
+      ∙ ap (λ z. field_of t.plan (Field d) (after_plan t.plan (seen_at t) (Field d)) ∷ z ∷ []) (second ∙ ap (field_of t.plan (Flag t.plan.set_no Overflow)) (sym (after_selected t i acts (Flag t.plan.set_no Overflow))))
       ∙ sym (left_at t i acts (Field d ∷ Flag t.plan.set_no Overflow ∷ []) (ap in_order targets ∙ in_order_two d t.plan.set_no Overflow))
 
   pub left_three : (x y z : FieldNumbers) → target_keys t.plan.set_no (OnSelected i) ≡ Field d ∷ Flag t.plan.set_no Carry ∷ Flag t.plan.set_no Overflow ∷ []
@@ -125,8 +125,8 @@ module _ (t : Task) (i : Conditional Operand ℕ) (acts : t.plan.action ≡ OnSe
       → put_value t (Field d) x ∷ put_value t (Flag t.plan.set_no Carry) y ∷ put_value t (Flag t.plan.set_no Overflow) z ∷ [] ≡ left_values t
   left_three x y z targets first second third =
       ap (λ w. w ∷ put_value t (Flag t.plan.set_no Carry) y ∷ put_value t (Flag t.plan.set_no Overflow) z ∷ []) (first ∙ ap (field_of t.plan (Field d)) (sym (after_selected t i acts (Field d))))
-      ∙ ap (λ w. field_of t.plan (Field d) (after t.plan (seen_at t) (Field d)) ∷ w ∷ put_value t (Flag t.plan.set_no Overflow) z ∷ []) (second ∙ ap (field_of t.plan (Flag t.plan.set_no Carry)) (sym (after_selected t i acts (Flag t.plan.set_no Carry))))
-      ∙ ap (λ w. field_of t.plan (Field d) (after t.plan (seen_at t) (Field d)) ∷ field_of t.plan (Flag t.plan.set_no Carry) (after t.plan (seen_at t) (Flag t.plan.set_no Carry)) ∷ w ∷ []) (third ∙ ap (field_of t.plan (Flag t.plan.set_no Overflow)) (sym (after_selected t i acts (Flag t.plan.set_no Overflow))))
+      ∙ ap (λ w. field_of t.plan (Field d) (after_plan t.plan (seen_at t) (Field d)) ∷ w ∷ put_value t (Flag t.plan.set_no Overflow) z ∷ []) (second ∙ ap (field_of t.plan (Flag t.plan.set_no Carry)) (sym (after_selected t i acts (Flag t.plan.set_no Carry))))
+      ∙ ap (λ w. field_of t.plan (Field d) (after_plan t.plan (seen_at t) (Field d)) ∷ field_of t.plan (Flag t.plan.set_no Carry) (after_plan t.plan (seen_at t) (Flag t.plan.set_no Carry)) ∷ w ∷ []) (third ∙ ap (field_of t.plan (Flag t.plan.set_no Overflow)) (sym (after_selected t i acts (Flag t.plan.set_no Overflow))))
       ∙ sym (left_at t i acts (Field d ∷ Flag t.plan.set_no Carry ∷ Flag t.plan.set_no Overflow ∷ []) (ap in_order targets ∙ in_order_three d t.plan.set_no))
 
 -- what is put

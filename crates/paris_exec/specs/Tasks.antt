@@ -7,7 +7,7 @@ use Rattle.paris_names.specs.Keys.{key_eq}
 use Rattle.paris_geometry.specs.Geometry.{processor_count}
 use Rattle.paris_model.specs.declared.actions.Refusal.{Refusal}
 use Rattle.paris_model.specs.Frame.{Frame, World, put_selected}
-use Rattle.paris_model.specs.Instructions.{Plan, reads, writes, key_width, value_at, frame_of, after, outcome, given}
+use Rattle.paris_model.specs.Instructions.{Plan, reads, writes, key_width, value_at, frame_of, after_plan, outcome, given}
 use Rattle.paris_field.specs.Fields.{FieldNumbers}
 use Rattle.paris_exec.specs.declared.orders.Outcome.{Outcome}
 use Rattle.paris_exec.specs.declared.orders.Outcome.TheVariants.{Values, Refused}
@@ -75,7 +75,7 @@ frame_at t = frame_of t.plan (seen_at t)
 
 -- the values at the keys that it writes, where the instruction isn't refused
 abbrev pub left_values : Task → List FieldNumbers
-left_values t = fields_of t.plan (writes t.plan) (map (after t.plan (seen_at t)) (writes t.plan))
+left_values t = fields_of t.plan (writes t.plan) (map (after_plan t.plan (seen_at t)) (writes t.plan))
 
 -- the value at a key after the selected processors have put new numbers into its low bits
 abbrev pub put_value : Task → Key → FieldNumbers → FieldNumbers

@@ -9,7 +9,7 @@ use Rattle.std.proofs.lemmas.List.{get_or-take, length-take-le, length-map, get_
 use Rattle.std.proofs.lemmas.List.Elements.{All-from_get_or}
 use Rattle.paris_model.specs.Store.{bit}
 use Rattle.paris_field.specs.Fields.{FieldNumbers, AllFit, field_eq, overwritten}
-use Rattle.paris_field.specs.Numbers.{AllOf, bit_in, field_of, number_at, numbers, plane_at}
+use Rattle.paris_field.specs.Numbers.{AllOf, bit_in, value_of_planes, number_at, numbers, plane_at}
 use Rattle.paris_field.proofs.Numbers.{number_at_lt, same_numbers}
 use Rattle.paris_field.proofs.Lists.{count_of, number_of, numbers_are}
 
@@ -17,22 +17,22 @@ use Rattle.paris_field.proofs.Lists.{count_of, number_of, numbers_are}
 made : ℕ → List ℕ → FieldNumbers
 made width list = record { width = width; numbers = list }
 
-pub width_is : (n : ℕ) (ps : List (List Bool)) {f : FieldNumbers} → field_of n ps ≡ f → length ps ≡ f.width
+pub width_is : (n : ℕ) (ps : List (List Bool)) {f : FieldNumbers} → value_of_planes n ps ≡ f → length ps ≡ f.width
 width_is n ps is = ap (λ (f : FieldNumbers). f.width) is
 
-pub vps_is : (n : ℕ) (ps : List (List Bool)) {f : FieldNumbers} → field_of n ps ≡ f → length f.numbers ≡ n
+pub vps_is : (n : ℕ) (ps : List (List Bool)) {f : FieldNumbers} → value_of_planes n ps ≡ f → length f.numbers ≡ n
 vps_is n ps is = count_of ps (ap (λ (f : FieldNumbers). f.numbers) is)
 
-pub at_is : (n : ℕ) (ps : List (List Bool)) {f : FieldNumbers} → field_of n ps ≡ f → (v : ℕ) → v < n → number_at ps v ≡ get_or f.numbers v 0
+pub at_is : (n : ℕ) (ps : List (List Bool)) {f : FieldNumbers} → value_of_planes n ps ≡ f → (v : ℕ) → v < n → number_at ps v ≡ get_or f.numbers v 0
 at_is n ps is v h = sym (number_of ps (ap (λ (f : FieldNumbers). f.numbers) is) v h)
 
-pub value_is : (n w : ℕ) (ps : List (List Bool)) (xs : List ℕ) → length ps ≡ w → length xs ≡ n → ((v : ℕ) → v < n → number_at ps v ≡ get_or xs v 0) → field_of n ps ≡ record { width = w; numbers = xs }
+pub value_is : (n w : ℕ) (ps : List (List Bool)) (xs : List ℕ) → length ps ≡ w → length xs ≡ n → ((v : ℕ) → v < n → number_at ps v ≡ get_or xs v 0) → value_of_planes n ps ≡ record { width = w; numbers = xs }
 unfolding made
 value_is n w ps xs width long each =
     ap (λ k. made k (numbers n ps)) width ∙ ap (made w) (numbers_are n ps xs long each)
 
 -- each number fits the width
-pub all_fit : (n : ℕ) (ps : List (List Bool)) {f : FieldNumbers} → field_of n ps ≡ f → AllFit f.width f.numbers
+pub all_fit : (n : ℕ) (ps : List (List Bool)) {f : FieldNumbers} → value_of_planes n ps ≡ f → AllFit f.width f.numbers
 all_fit n ps {f} is =
     All-from_get_or (λ x. x < 2 ^ f.width) f.numbers 0 (λ v h.
     let below : number_at ps v < 2 ^ f.width = subst (λ w. number_at ps v < 2 ^ w) (width_is n ps is) (number_at_lt ps v) in
@@ -69,31 +69,31 @@ alone (p ∷ q ∷ ps) e = absurd (omega (arith, e))
 bits_of_plane : (p : List Bool) (v : ℕ) → v < length p → bit_in p v ≡ get_or (map bit p) v 0
 bits_of_plane p v h = sym (get_or-map bit p v false 0 h)
 
-pub one_plane_is : (p : List Bool) → field_of (length p) (p ∷ []) ≡ record { width = 1; numbers = map bit p }
+pub one_plane_is : (p : List Bool) → value_of_planes (length p) (p ∷ []) ≡ record { width = 1; numbers = map bit p }
 one_plane_is p = value_is (length p) 1 (p ∷ []) (map bit p) refl (length-map p bit) (λ v h. one_plane p v ∙ bits_of_plane p v h)
 
-pub mask_is : (n : ℕ) (ps : List (List Bool)) {f : FieldNumbers} (p : List Bool) → field_of n ps ≡ f → length ps ≡ 1 → p ≡ plane_at ps 0 → length p ≡ n → map bit p ≡ f.numbers
+pub mask_is : (n : ℕ) (ps : List (List Bool)) {f : FieldNumbers} (p : List Bool) → value_of_planes n ps ≡ f → length ps ≡ 1 → p ≡ plane_at ps 0 → length p ≡ n → map bit p ≡ f.numbers
 mask_is n ps {f} p is one at long =
     let single : ps ≡ p ∷ [] = alone ps one ∙ ap (λ q. q ∷ []) (sym at) in
     sym (numbers_are n ps (map bit p) (length-map p bit ∙ long) (λ v h. ap (λ l. number_at l v) single ∙ one_plane p v ∙ bits_of_plane p v (omega arith)))
     ∙ ap (λ (f : FieldNumbers). f.numbers) is
 
 -- two values of as many processors are equal where their planes are
-pub same_fields : (n m : ℕ) (ps qs : List (List Bool)) (f g : FieldNumbers) → field_of n ps ≡ f → field_of m qs ≡ g → n ≡ m → AllOf n ps → AllOf m qs → f ≡ g → ps ≡ qs
+pub same_fields : (n m : ℕ) (ps qs : List (List Bool)) (f g : FieldNumbers) → value_of_planes n ps ≡ f → value_of_planes m qs ≡ g → n ≡ m → AllOf n ps → AllOf m qs → f ≡ g → ps ≡ qs
 same_fields n m ps qs f g is_f is_g same all_ps all_qs e =
     same_numbers n ps qs all_ps (all_of m n qs qs refl (sym same) all_qs)
     (width_is n ps is_f ∙ ap (λ (h : FieldNumbers). h.width) e ∙ sym (width_is m qs is_g))
     (λ v h. at_is n ps is_f v h ∙ ap (λ (x : FieldNumbers). get_or x.numbers v 0) e ∙ sym (at_is m qs is_g v (omega arith)))
 
-pub equal_fields : (n m : ℕ) (ps qs : List (List Bool)) (f g : FieldNumbers) → field_of n ps ≡ f → field_of m qs ≡ g → n ≡ m → ps ≡ qs → f ≡ g
+pub equal_fields : (n m : ℕ) (ps qs : List (List Bool)) (f g : FieldNumbers) → value_of_planes n ps ≡ f → value_of_planes m qs ≡ g → n ≡ m → ps ≡ qs → f ≡ g
 equal_fields n m ps qs f g is_f is_g same e =
-    sym is_f ∙ ap (field_of n) e ∙ ap (λ k. field_of k qs) same ∙ is_g
+    sym is_f ∙ ap (value_of_planes n) e ∙ ap (λ k. value_of_planes k qs) same ∙ is_g
 
-pub same_vps : (n m : ℕ) (ps qs : List (List Bool)) (f g : FieldNumbers) → field_of n ps ≡ f → field_of m qs ≡ g → f ≡ g → n ≡ m
+pub same_vps : (n m : ℕ) (ps qs : List (List Bool)) (f g : FieldNumbers) → value_of_planes n ps ≡ f → value_of_planes m qs ≡ g → f ≡ g → n ≡ m
 same_vps n m ps qs f g is_f is_g e =
     sym (vps_is n ps is_f) ∙ ap (λ (x : FieldNumbers). length x.numbers) e ∙ vps_is m qs is_g
 
-pub same_width : (n m : ℕ) (ps qs : List (List Bool)) (f g : FieldNumbers) → field_of n ps ≡ f → field_of m qs ≡ g → f ≡ g → length ps ≡ length qs
+pub same_width : (n m : ℕ) (ps qs : List (List Bool)) (f g : FieldNumbers) → value_of_planes n ps ≡ f → value_of_planes m qs ≡ g → f ≡ g → length ps ≡ length qs
 same_width n m ps qs f g is_f is_g e =
     width_is n ps is_f ∙ ap (λ (x : FieldNumbers). x.width) e ∙ sym (width_is m qs is_g)
 

@@ -25,5 +25,5 @@ abbrev pub AllOf : ℕ → List (List Bool) → Type 0
 AllOf n planes = (k : ℕ) → k < length planes → length (plane_at planes k) ≡ n
 
 -- the value of n processors whose bits are these planes
-abbrev pub field_of : ℕ → List (List Bool) → FieldNumbers
-field_of n planes = record { width = length planes; numbers = numbers n planes }
+abbrev pub value_of_planes : ℕ → List (List Bool) → FieldNumbers
+value_of_planes n planes = record { width = length planes; numbers = numbers n planes }

@@ -3,7 +3,7 @@
 ghost use Rattle.std.specs.Prelude.{◌≡◌, ◌↔◌, ℕ, ◌<◌, ◌≤◌, ◌+◌, ◌/◌, ◌%◌, ◌^◌, IfOk, IsTrue, None, false, length, map, nat_le, position, replicate, slice_index, slice_index_or};
 ghost use Rattle.paris_model.specs.Store.{bit, everywhere, low, stored};
 ghost use Rattle.paris_field.specs.Fields.{AllFit, field_eq, overwritten};
-ghost use Rattle.paris_field.specs.Numbers.{AllOf, bit_in, field_of, number_at};
+ghost use Rattle.paris_field.specs.Numbers.{AllOf, bit_in, value_of_planes, number_at};
 
 use crate::blocks::{numbers_in, put_all};
 use crate::planes::{
@@ -24,11 +24,11 @@ pub struct FieldValue {
 impl Model for FieldValue {
     ghost use Rattle.std.specs.Prelude.{◌≤◌, length};
     ghost use Rattle.paris_field.specs.Fields.{FieldNumbers};
-    ghost use Rattle.paris_field.specs.Numbers.{AllOf, field_of};
+    ghost use Rattle.paris_field.specs.Numbers.{AllOf, value_of_planes};
 
     ghost Value = { FieldNumbers };
 
-    ghost view = { λ a. field_of a.vps a.planes.items };
+    ghost view = { λ a. value_of_planes a.vps a.planes.items };
 
     ghost invariant = { λ a. (length a.planes.items ≤ 128) × AllOf a.vps a.planes.items };
 }
@@ -106,7 +106,7 @@ impl FieldValue {
     pub fn from_planes(planes: Vec<Plane>, vps: usize) -> FieldValue
         requires narrow { length planes.items ≤ 128 }
         requires long { AllOf vps planes.items }
-        ensures { result ≡ field_of vps planes.items }
+        ensures { result ≡ value_of_planes vps planes.items }
     {
         FieldValue { planes, vps }
     }
@@ -202,7 +202,7 @@ impl FieldValue {
     pub fn planes(&self) -> &[Plane]
         ensures count { length result.now ≡ self.now.width }
         ensures long { AllOf (length self.now.numbers) result.now }
-        ensures value { field_of (length self.now.numbers) result.now ≡ self.now }
+        ensures value { value_of_planes (length self.now.numbers) result.now ≡ self.now }
         ensures at { (v : ℕ) → v < length self.now.numbers → number_at result.now v ≡ slice_index self.now.numbers v }
     {
         self.planes.as_slice()

@@ -2,5 +2,5 @@
 use Rattle.std.specs.Prelude.{ℕ, ◌-◌, List, ◌++◌, length, replicate}
 
 -- the lengths of the axes in their buffer
-abbrev pub padded : List ℕ → List ℕ
-padded axes = axes ++ replicate (4 - length axes) 0
+abbrev pub axes_buffer : List ℕ → List ℕ
+axes_buffer axes = axes ++ replicate (4 - length axes) 0

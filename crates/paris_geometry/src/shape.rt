@@ -23,15 +23,15 @@ impl Model for Geometry {
     ghost use Rattle.paris_names.specs.declared.limits.TheConstants.{MAX_AXES};
     ghost use Rattle.std.specs.Prelude.{◌≡◌, ℕ, ◌≤◌, List, length, take, true};
     ghost use Rattle.paris_geometry.specs.Geometry.{is_geometry};
-    ghost use Rattle.paris_geometry.specs.Buffer.{padded};
+    ghost use Rattle.paris_geometry.specs.Buffer.{axes_buffer};
 
     ghost Value = { List ℕ };
 
     ghost view = { λ g. take g.count g.lengths };
 
-    ghost invariant = { λ g. (g.count ≤ MAX_AXES) × (g.lengths ≡ padded (take g.count g.lengths)) × (is_geometry (take g.count g.lengths) ≡ true) };
+    ghost invariant = { λ g. (g.count ≤ MAX_AXES) × (g.lengths ≡ axes_buffer (take g.count g.lengths)) × (is_geometry (take g.count g.lengths) ≡ true) };
 
-    ghost inverse = { λ axes. record { lengths = padded axes; count = length axes } };
+    ghost inverse = { λ axes. record { lengths = axes_buffer axes; count = length axes } };
 
     ghost use Rattle.paris_geometry.specs.GeometryFields.{geometry_fields};
 

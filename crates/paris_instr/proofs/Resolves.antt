@@ -11,7 +11,7 @@ use Rattle.paris_names.specs.declared.keys.Key.{Key}
 use Rattle.paris_names.specs.declared.keys.Key.TheVariants.{Field, Flag}
 use Rattle.paris_names.specs.Keys.{flag_place, has_key, key_eq}
 use Rattle.paris_geometry.specs.Geometry.{processor_count}
-use Rattle.paris_board.specs.Board.{Board, field_at, axes_of, is_declared, width_of, count_of}
+use Rattle.paris_board.specs.Board.{Board, declaration_at, axes_of, is_declared, width_of, count_of}
 use Rattle.paris_model.specs.declared.actions.Operand.{Operand}
 use Rattle.paris_model.specs.declared.actions.Action.{Action}
 use Rattle.paris_model.specs.Instructions.{Plan, operands, read_keys, source_keys, target_keys, field_keys, flag_keys, target_fields, target_flags, source_fields, source_flags, stores_all_bits, key_width, width_among}
@@ -34,8 +34,8 @@ have_widths b (o ∷ os) known =
 -- a field among the operands of one set
 record IsFieldAmong (b : Board) (s : ℕ) (os : List Operand) (f : ℕ) : Type 0 where
   declared : is_declared b (Field f) ≡ true
-  width : (field_at b f).width ≡ width_among os f
-  set_no : (field_at b f).set_no ≡ s
+  width : (declaration_at b f).width ≡ width_among os f
+  set_no : (declaration_at b f).set_no ≡ s
 
 among : (b : Board) (s : ℕ) (os : List Operand) (f : ℕ) → AreOperandsOf b os → list_all (λ o. set_of_operand b o == s) os ≡ true → has_key (field_keys os) (Field f) ≡ true → IsFieldAmong b s os f
 among b s [] f known same h = absurd (let e : false ≡ true = h in cc)
@@ -50,8 +50,8 @@ among b s (o ∷ os) f known same h =
         let P : ℕ → Type 0 = λ x. is_declared b (Field x) ≡ true in
         record {
           declared = subst P (sym here) of_board.0;
-          width = ap (λ x. (field_at b x).width) here ∙ ap (λ (x : Operand). x.width) (sym of_board.1) ∙ rw (eq-eqb o.field f (sym here)) refl;
-          set_no = ap (λ x. (field_at b x).set_no) here ∙ of_set;
+          width = ap (λ x. (declaration_at b x).width) here ∙ ap (λ (x : Operand). x.width) (sym of_board.1) ∙ rw (eq-eqb o.field f (sym here)) refl;
+          set_no = ap (λ x. (declaration_at b x).set_no) here ∙ of_set;
         }
     by_first rest false e g =
         let later = rest g in

@@ -36,9 +36,9 @@ known q [] = []
 known q (r ∷ rs) = record { row = r; before = Some (row_recipe q r) } ∷ known (past_row q r) rs
 
 -- whether a row was there before with this recipe
-abbrev pub is_kept : Option Recipe → Recipe → Bool
-is_kept None q = false
-is_kept (Some p) q = same p q
+abbrev pub had_recipe : Option Recipe → Recipe → Bool
+had_recipe None q = false
+had_recipe (Some p) q = same p q
 
 -- a row made unsettled by the edit of this number
 abbrev pub unsettled : ℕ → Row → Row
@@ -47,7 +47,7 @@ unsettled n r = record r { edition = record { 0 = n }; status = Waiting }
 -- the rows after an edit: a row that was there with the same recipe keeps edition and status, every other one waits
 abbrev pub judged : ℕ → (Key → Recipe) → List Known → List Row
 judged n q [] = []
-judged n q (k ∷ ks) = (if is_kept k.before (row_recipe q k.row) then k.row else unsettled n k.row) ∷ judged n (past_row q k.row) ks
+judged n q (k ∷ ks) = (if had_recipe k.before (row_recipe q k.row) then k.row else unsettled n k.row) ∷ judged n (past_row q k.row) ks
 
 abbrev pub known_rows : State → List Known
 known_rows s = known (start_recipe s.inputs) s.rows

@@ -15,7 +15,7 @@ use Rattle.paris_model.specs.Frame.{Frame, World, put_where}
 use Rattle.paris_model.specs.Conditional.{conditional_after}
 use Rattle.paris_model.specs.News.{news_after}
 use Rattle.paris_model.specs.Mail.{mail_after, mail_of, delivered, gets_mail, notified}
-use Rattle.paris_model.specs.Instructions.{Plan, writes, target_keys, after, after_in, frame_of}
+use Rattle.paris_model.specs.Instructions.{Plan, writes, target_keys, after_plan, after_in, frame_of}
 use Rattle.paris_model.proofs.Stores.{length-everywhere}
 use Rattle.paris_model.proofs.Worlds.{writes_targets}
 
@@ -62,5 +62,5 @@ action_count m (AlongLine i) (Field f) t = length-everywhere (processor_count m.
 action_count m (AlongLine i) (Flag s flag) t = length-everywhere (processor_count m.axes) _
 action_count m (ByMail i) k t = mail_count m i k t
 
-pub after_count : (p : Plan) (w : World) (k : Key) → has_key (writes p) k ≡ true → length (after p w k) ≡ processor_count p.axes
+pub after_count : (p : Plan) (w : World) (k : Key) → has_key (writes p) k ≡ true → length (after_plan p w k) ≡ processor_count p.axes
 after_count p w k t = action_count (frame_of p w) p.action k (sym (writes_targets p k) ∙ t)

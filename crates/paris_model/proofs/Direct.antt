@@ -16,7 +16,7 @@ use Rattle.paris_model.specs.declared.actions.Action.TheVariants.{OnSelected, On
 use Rattle.paris_model.specs.Frame.{World}
 use Rattle.paris_model.specs.Unconditional.{unconditional_length, is_overwrite}
 use Rattle.paris_model.specs.Fits.{IsFit, unconditional_bad_operand, have_field_widths}
-use Rattle.paris_model.specs.Instructions.{Plan, reads, writes, operands, key_width, source_keys, source_fields, source_flags, target_keys, read_keys, field_keys, flag_keys, stores_all_bits, value_at, refusal, refusal_in, after, after_in, outcome, outcome_in, with_outcome, one}
+use Rattle.paris_model.specs.Instructions.{Plan, reads, writes, operands, key_width, source_keys, source_fields, source_flags, target_keys, read_keys, field_keys, flag_keys, stores_all_bits, value_at, refusal, refusal_in, after_plan, after_in, outcome, outcome_in, with_outcome, one}
 use Rattle.paris_model.specs.Laws.{FitsAt, ReadsFit, AgreeOnReads, UnreadFit}
 use Rattle.paris_model.proofs.Worlds.{has_key-append, or_true_second, reads_keys, writes_targets, value_at-map}
 use Rattle.paris_model.proofs.Widths.{HaveBits, width_in, width_first, key_width-is, some_width, is_target, after_fits}
@@ -99,7 +99,7 @@ action_refusal s axes w w' (ByMail i) same = refusal_same s axes w w' i (same_fi
 pub refusal_depends : (p : Plan) (w w' : World) → AgreeOnReads p w w' → refusal p w ≡ refusal p w'
 refusal_depends p w w' same = action_refusal p.set_no p.axes w w' p.action (λ j t. same j (reads_keys p j ∙ t))
 
-pub after_depends : (p : Plan) (w w' : World) → IsFit p.axes p.action → AgreeOnReads p w w' → UnreadFit p w → UnreadFit p w' → (k : Key) → has_key (writes p) k ≡ true → after p w k ≡ after p w' k
+pub after_depends : (p : Plan) (w w' : World) → IsFit p.axes p.action → AgreeOnReads p w w' → UnreadFit p w → UnreadFit p w' → (k : Key) → has_key (writes p) k ≡ true → after_plan p w k ≡ after_plan p w' k
 after_depends p w w' fit same unread unread' k t =
     action_same p.set_no p.axes w w' p.action k same_there
     (λ whole h. let e : has_key (reads p) k ≡ false = reads_keys p k ∙ h in
@@ -113,7 +113,7 @@ after_depends p w w' fit same unread unread' k t =
     target = sym (writes_targets p k) ∙ t
 
 -- what is read is all that matters to an instruction that leaves bits of what it writes
-after_depends_kept : (p : Plan) (w w' : World) → stores_all_bits p.action ≡ false → AgreeOnReads p w w' → (k : Key) → has_key (writes p) k ≡ true → after p w k ≡ after p w' k
+after_depends_kept : (p : Plan) (w w' : World) → stores_all_bits p.action ≡ false → AgreeOnReads p w w' → (k : Key) → has_key (writes p) k ≡ true → after_plan p w k ≡ after_plan p w' k
 after_depends_kept p w w' kept same k t =
     action_same p.set_no p.axes w w' p.action k (λ j h. same j (reads_keys p j ∙ h))
     (λ whole h. absurd (let x : true ≡ false = sym whole ∙ kept in cc))
@@ -134,7 +134,7 @@ pub inputs_unread : (p : Plan) (inputs : List (List ℕ)) → UnreadFit p (value
 inputs_unread p inputs k t e = subst (λ xs. HaveBits (key_width p k) xs) (sym (value_at-unread (reads p) inputs k e)) (λ j d h. absurd (omega arith))
 
 -- what a fit plan leaves fits, where its inputs do
-pub after_inputs_fit : (p : Plan) (inputs : List (List ℕ)) → IsFit p.axes p.action → ReadsFit p (value_at (reads p) inputs) → (k : Key) → has_key (writes p) k ≡ true → FitsAt p (after p (value_at (reads p) inputs)) k × (length (after p (value_at (reads p) inputs) k) ≡ processor_count p.axes)
+pub after_inputs_fit : (p : Plan) (inputs : List (List ℕ)) → IsFit p.axes p.action → ReadsFit p (value_at (reads p) inputs) → (k : Key) → has_key (writes p) k ≡ true → FitsAt p (after_plan p (value_at (reads p) inputs)) k × (length (after_plan p (value_at (reads p) inputs) k) ≡ processor_count p.axes)
 after_inputs_fit p inputs fit at_reads k t = after_fits p (value_at (reads p) inputs) fit at_reads (inputs_unread p inputs) k t
 
 -- what a plan reads of a world, and nothing else
@@ -144,18 +144,18 @@ seen_of p w = value_at (reads p) (map w (reads p))
 seen_agrees : (p : Plan) (w : World) → AgreeOnReads p (seen_of p w) w
 seen_agrees p w j h = value_at-map w (reads p) j h
 
-one_of_seen : (p : Plan) (w : World) → refusal p w ≡ None → (k : Key) → has_key (writes p) k ≡ true → one p w k ≡ after p (seen_of p w) k
+one_of_seen : (p : Plan) (w : World) → refusal p w ≡ None → (k : Key) → has_key (writes p) k ≡ true → one p w k ≡ after_plan p (seen_of p w) k
 unfolding one outcome
 one_of_seen p w e k t =
     ap (λ o. with_outcome (outcome_in p (seen_of p w) o) p w k) (refusal_depends p (seen_of p w) w (seen_agrees p w) ∙ e)
-    ∙ ap (λ b. cond b (value_at (writes p) (map (after p (seen_of p w)) (writes p)) k) (w k)) t
-    ∙ value_at-map (after p (seen_of p w)) (writes p) k t
+    ∙ ap (λ b. cond b (value_at (writes p) (map (after_plan p (seen_of p w)) (writes p)) k) (w k)) t
+    ∙ value_at-map (after_plan p (seen_of p w)) (writes p) k t
 
 -- a plan that isn't refused leaves what its instruction gives in the world itself
-pub one_direct : (p : Plan) (w : World) → IsFit p.axes p.action → UnreadFit p w → refusal p w ≡ None → (k : Key) → has_key (writes p) k ≡ true → one p w k ≡ after p w k
+pub one_direct : (p : Plan) (w : World) → IsFit p.axes p.action → UnreadFit p w → refusal p w ≡ None → (k : Key) → has_key (writes p) k ≡ true → one p w k ≡ after_plan p w k
 one_direct p w fit unread e k t = one_of_seen p w e k t ∙ after_depends p (seen_of p w) w fit (seen_agrees p w) (inputs_unread p (map w (reads p))) unread k t
 
-pub one_direct_kept : (p : Plan) (w : World) → stores_all_bits p.action ≡ false → refusal p w ≡ None → (k : Key) → has_key (writes p) k ≡ true → one p w k ≡ after p w k
+pub one_direct_kept : (p : Plan) (w : World) → stores_all_bits p.action ≡ false → refusal p w ≡ None → (k : Key) → has_key (writes p) k ≡ true → one p w k ≡ after_plan p w k
 one_direct_kept p w kept e k t = one_of_seen p w e k t ∙ after_depends_kept p (seen_of p w) w kept (seen_agrees p w) k t
 
 -- a plan that is refused leaves every key

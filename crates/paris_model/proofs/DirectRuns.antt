@@ -5,7 +5,7 @@ use Rattle.paris_names.specs.declared.keys.Key.{Key}
 use Rattle.paris_names.specs.Keys.{has_key}
 use Rattle.paris_model.specs.declared.actions.Refusal.{Refusal}
 use Rattle.paris_model.specs.Frame.{World}
-use Rattle.paris_model.specs.Instructions.{Plan, reads, writes, refusal, after, one}
+use Rattle.paris_model.specs.Instructions.{Plan, reads, writes, refusal, after_plan, one}
 use Rattle.paris_model.specs.Run.{run, direct_in, direct_one, direct_run}
 use Rattle.paris_model.specs.Laws.{ReadsFit, UnreadFit, WorldFits, PlanFits, PlansFit}
 use Rattle.paris_model.proofs.Worlds.{or_true_second, leaves}
@@ -32,7 +32,7 @@ one_fits width p w start fit k = by_refusal (refusal p w) refl (has_key (writes 
     by_refusal None e true t =
         let unread : UnreadFit p w = unread_fit width p w start fit in
         subst (λ xs. HaveBits (width k) xs) (sym (one_direct p w fit.action unread e k t))
-        (subst (λ W. HaveBits W (after p w k)) (fit.widths k (or_true_second (has_key (reads p) k) (has_key (writes p) k) t))
+        (subst (λ W. HaveBits W (after_plan p w k)) (fit.widths k (or_true_second (has_key (reads p) k) (has_key (writes p) k) t))
         (after_fits p w fit.action (reads_fit width p w start fit) unread k t).0)
 
 -- one plan, in two worlds with the same numbers
@@ -47,11 +47,11 @@ one_same width p w w' start fit same k = by_refusal (refusal p w) refl (has_key 
 
     by_refusal : (o : Option Refusal) → refusal p w ≡ o → (b : Bool) → has_key (writes p) k ≡ b → one p w k ≡ direct_one p w' k
     by_refusal (Some cause) e b t = refused_leaves p w cause e k ∙ same k ∙ sym (ap (λ o. direct_in o p w' k) (refused (Some cause) e))
-    by_refusal None e false t = leaves p w k t ∙ same k ∙ sym (ap (λ o. direct_in o p w' k) (refused None e) ∙ ap (λ b. cond b (after p w' k) (w' k)) t)
+    by_refusal None e false t = leaves p w k t ∙ same k ∙ sym (ap (λ o. direct_in o p w' k) (refused None e) ∙ ap (λ b. cond b (after_plan p w' k) (w' k)) t)
     by_refusal None e true t =
         one_direct p w fit.action (unread_fit width p w start fit) e k t
         ∙ after_depends p w w' fit.action (λ j h. same j) (unread_fit width p w start fit) (unread_fit width p w' there fit) k t
-        ∙ sym (ap (λ o. direct_in o p w' k) (refused None e) ∙ ap (λ b. cond b (after p w' k) (w' k)) t)
+        ∙ sym (ap (λ o. direct_in o p w' k) (refused None e) ∙ ap (λ b. cond b (after_plan p w' k) (w' k)) t)
 
 runs_same : (width : Key → ℕ) (w w' : World) (plans : List Plan) → WorldFits width w → PlansFit width plans → ((k : Key) → w k ≡ w' k) → (k : Key) → run w plans k ≡ direct_run w' plans k
 runs_same width w w' [] start fit same k = same k

@@ -33,7 +33,7 @@ use Rattle.paris_model.specs.Lines.{line_after, line_target, line_sources, line_
 use Rattle.paris_model.specs.Mail.{mail_after, mail_of, delivered, notify_targets, notified, gets_mail}
 use Rattle.paris_model.specs.Frame.{Frame, is_selected, World, put_where}
 use Rattle.paris_model.specs.Fits.{IsFit, is_bad_length, has_bad_length, conditional_bad_length, unconditional_bad_length, news_bad_length, line_bad_length, mail_bad_length, have_field_widths}
-use Rattle.paris_model.specs.Instructions.{Plan, writes, reads, operands, target_keys, flag_keys, width_among, key_width, field_keys, frame_of, after, after_in}
+use Rattle.paris_model.specs.Instructions.{Plan, writes, reads, operands, target_keys, flag_keys, width_among, key_width, field_keys, frame_of, after_plan, after_in}
 use Rattle.paris_model.specs.Laws.{FitsAt, ReadsFit, UnreadFit}
 use Rattle.paris_model.proofs.Stores.{length-everywhere, put_below}
 use Rattle.paris_model.proofs.Worlds.{or_false_first, or_false_second, writes_targets}
@@ -201,12 +201,12 @@ action_bits m (AlongLine i) k lengths widths target before = line_bits m i k len
 action_bits m (ByMail i) k lengths widths target before = mail_bits m i k lengths widths target before
 
 -- what a fit plan leaves fits
-pub after_fits : (p : Plan) (w : World) → IsFit p.axes p.action → ReadsFit p w → UnreadFit p w → (k : Key) → has_key (writes p) k ≡ true → FitsAt p (after p w) k × (length (after p w k) ≡ processor_count p.axes)
+pub after_fits : (p : Plan) (w : World) → IsFit p.axes p.action → ReadsFit p w → UnreadFit p w → (k : Key) → has_key (writes p) k ≡ true → FitsAt p (after_plan p w) k × (length (after_plan p w k) ≡ processor_count p.axes)
 after_fits p w fit at_reads unread k t =
     let same : key_width p k ≡ width_in (operands p.action) k = key_width-is p k in
     let stood : HaveBits (width_in (operands p.action) k) (w k) = subst (λ W. HaveBits W (w k)) same (by_read (has_key (reads p) k) refl) in
-    let leaves : AreNumbers (width_in (operands p.action) k) (processor_count p.axes) (after p w k) = action_bits (frame_of p w) p.action k fit.lengths fit.widths (sym (writes_targets p k) ∙ t) stood in
-    (subst (λ W. HaveBits W (after p w k)) (sym same) leaves.0, leaves.1)
+    let leaves : AreNumbers (width_in (operands p.action) k) (processor_count p.axes) (after_plan p w k) = action_bits (frame_of p w) p.action k fit.lengths fit.widths (sym (writes_targets p k) ∙ t) stood in
+    (subst (λ W. HaveBits W (after_plan p w k)) (sym same) leaves.0, leaves.1)
   where
     by_read : (b : Bool) → has_key (reads p) k ≡ b → FitsAt p w k
     by_read true e = at_reads k e

@@ -113,8 +113,8 @@ after_in m (ByMail i) k = mail_after m i k
 abbrev pub refusal : Plan → World → Option Refusal
 refusal p w = refusal_in (frame_of p w) p.action
 
-abbrev pub after : Plan → World → Key → List ℕ
-after p w k = after_in (frame_of p w) p.action k
+abbrev pub after_plan : Plan → World → Key → List ℕ
+after_plan p w k = after_in (frame_of p w) p.action k
 
 -- the values beside the keys of a list, and none elsewhere
 abbrev pub value_at : List Key → List (List ℕ) → World
@@ -124,7 +124,7 @@ value_at (j ∷ js) (x ∷ xs) k = if key_eq k j then x else value_at js xs k
 
 -- what a plan gives in a world, where the reason to refuse it is known
 abbrev pub outcome_in : Plan → World → Option Refusal → Result (List (List ℕ)) Refusal
-outcome_in p w None = Ok (map (after p w) (writes p))
+outcome_in p w None = Ok (map (after_plan p w) (writes p))
 outcome_in p w (Some cause) = Err cause
 
 -- what a plan gives on these inputs at its reads: its values at its writes, or its refusal

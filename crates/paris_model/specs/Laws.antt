@@ -20,7 +20,7 @@ use Rattle.paris_model.specs.News.{news_sender}
 use Rattle.paris_model.specs.Lines.{combined_values, stores_on_line}
 use Rattle.paris_model.specs.Mail.{gets_mail, mail_of}
 use Rattle.paris_model.specs.Fits.{IsFit}
-use Rattle.paris_model.specs.Instructions.{Plan, reads, writes, key_width, frame_of, outcome, given, one, after, refusal}
+use Rattle.paris_model.specs.Instructions.{Plan, reads, writes, key_width, frame_of, outcome, given, one, after_plan, refusal}
 use Rattle.paris_model.specs.Run.{run, direct_run}
 use Rattle.paris_model.specs.Recipe.{Recipe, past}
 use Rattle.paris_model.specs.Recipe.Recipe.{Start, Made, End, And}
@@ -48,7 +48,7 @@ UnreadFit p w = (k : Key) → has_key (writes p) k ≡ true → has_key (reads p
 -- where numbers fit, a fit plan leaves one for each processor at each key that it writes, and they fit
 abbrev pub StaysBelow : Type 0
 StaysBelow = (p : Plan) (w : World) → IsFit p.axes p.action → ReadsFit p w → UnreadFit p w
-    → (k : Key) → has_key (writes p) k ≡ true → FitsAt p (after p w) k × (length (after p w k) ≡ processor_count p.axes)
+    → (k : Key) → has_key (writes p) k ≡ true → FitsAt p (after_plan p w) k × (length (after_plan p w k) ≡ processor_count p.axes)
 
 -- two worlds have the same numbers at each key that the plan reads
 abbrev pub AgreeOnReads : Plan → World → World → Type 0
@@ -61,11 +61,11 @@ RefusalDependsOnReads = (p : Plan) (w w' : World) → AgreeOnReads p w w' → re
 -- and so does what a fit plan leaves at the keys that it writes, where the numbers that it overwrites fit
 abbrev pub DependsOnReads : Type 0
 DependsOnReads = (p : Plan) (w w' : World) → IsFit p.axes p.action → AgreeOnReads p w w' → UnreadFit p w → UnreadFit p w'
-    → (k : Key) → has_key (writes p) k ≡ true → after p w k ≡ after p w' k
+    → (k : Key) → has_key (writes p) k ≡ true → after_plan p w k ≡ after_plan p w' k
 
 -- where numbers fit, a fit plan that isn't refused leaves at each key that it writes what its instruction gives in that very world
 abbrev pub OneIsDirect : Type 0
-OneIsDirect = (p : Plan) (w : World) → IsFit p.axes p.action → UnreadFit p w → refusal p w ≡ None → (k : Key) → has_key (writes p) k ≡ true → one p w k ≡ after p w k
+OneIsDirect = (p : Plan) (w : World) → IsFit p.axes p.action → UnreadFit p w → refusal p w ≡ None → (k : Key) → has_key (writes p) k ≡ true → one p w k ≡ after_plan p w k
 
 -- a plan that is refused leaves every key
 abbrev pub RefusedLeavesAll : Type 0

@@ -3,7 +3,7 @@ use Rattle.std.specs.Prelude.{ℕ, List, [], ◌∷◌, take, Option, Some, None
 use Rattle.paris_names.specs.Keys.{has_key}
 use Rattle.paris_model.specs.declared.actions.Refusal.{Refusal}
 use Rattle.paris_model.specs.Frame.{World}
-use Rattle.paris_model.specs.Instructions.{Plan, writes, after, one, refusal}
+use Rattle.paris_model.specs.Instructions.{Plan, writes, after_plan, one, refusal}
 
 -- the world after the plans
 abbrev pub run : World → List Plan → World
@@ -21,7 +21,7 @@ cause w plans k = refused_in (slice_get plans k)
 -- the world after a plan that sees the whole world, where the reason to refuse it is known: a refused plan leaves it
 abbrev pub direct_in : Option Refusal → Plan → World → World
 direct_in (Some cause) p w k = w k
-direct_in None p w k = if has_key (writes p) k then after p w k else w k
+direct_in None p w k = if has_key (writes p) k then after_plan p w k else w k
 
 -- the same, where nothing is said of what the plan reads
 abbrev pub direct_one : Plan → World → World

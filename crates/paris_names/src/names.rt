@@ -24,15 +24,15 @@ pub struct Name {
 impl Model for Name {
     ghost use Rattle.paris_names.specs.declared.limits.TheConstants.{MAX_NAME};
     ghost use Rattle.std.specs.Prelude.{◌≡◌, ℕ, ◌≤◌, List, length, take, true};
-    ghost use Rattle.paris_names.specs.Names.{is_name, padded};
+    ghost use Rattle.paris_names.specs.Names.{is_name, name_buffer};
 
     ghost Value = { List ℕ };
 
     ghost view = { λ n. take n.len n.buffer };
 
-    ghost invariant = { λ n. (n.len ≤ MAX_NAME) × (n.buffer ≡ padded (take n.len n.buffer)) × (is_name (take n.len n.buffer) ≡ true) };
+    ghost invariant = { λ n. (n.len ≤ MAX_NAME) × (n.buffer ≡ name_buffer (take n.len n.buffer)) × (is_name (take n.len n.buffer) ≡ true) };
 
-    ghost inverse = { λ bs. record { buffer = padded bs; len = length bs } };
+    ghost inverse = { λ bs. record { buffer = name_buffer bs; len = length bs } };
 
     ghost use Rattle.paris_names.specs.NameFields.{name_fields};
 

@@ -1,5 +1,5 @@
 use Rattle.std.proofs.Common.{◌∙◌, ℕ, List, Bool, ap, length, refl, subst, sym}
-use Rattle.paris_field.specs.Numbers.{AllOf, field_of}
+use Rattle.paris_field.specs.Numbers.{AllOf, value_of_planes}
 use Rattle.paris_alu.specs.Alu.{operand}
 use Rattle.paris_alu.proofs.Places.{held}
 use Rattle.paris_alu.proofs.Combined.{all_inverted, inverted_field}
@@ -14,5 +14,5 @@ pub returns : goal.returns
 returns c =
     let n : ℕ = length c.args.x.now.numbers in
     let xs : List (List Bool) = c.low.result.now in
-    c.from_planes.ensures ∙ ap (λ (m : ℕ). field_of m c.in_ok-planes.planes.items) c.len.ensures ∙ ap (field_of n) c.in_ok-planes.ensures
+    c.from_planes.ensures ∙ ap (λ (m : ℕ). value_of_planes m c.in_ok-planes.planes.items) c.len.ensures ∙ ap (value_of_planes n) c.in_ok-planes.ensures
     ∙ inverted_field n c.args.bits (operand c.args.bits c.args.x.now) xs (held n n c.args.bits (operand c.args.bits c.args.x.now) xs refl c.low.ensures.count c.low.ensures.long c.low.ensures.at)

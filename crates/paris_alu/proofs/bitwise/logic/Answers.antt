@@ -5,7 +5,7 @@ use Rattle.std.proofs.lemmas.Simd.{length-zip2}
 use Rattle.std.proofs.lemmas.Result.{IfOk-weaker}
 use Rattle.paris_plane.specs.Bits.{differ}
 use Rattle.paris_field.specs.Fields.{FieldNumbers}
-use Rattle.paris_field.specs.Numbers.{field_of}
+use Rattle.paris_field.specs.Numbers.{value_of_planes}
 use Rattle.paris_alu.specs.declared.bitwise.BitOperator.{BitOperator}
 use Rattle.paris_alu.specs.Alu.{binary_field, bitwise_operator, operand}
 use Rattle.paris_alu.proofs.Places.{Holds, held}
@@ -27,7 +27,7 @@ returns-in-And c =
     let by : BitOperator → FieldNumbers = λ o. binary_field (bitwise_operator o) L c.args.x.now c.args.y.now (λ _. 0) in
     IfOk-weaker c.combined.result _ (λ (value : FieldNumbers). value ≡ by c.args.operator)
     (λ value is.
-    is ∙ ap (λ (m : ℕ). field_of m zs) c.len-vps.ensures
+    is ∙ ap (λ (m : ℕ). value_of_planes m zs) c.len-vps.ensures
     ∙ bitwise_field bit_and n L f g xs ys zs hx hy (length-zip2 (zip2 (λ a b. a && b)) xs ys same) (λ v h. and_number n xs ys v same hx.long hy.long h)
     ∙ ap by (sym c.in-And.is)) c.combined.ensures
 
@@ -46,7 +46,7 @@ returns-in-Or c =
     let by : BitOperator → FieldNumbers = λ o. binary_field (bitwise_operator o) L c.args.x.now c.args.y.now (λ _. 0) in
     IfOk-weaker c.combined-in-Or.result _ (λ (value : FieldNumbers). value ≡ by c.args.operator)
     (λ value is.
-    is ∙ ap (λ (m : ℕ). field_of m zs) c.len-vps.ensures
+    is ∙ ap (λ (m : ℕ). value_of_planes m zs) c.len-vps.ensures
     ∙ bitwise_field bit_or n L f g xs ys zs hx hy (length-zip2 (zip2 (λ a b. a || b)) xs ys same) (λ v h. or_number n xs ys v same hx.long hy.long h)
     ∙ ap by (sym c.in-Or.is)) c.combined-in-Or.ensures
 
@@ -65,6 +65,6 @@ returns-in-Xor c =
     let by : BitOperator → FieldNumbers = λ o. binary_field (bitwise_operator o) L c.args.x.now c.args.y.now (λ _. 0) in
     IfOk-weaker c.combined-in-Xor.result _ (λ (value : FieldNumbers). value ≡ by c.args.operator)
     (λ value is.
-    is ∙ ap (λ (m : ℕ). field_of m zs) c.len-vps.ensures
+    is ∙ ap (λ (m : ℕ). value_of_planes m zs) c.len-vps.ensures
     ∙ bitwise_field bit_xor n L f g xs ys zs hx hy (length-zip2 (zip2 differ) xs ys same) (λ v h. xor_number n xs ys v same hx.long hy.long h)
     ∙ ap by (sym c.in-Xor.is)) c.combined-in-Xor.ensures

@@ -1,7 +1,7 @@
 use Rattle.std.proofs.Common.{◌≡◌, ◌<◌, ◌-◌, ◌&&◌, ℕ, ◌∙◌, ap, arith, length, List, Bool, [], false, refl, replicate, sym}
 use Rattle.std.specs.Simd.Lanes.{zip2}
 use Rattle.std.proofs.lemmas.List.{get_or_read, length-replicate}
-use Rattle.paris_field.specs.Numbers.{field_of, plane_at}
+use Rattle.paris_field.specs.Numbers.{value_of_planes, plane_at}
 use Rattle.paris_alu.specs.Alu.{operand}
 use Rattle.paris_alu.proofs.Places.{Holds, held}
 use Rattle.paris_alu.proofs.Totals.{Opposed, opposed, opposite_field, opposite_overflow}
@@ -35,6 +35,6 @@ returns c =
     let ed : c.index.result.now ≡ plane_at ds (L - 1) = get_or_read ds (L - 1) c.index.result.now (omega (arith, a.count, c.requires.positive)) c.index.ensures [] in
     let ex : c.index-xs-top.result ≡ plane_at xs (L - 1) = get_or_read xs (L - 1) c.index-xs-top.result (omega (arith, hx.count, c.requires.positive)) c.index-xs-top.is [] in
     record {
-      value = c.from_planes.ensures ∙ ap (λ (m : ℕ). field_of m ds) c.len-vps.ensures ∙ opposite_field n L f after xs ds hx a;
+      value = c.from_planes.ensures ∙ ap (λ (m : ℕ). value_of_planes m ds) c.len-vps.ensures ∙ opposite_field n L f after xs ds hx a;
       overflow = opposite_overflow n L f after xs ds c.index.result.now c.index-xs-top.result c.and_in.new.self c.requires.positive hx a ed ex (c.and_in.ensures ∙ ap (λ (p : List Bool). zip2 (λ a b. a && b) p c.index-xs-top.result) c.in_ok-overflow.ensures);
     }

@@ -1,6 +1,6 @@
 use Rattle.std.proofs.Common.{◌≡◌, ◌-◌, ℕ, ◌∙◌, ap, arith, length, List, Bool, [], false, refl, replicate, sym}
 use Rattle.std.proofs.lemmas.List.{get_or_read, length-replicate}
-use Rattle.paris_field.specs.Numbers.{field_of, plane_at}
+use Rattle.paris_field.specs.Numbers.{value_of_planes, plane_at}
 use Rattle.paris_alu.specs.Alu.{operand}
 use Rattle.paris_alu.proofs.Places.{Holds, held, last_long}
 use Rattle.paris_alu.proofs.Totals.{Taken, taken, difference_carry, difference_field, difference_overflow}
@@ -42,7 +42,7 @@ returns c =
     let ex : c.index-xs-top.result ≡ plane_at xs (L - 1) = get_or_read xs (L - 1) c.index-xs-top.result (omega (arith, hx.count, c.requires.positive)) c.index-xs-top.is [] in
     let ey : c.index-ys-top.result ≡ plane_at ys (L - 1) = get_or_read ys (L - 1) c.index-ys-top.result (omega (arith, hy.count, c.requires.positive)) c.index-ys-top.is [] in
     record {
-      value = c.from_planes.ensures ∙ ap (λ (m : ℕ). field_of m ds) c.len-vps.ensures ∙ difference_field c.args.sign n L f g after xs ys ds hx hy a;
+      value = c.from_planes.ensures ∙ ap (λ (m : ℕ). value_of_planes m ds) c.len-vps.ensures ∙ difference_field c.args.sign n L f g after xs ys ds hx hy a;
       carry = difference_carry c.args.sign n L f g after xs ys ds hx hy a;
       overflow = difference_overflow c.args.sign n L f g after xs ys ds c.index.result.now c.index-xs-top.result c.index-ys-top.result c.in_ok-overflow.overflow c.requires.positive hx hy a ed ex ey c.in_ok-overflow.ensures;
     }

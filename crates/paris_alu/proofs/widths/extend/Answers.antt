@@ -1,6 +1,6 @@
 use Rattle.std.proofs.Common.{◌≡◌, ◌<◌, ◌-◌, ℕ, ◌∙◌, ap, arith, eqb, not, length, List, Bool, [], false, refl, replicate, subst, sym}
 use Rattle.std.proofs.lemmas.List.{get_or_read, take_rest}
-use Rattle.paris_field.specs.Numbers.{AllOf, field_of, number_at, plane_at}
+use Rattle.paris_field.specs.Numbers.{AllOf, value_of_planes, number_at, plane_at}
 use Rattle.paris_alu.specs.Alu.{bits_everywhere, operand}
 use Rattle.paris_alu.specs.Bits.{by_sign}
 use Rattle.paris_alu.proofs.Places.{Holds, held}
@@ -43,7 +43,7 @@ returns c =
     let lz : length zs ≡ L = extended_long kept L xs zs rest (omega (arith, within.0, c.low-xs.ensures.count)) within.1 c.in_ok-planes.ensures in
     let over : List (List Bool) → List Bool = λ hs. bits_everywhere (length rest) (λ v. not (eqb (number_at hs v) (number_at (replicate (length hs) rest) v))) in
     record {
-      value = c.from_planes.ensures ∙ ap (λ (m : ℕ). field_of m zs) c.len-vps.ensures
+      value = c.from_planes.ensures ∙ ap (λ (m : ℕ). value_of_planes m zs) c.len-vps.ensures
           ∙ resized_value c.args.sign n M L kept f xs zs top rest hx c.requires.from_some (no_longer M L kept which) et er c.in_ok-planes.ensures lz;
       overflow = resized_overflow c.args.sign n M L kept f xs top rest c.in_ok-overflow.overflow hx c.requires.from_some c.requires.positive which et er lr (c.in_ok-overflow.ensures ∙ ap over (take_rest xs kept));
     }

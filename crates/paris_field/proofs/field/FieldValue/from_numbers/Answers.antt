@@ -3,7 +3,7 @@ use Rattle.std.proofs.Math.Nat.{mod-eq_of_lt}
 use Rattle.std.proofs.lemmas.Simd.{length-replicate}
 use Rattle.std.proofs.lemmas.List.Elements.{All-get_or}
 use Rattle.paris_plane.proofs.Bits.{written}
-use Rattle.paris_field.specs.Numbers.{field_of}
+use Rattle.paris_field.specs.Numbers.{value_of_planes}
 use Rattle.paris_field.proofs.Values.{value_is}
 use Rattle.paris_field.proofs.field.FieldValue.from_numbers.Goals as goal
 
@@ -11,7 +11,7 @@ pub returns : goal.returns
 returns c =
     let n : ℕ = length c.args.numbers.now in
     let width : length c.deref_mut.result.now ≡ c.args.width = ap length (c.deref_mut.ensures.value ∙ c.in_ok-planes.ensures) ∙ length-replicate c.args.width (replicate n false) in
-    ap (field_of n) (written _ c.put_all.new.planes _ (c.put_all.auto.planes ∙ c.deref_mut.ensures.len))
+    ap (value_of_planes n) (written _ c.put_all.new.planes _ (c.put_all.auto.planes ∙ c.deref_mut.ensures.len))
     ∙ value_is n c.args.width c.put_all.new.planes c.args.numbers.now
     (c.put_all.auto.planes ∙ width) refl (λ v h.
     c.put_all.ensures.numbers v h

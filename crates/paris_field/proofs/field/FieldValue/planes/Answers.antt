@@ -1,5 +1,5 @@
 use Rattle.std.proofs.Common.{◌∙◌, sym, ap, arith, length}
-use Rattle.paris_field.specs.Numbers.{field_of, number_at}
+use Rattle.paris_field.specs.Numbers.{value_of_planes, number_at}
 use Rattle.paris_field.proofs.Values.{vps_is, at_is, all_of}
 use Rattle.paris_field.proofs.field.FieldValue.planes.Goals as goal
 
@@ -9,8 +9,8 @@ returns-clause-long c =
 
 pub returns-clause-value : goal.returns-clause-value
 returns-clause-value c =
-    ap (field_of (length c.args.self.now.numbers)) c.as_slice.ensures.value
-    ∙ ap (λ n. field_of n c.self.inside.planes.items) (vps_is c.self.inside.vps c.self.inside.planes.items c.self.view_is) ∙ c.self.view_is
+    ap (value_of_planes (length c.args.self.now.numbers)) c.as_slice.ensures.value
+    ∙ ap (λ n. value_of_planes n c.self.inside.planes.items) (vps_is c.self.inside.vps c.self.inside.planes.items c.self.view_is) ∙ c.self.view_is
 
 pub returns-clause-at : goal.returns-clause-at
 returns-clause-at c =

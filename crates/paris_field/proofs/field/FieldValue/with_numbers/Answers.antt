@@ -3,7 +3,7 @@ use Rattle.std.proofs.Math.Nat.{mod-eq_of_lt}
 use Rattle.std.proofs.lemmas.List.Elements.{All-get_or}
 use Rattle.paris_plane.proofs.Bits.{written}
 use Rattle.paris_field.specs.Fields.{overwritten}
-use Rattle.paris_field.specs.Numbers.{field_of, number_at}
+use Rattle.paris_field.specs.Numbers.{value_of_planes, number_at}
 use Rattle.paris_field.proofs.Values.{width_is, vps_is, at_is, value_is, put_is, length-overwritten}
 use Rattle.paris_field.proofs.field.FieldValue.with_numbers.Goals as goal
 
@@ -15,7 +15,7 @@ returns c =
     let same : c.deref_mut.result.now ≡ c.self.inside.planes.items = c.deref_mut.ensures.value ∙ c.in_ok-planes.ensures ∙ c.deref.ensures.value in
     let width : length c.deref_mut.result.now ≡ c.args.self.now.width = ap length same ∙ width_is c.self.inside.vps c.self.inside.planes.items c.self.view_is in
     let many : length c.args.self.now.numbers ≡ c.self.inside.vps = vps_is c.self.inside.vps c.self.inside.planes.items c.self.view_is in
-    ap (field_of c.self.inside.vps) (written _ c.put_numbers.new.planes _ (c.put_numbers.auto.planes ∙ c.deref_mut.ensures.len))
+    ap (value_of_planes c.self.inside.vps) (written _ c.put_numbers.new.planes _ (c.put_numbers.auto.planes ∙ c.deref_mut.ensures.len))
     ∙ value_is c.self.inside.vps c.args.self.now.width c.put_numbers.new.planes (overwritten c.args.self.now.numbers c.args.from c.args.numbers.now)
     (c.put_numbers.auto.planes ∙ width)
     (length-overwritten c.args.self.now.numbers c.args.numbers.now c.args.from c.requires.within ∙ many)
