@@ -1,12 +1,12 @@
 //! Lists that clauses compare item by item.
 
-ghost use Rattle.std.specs.Prelude.{◌≡◌, ◌==◌, length};
+ghost use Rattle.std.specs.Prelude.{◌≡◌, length};
 
 use std::marker::Model;
 use std::ops::DerefSlice;
 
 /// Items in order, as they are held in events, replies and results. A clause sees the list of the items. As in a `Vec`, the methods
-/// of slices are called on it: `len`, `is_empty`, `iter`, `get`.
+/// of slices are called on it: `is_empty`, `iter`, `get`.
 #[derive(Debug, Drop)]
 pub struct Items<T> {
     items: Vec<T>,
@@ -53,6 +53,13 @@ impl<T> Items<T> {
         ensures { result.now ≡ self.now }
     {
         self.items.as_slice()
+    }
+
+    /// How many items there are.
+    pub fn len(&self) -> usize
+        ensures { result ≡ length self.now }
+    {
+        self.items.len()
     }
 
     /// The items as a vector.

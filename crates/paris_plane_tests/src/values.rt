@@ -118,6 +118,37 @@ fn numbers_are_read_back(rt: HostRuntime) -> Result<(), Fail> {
     Ok(())
 }
 
+/// One number stands in each processor, and bits of its own address do.
+fn is_made_on_planes(
+    rt: &impl Abort,
+    alloc: Global,
+    width: u64,
+    count: usize,
+) -> Result<(), AllocError>
+    requires positive { 0 < width }
+    requires narrow { width ≤ 128 }
+{
+    let wanted = number(width, 1, 0);
+    let bits = width.min(5);
+    let constant = FieldValue::constant(alloc, width, wanted, count)?;
+    let addresses = FieldValue::address_bits(alloc, width, 3, bits, count)?;
+    for v in 0..count {
+        let address = ((v as u128) >> 3) % (1u128 << bits);
+        assert!(rt; constant.get(v) == wanted && addresses.get(v) == address);
+    }
+    Ok(())
+}
+
+#[test]
+fn constants_and_addresses_are_made_on_planes(rt: HostRuntime) -> Result<(), Fail> {
+    for case in CASES {
+        if case.width > 0 && case.width <= 128 {
+            is_made_on_planes(&rt, rt.alloc(), case.width, case.count)?;
+        }
+    }
+    Ok(())
+}
+
 /// Numbers are put in place of as many in the middle, and the others stay.
 fn is_edited(rt: &impl Abort, alloc: Global, width: u64, count: usize) -> Result<(), AllocError>
     requires positive { 0 < width }

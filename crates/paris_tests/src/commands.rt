@@ -1,5 +1,6 @@
 //! Commands that are read, and wrong lines.
 
+use paris_events::Edit;
 use paris_model::{Action, Conditional};
 use paris_names::{Fault, FlagName, RowId, Spot};
 use paris_text::{Command, read_command};
@@ -36,7 +37,7 @@ fn each_command_is_read(rt: HostRuntime) {
 fn a_set_has_its_axes(rt: HostRuntime) {
     let read = read_command(rt.alloc(), b"set S 8x4x2");
     match &read {
-        Ok(Command::Set { name, axes }) => {
+        Ok(Command::Edit(Edit::AddSet { name, axes })) => {
             assert!(rt; name.as_bytes() == b"S".as_slice());
             assert!(rt; axes.as_slice() == [8, 4, 2].as_slice());
         }
@@ -48,7 +49,7 @@ fn a_set_has_its_axes(rt: HostRuntime) {
 fn an_input_has_its_values(rt: HostRuntime) {
     let read = read_command(rt.alloc(), b"input S.carry 2 1 0 1");
     match &read {
-        Ok(Command::Input { key, from, values }) => {
+        Ok(Command::Edit(Edit::Input { key, from, values })) => {
             assert!(rt; key.name.as_bytes() == b"S".as_slice());
             assert!(rt; key.flag == Some(FlagName::Carry));
             assert!(rt; *from == 2);
@@ -63,10 +64,12 @@ fn an_insertion_has_its_place(rt: HostRuntime) {
     let read = read_command(rt.alloc(), b"insert after 7 set-test S");
     match &read {
         Ok(
-            Command::Insert {
-                spot,
-                instr: Action::OnSelected(Conditional::SetTest(set)),
-            },
+            Command::Edit(
+                Edit::Insert {
+                    spot,
+                    instr: Action::OnSelected(Conditional::SetTest(set)),
+                },
+            ),
         ) => {
             assert!(rt; *spot == Spot::After(RowId(7)));
             assert!(rt; set.as_bytes() == b"S".as_slice());

@@ -1,6 +1,7 @@
 //! Tests of names and of the texts of faults.
 
 use paris_names::{Fault, Name};
+use std::str::FromStr;
 use std::test::*;
 
 #[test]
@@ -16,7 +17,9 @@ fn names_are_one_to_sixteen_bytes(rt: HostRuntime) {
     ];
     for (text, wanted) in CASES {
         assert!(rt; Name::new(*text).is_some() == *wanted);
+        assert!(rt; Name::try_from(*text).is_ok() == *wanted);
     }
+    assert!(rt; Name::from_str("a-1").is_ok() && Name::from_str("a 1").is_err());
 }
 
 #[test]
