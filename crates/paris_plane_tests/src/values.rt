@@ -132,9 +132,12 @@ fn is_made_on_planes(
     let bits = width.min(5);
     let constant = FieldValue::constant(alloc, width, wanted, count)?;
     let addresses = FieldValue::address_bits(alloc, width, 3, bits, count)?;
-    for v in 0..count {
-        let address = ((v as u128) >> 3) % (1u128 << bits);
-        assert!(rt; constant.get(v) == wanted && addresses.get(v) == address);
+    let numbers = constant.numbers()?;
+    assert!(rt; numbers.len() == count && numbers.iter().all(|x| *x == wanted));
+    let numbers = addresses.numbers()?;
+    assert_eq!(rt; numbers.len(), count);
+    for (v, number) in numbers.iter().enumerate() {
+        assert!(rt; *number == ((v as u128) >> 3) % (1u128 << bits));
     }
     Ok(())
 }
