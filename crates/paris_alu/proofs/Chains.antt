@@ -4,10 +4,9 @@ use Rattle.std.specs.Simd.Lanes.{zip2}
 use Rattle.std.proofs.lemmas.Simd.{get_or-zip2}
 use Rattle.paris_model.specs.Store.{bit}
 use Rattle.paris_plane.specs.Bits.{differ, zip3, borrow_bit, sum_bit}
-use Rattle.paris_field.specs.Numbers.{bit_in, number_at, plane_at}
+use Rattle.paris_field.specs.Numbers.{bit_in, number_at, plane_at, bits_everywhere}
 use Rattle.paris_field.proofs.Numbers.{one_more, double, step_of_numbers}
-use Rattle.paris_alu.specs.Alu.{bits_everywhere}
-use Rattle.paris_alu.proofs.Places.{plane_is, get_or-bits_everywhere, get_triple, number_pushed}
+use Rattle.paris_field.proofs.Places.{plane_is, get_or-bits_everywhere, get_triple, number_pushed}
 use Rattle.paris_alu.proofs.Steps.{borrow_of_bits, opposite_of_bits}
 use Rattle.paris_alu.proofs.Results.{low_lt}
 

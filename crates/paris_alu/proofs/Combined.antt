@@ -12,7 +12,7 @@ use Rattle.paris_plane.specs.Bits.{differ}
 use Rattle.paris_field.specs.Numbers.{AllOf, value_of_planes, number_at}
 use Rattle.paris_field.proofs.Numbers.{below_two}
 use Rattle.paris_field.proofs.Lists.{below_of}
-use Rattle.paris_alu.proofs.Places.{Holds, field_is}
+use Rattle.paris_field.proofs.Places.{Holds, field_is}
 use Rattle.paris_alu.proofs.Results.{mod_small}
 
 -- the lowest bit of a number, and those above it

@@ -7,9 +7,8 @@ use Rattle.paris_model.specs.Store.{low, everywhere}
 use Rattle.paris_model.specs.Elementwise.{is_less}
 use Rattle.paris_plane.specs.Bits.{zip3, borrow_bit}
 use Rattle.paris_field.specs.Fields.{FieldNumbers}
-use Rattle.paris_field.specs.Numbers.{AllOf, value_of_planes, number_at, plane_at}
-use Rattle.paris_alu.specs.Alu.{bits_everywhere}
-use Rattle.paris_alu.proofs.Places.{Holds, bits_same, everywhere_same, field_is, get_or-bits_everywhere, get_triple, length-bits_everywhere, length_triple, plane_is}
+use Rattle.paris_field.specs.Numbers.{AllOf, value_of_planes, number_at, plane_at, bits_everywhere}
+use Rattle.paris_field.proofs.Places.{Holds, bits_same, everywhere_same, field_is, get_or-bits_everywhere, get_triple, length-bits_everywhere, length_triple, plane_is}
 use Rattle.paris_alu.proofs.Chains.{chain_more}
 use Rattle.paris_alu.proofs.Steps.{below_step}
 use Rattle.paris_alu.proofs.Signs.{signed_below_step}

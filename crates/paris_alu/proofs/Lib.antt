@@ -1,4 +1,3 @@
-pub mod Places
 pub mod Steps
 pub mod Signs
 pub mod Results

@@ -8,11 +8,10 @@ use Rattle.paris_model.specs.declared.operators.Sign.{Sign}
 use Rattle.paris_model.specs.declared.operators.Sign.TheVariants.{Unsigned, Signed}
 use Rattle.paris_model.specs.Store.{everywhere, signed, low_signed, is_outside_signed}
 use Rattle.paris_model.specs.Elementwise.{resize_result, resize_overflow}
-use Rattle.paris_field.specs.Numbers.{AllOf, bit_in, value_of_planes, number_at, plane_at}
+use Rattle.paris_field.specs.Numbers.{AllOf, bit_in, value_of_planes, number_at, plane_at, bits_everywhere}
 use Rattle.paris_field.proofs.Numbers.{number_at_low, number_at_lt, number_at_more, number_at_split, zero_bit_in}
-use Rattle.paris_alu.specs.Alu.{bits_everywhere}
 use Rattle.paris_alu.specs.Bits.{by_sign}
-use Rattle.paris_alu.proofs.Places.{Holds, all_above, all_first, all_repeated, bits_same, field_is}
+use Rattle.paris_field.proofs.Places.{Holds, all_above, all_first, all_repeated, bits_same, field_is}
 use Rattle.paris_alu.proofs.Results.{low_lt, mod_small, top_split}
 use Rattle.paris_alu.proofs.Totals.{held_lt}
 use Rattle.paris_alu.proofs.Extended.{number_above, number_repeated, signed_fits, signed_narrow, signed_overflows, signed_wide, times_zero}

@@ -9,12 +9,12 @@ use Rattle.paris_model.specs.declared.operators.BinaryOperator.TheVariants.{Sign
 use Rattle.paris_model.specs.Store.{low, everywhere, signed, is_outside_signed}
 use Rattle.paris_model.specs.Elementwise.{binary_result, binary_carry, binary_overflow}
 use Rattle.paris_plane.specs.Bits.{zip3}
-use Rattle.paris_field.specs.Numbers.{AllOf, bit_in, value_of_planes, number_at, plane_at}
+use Rattle.paris_field.specs.Numbers.{AllOf, bit_in, value_of_planes, number_at, plane_at, bits_everywhere}
 use Rattle.paris_field.proofs.Numbers.{sum_mod, carry_is, below_two, zero_bit_in}
 use Rattle.paris_field.proofs.Lists.{below_of}
-use Rattle.paris_alu.specs.Alu.{bits_everywhere, sum_operator, difference_operator}
+use Rattle.paris_alu.specs.Alu.{sum_operator, difference_operator}
 use Rattle.paris_alu.specs.Bits.{by_sign, sum_overflow_bit, difference_overflow_bit}
-use Rattle.paris_alu.proofs.Places.{Holds, field_is, plane_is, length_triple, get_triple}
+use Rattle.paris_field.proofs.Places.{Holds, field_is, plane_is, length_triple, get_triple}
 use Rattle.paris_alu.proofs.Signs.{pow_half, sum_overflows, difference_overflows}
 use Rattle.paris_alu.proofs.Results.{top_split, low_lt, difference_mod, difference_borrows, opposite_mod, opposite_overflows}
 

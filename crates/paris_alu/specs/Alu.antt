@@ -1,6 +1,5 @@
 -- What the operators make of whole fields: in each processor the definition for one.
-use Rattle.std.specs.Prelude.{ℕ, Bool, List, map, length, slice_index}
-use Rattle.paris_geometry.specs.Geometry.{numbers_below}
+use Rattle.std.specs.Prelude.{ℕ, Bool, List, length}
 use Rattle.paris_model.specs.declared.operators.Sign.{Sign}
 use Rattle.paris_model.specs.declared.operators.Sign.TheVariants.{Unsigned, Signed}
 use Rattle.paris_model.specs.declared.operators.BinaryOperator.{BinaryOperator}
@@ -9,19 +8,12 @@ use Rattle.paris_model.specs.declared.operators.UnaryOperator.{UnaryOperator}
 use Rattle.paris_model.specs.declared.operators.Comparison.{Comparison}
 use Rattle.paris_model.specs.Store.{low, everywhere}
 use Rattle.paris_model.specs.Elementwise.{binary_result, binary_carry, binary_overflow, unary_result, unary_overflow, resize_result, resize_overflow, compares}
-use Rattle.paris_field.specs.Fields.{FieldNumbers}
+use Rattle.paris_field.specs.Fields.{FieldNumbers, operand}
+use Rattle.paris_field.specs.Numbers.{bits_everywhere}
 use Rattle.paris_alu.specs.declared.bitwise.BitOperator.{BitOperator}
 use Rattle.paris_alu.specs.declared.bitwise.BitOperator.TheVariants.{And, Or, Xor}
 use Rattle.paris_alu.specs.declared.comparisons.Extremum.{Extremum}
 use Rattle.paris_alu.specs.declared.comparisons.Extremum.TheVariants as extremum
-
--- one bit for each of n processors
-abbrev pub bits_everywhere : ℕ → (ℕ → Bool) → List Bool
-bits_everywhere n f = map f (numbers_below n)
-
--- the operand of L bits in processor v
-abbrev pub operand : ℕ → FieldNumbers → ℕ → ℕ
-operand L x v = low L (slice_index x.numbers v)
 
 -- the operator of a sum
 abbrev pub sum_operator : Sign → BinaryOperator

@@ -4,8 +4,8 @@ ghost use Rattle.std.specs.Prelude.{◌≡◌, ◌≤◌, ◌<◌, IfOk, false, 
 ghost use Rattle.paris_model.specs.declared.operators.BinaryOperator.TheVariants.{Maximum, Minimum};
 ghost use Rattle.paris_model.specs.Elementwise.{is_less};
 ghost use Rattle.paris_model.specs.Store.{everywhere};
-ghost use Rattle.paris_field.specs.Numbers.{AllOf, number_at};
-ghost use Rattle.paris_alu.specs.Alu.{binary_field, bits_everywhere, comparison_plane, extreme_operator};
+ghost use Rattle.paris_field.specs.Numbers.{AllOf, number_at, bits_everywhere};
+ghost use Rattle.paris_alu.specs.Alu.{binary_field, comparison_plane, extreme_operator};
 
 use crate::planes::{below, unlike};
 use paris_field::{FieldValue, copy_planes, merge_planes};

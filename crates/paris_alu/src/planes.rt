@@ -2,8 +2,7 @@
 
 ghost use Rattle.std.specs.Prelude.{◌≡◌, ◌==◌, ℕ, ◌+◌, ◌*◌, ◌^◌, ◌<◌, ◌≤◌, ◌-◌, IfOk, false, length, map, not, nat_lt, replicate, slice_index_or, ◌++◌};
 ghost use Rattle.std.specs.Simd.Lanes.{zip2};
-ghost use Rattle.paris_field.specs.Numbers.{AllOf, bit_in, number_at, plane_at};
-ghost use Rattle.paris_alu.specs.Alu.{bits_everywhere};
+ghost use Rattle.paris_field.specs.Numbers.{AllOf, bit_in, number_at, plane_at, bits_everywhere};
 
 use crate::kernel::Unlike;
 use paris_field::{add_planes, copy_planes, zero_planes};

@@ -28,8 +28,8 @@ use Rattle.paris_model.specs.Instructions.{reads, writes, key_width, after_plan,
 use Rattle.paris_model.proofs.Direct.{value_at-unread}
 use Rattle.paris_model.proofs.Widths.{key_width-is, width_first, some_width, index_below}
 use Rattle.paris_model.proofs.Worlds.{or_false_first, or_false_second, or_true_second, reads_sources, reads_targets, reads_keys}
-use Rattle.paris_alu.specs.Alu.{operand, unary_field}
-use Rattle.paris_field.specs.Fields.{AllFit}
+use Rattle.paris_alu.specs.Alu.{unary_field}
+use Rattle.paris_field.specs.Fields.{AllFit, operand}
 use Rattle.paris_field.specs.Numbers.{number_at}
 use Rattle.paris_exec.proofs.Executed.{flag_width}
 use Rattle.paris_exec.proofs.Left.{first_key, operand_is}

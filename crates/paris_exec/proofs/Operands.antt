@@ -27,7 +27,7 @@ use Rattle.paris_model.proofs.Stores.{length-everywhere}
 use Rattle.paris_model.proofs.Widths.{key_width-is, width_first, some_width}
 use Rattle.paris_model.proofs.Worlds.{or_false_first, or_false_second, or_true_second}
 use Rattle.paris_field.specs.Fields.{FieldNumbers}
-use Rattle.paris_alu.specs.Alu.{bits_everywhere}
+use Rattle.paris_field.specs.Numbers.{bits_everywhere}
 use Rattle.paris_exec.specs.Planes.{AreRead}
 use Rattle.paris_exec.specs.Tasks.{Task, field_of, seen_at}
 use Rattle.paris_exec.proofs.Executed.{key_narrow}

@@ -5,3 +5,4 @@ pub mod Turn
 pub mod Six
 pub mod Halves
 pub mod Addresses
+pub mod Places

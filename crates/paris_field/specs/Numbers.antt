@@ -1,11 +1,16 @@
 -- Numbers, one for each processor, whose bits lie in planes.
-use Rattle.std.specs.Prelude.{ℕ, ◌+◌, ◌*◌, ◌≡◌, ◌<◌, Bool, false, List, [], ◌∷◌, length, slice_index_or}
+use Rattle.std.specs.Prelude.{ℕ, ◌+◌, ◌*◌, ◌≡◌, ◌<◌, Bool, false, List, [], ◌∷◌, map, length, slice_index_or}
+use Rattle.paris_geometry.specs.Geometry.{numbers_below}
 use Rattle.paris_model.specs.Store.{bit, everywhere}
 use Rattle.paris_field.specs.Fields.{FieldNumbers}
 
 -- bit v of a plane as a number, and 0 past its end
 abbrev pub bit_in : List Bool → ℕ → ℕ
 bit_in plane v = bit (slice_index_or plane v false)
+
+-- one bit for each of n processors
+abbrev pub bits_everywhere : ℕ → (ℕ → Bool) → List Bool
+bits_everywhere n f = map f (numbers_below n)
 
 -- plane k of some planes
 abbrev pub plane_at : List (List Bool) → ℕ → List Bool

@@ -48,6 +48,21 @@ scaled_below axes a c sound within small =
     let le : c ≤ above axes a * axis_length axes a = omega (arith, one) in
     rw (count_is axes a within) (mul-le-mul_right (stride axes a) le)
 
+-- a line fits into its set
+pub line_fits : (axes : List ℕ) (a : ℕ) → is_geometry axes ≡ true → a < length axes → axis_length axes a * stride axes a ≤ processor_count axes
+line_fits axes a sound within =
+    let some : 0 < above axes a = above_positive axes a (geometry_powers axes sound) in
+    let one : 1 * axis_length axes a ≤ above axes a * axis_length axes a = mul-le-mul_right (axis_length axes a) some in
+    let le : axis_length axes a ≤ above axes a * axis_length axes a = omega (arith, one) in
+    rw (count_is axes a within) (mul-le-mul_right (stride axes a) le)
+
+-- so does a stride
+pub stride_fits : (axes : List ℕ) (a : ℕ) → is_geometry axes ≡ true → a < length axes → stride axes a ≤ processor_count axes
+stride_fits axes a sound within =
+    let some : 0 < axis_length axes a = length_positive axes a (geometry_powers axes sound) within in
+    let one : 1 * stride axes a ≤ axis_length axes a * stride axes a = mul-le-mul_right (stride axes a) some in
+    omega (arith, one, line_fits axes a sound within)
+
 pub coordinate_below : (axes : List ℕ) (a v : ℕ) → is_geometry axes ≡ true → a < length axes → coordinate axes a v < axis_length axes a
 coordinate_below axes a v sound within = mod-lt (v / stride axes a) (length_positive axes a (geometry_powers axes sound) within)
 

@@ -1,6 +1,6 @@
 //! The lengths of a set's axes.
 
-ghost use Rattle.std.specs.Prelude.{◌≡◌, ◌<◌, ◌≤◌, length, slice_index, true, false, IfOk, IfErr};
+ghost use Rattle.std.specs.Prelude.{◌≡◌, ◌<◌, ◌≤◌, ◌*◌, length, slice_index, true, false, IfOk, IfErr};
 ghost use Rattle.std.specs.List.{list_all};
 ghost use Rattle.paris_names.specs.declared.faults.Fault.TheVariants.{BadAxes};
 ghost use Rattle.paris_geometry.specs.Geometry.{is_geometry, is_power_of_two, processor_count, product, stride, axis_length, coordinate, at_coordinate, neighbour_coordinate, neighbour, address, AreCoordinates};
@@ -149,8 +149,8 @@ impl Geometry {
         ensures value { result ≡ coordinate self axis processor }
         ensures small { result < axis_length self axis }
     {
-        let place = u128::from(processor) / self.stride(axis);
-        (place % u128::from(self.len(axis))) as u32
+        let place = u64::from(processor) / self.stride(axis) as u64;
+        (place % self.len(axis)) as u32
     }
 
     /// The neighbour of a processor along an axis, which wraps round.
@@ -173,10 +173,10 @@ impl Geometry {
         ensures value { result ≡ at_coordinate self axis processor coordinate }
         ensures small { result < processor_count self }
     {
-        let stride = self.stride(axis);
+        let stride = self.stride(axis) as u64;
         let own = self.coordinate(processor, axis);
-        let first = u128::from(processor) - u128::from(own) * stride;
-        (first + u128::from(coordinate) * stride) as u32
+        let first = u64::from(processor) - u64::from(own) * stride;
+        (first + coordinate * stride) as u32
     }
 
     /// The processor that has these coordinates, one for each axis, axis 0 first.
@@ -185,22 +185,23 @@ impl Geometry {
         ensures value { result ≡ address self coordinates.now }
         ensures small { result < processor_count self }
     {
-        let mut address: u128 = 0;
+        let mut address: u64 = 0;
         for axis in 0..self.axes() {
-            address += u128::from(coordinates[axis]) * self.stride(axis);
+            address += u64::from(coordinates[axis]) * self.stride(axis) as u64;
         }
         address as u32
     }
 
     /// How far apart two neighbours along an axis are, in processors.
-    fn stride(self, axis: usize) -> u128
+    pub fn stride(self, axis: usize) -> usize
         requires { axis < length self }
         ensures value { result ≡ stride self axis }
         ensures positive { 0 < stride self axis }
+        ensures within { axis_length self axis * stride self axis ≤ processor_count self }
         ensures sound { is_geometry self ≡ true }
     {
         let lengths = &self.lengths[..self.count];
-        processor_count(&lengths[..axis])
+        processor_count(&lengths[..axis]) as usize
     }
 }
 

@@ -208,6 +208,33 @@ pub fn add_words(xs: &[u64], ys: &[u64], carry: &mut [u64], sum: &mut [u64])
     }
 }
 
+/// One step of an addition in place: the sums of `xs`, `sum` and `carry` into `sum`, and what they carry into `carry`.
+pub(crate) fn accumulate_words(xs: &[u64], sum: &mut [u64], carry: &mut [u64])
+    requires xs { length xs.now ≡ length sum.old }
+    requires xc { length xs.now ≡ length carry.old }
+    ensures sums { (i : ℕ) → i < length xs.now → slice_index sum.new i ≡ sum_word (slice_index xs.now i) (slice_index sum.old i) (slice_index carry.old i) }
+    ensures carries { (i : ℕ) → i < length xs.now → slice_index carry.new i ≡ carry_word (slice_index xs.now i) (slice_index sum.old i) (slice_index carry.old i) }
+{
+    let whole = xs.len() / 4;
+    for k in 0..whole {
+        let at = 4 * k;
+        let x = u64x4::from_slice(&xs[at..]);
+        let s = u64x4::from_slice(&sum[at..]);
+        let c = u64x4::from_slice(&carry[at..]);
+        let t = x ^ s;
+        (t ^ c).copy_to_slice(&mut sum[at..]);
+        ((x & s) | (t & c)).copy_to_slice(&mut carry[at..]);
+    }
+    for i in 4 * whole..xs.len() {
+        let x = xs[i];
+        let s = sum[i];
+        let c = carry[i];
+        let t = x ^ s;
+        sum[i] = t ^ c;
+        carry[i] = (x & s) | (t & c);
+    }
+}
+
 /// One step of a subtraction of numbers whose bits lie in planes: what is left of `xs` without `ys` and `borrow` into
 /// `difference`, which is written over, and what they borrow into `borrow`.
 pub fn subtract_words(xs: &[u64], ys: &[u64], borrow: &mut [u64], difference: &mut [u64])

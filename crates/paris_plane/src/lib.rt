@@ -2,7 +2,8 @@
 #![tactic(auto)]
 
 mod kernel;
+mod moves;
 mod plane;
 
 pub use kernel::{And, Borrow, Or, Select, TripleOp, WordOp, Xor};
-pub use plane::{Plane, add_step, subtract_step};
+pub use plane::{Plane, accumulate_step, add_step, subtract_step};

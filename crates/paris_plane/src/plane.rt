@@ -5,9 +5,10 @@ ghost use Rattle.std.specs.Simd.Lanes.{zip2};
 ghost use Rattle.paris_plane.specs.Bits.{borrow_bit, carry_bit, differ, stripes, sum_bit, word_bit, words_for, zip3};
 
 use crate::kernel::{
-    And, Or, Select, TripleOp, WordOp, Xor, add_words, fill_stripes, invert_words, put_triples,
+    And, Or, Select, TripleOp, WordOp, Xor, accumulate_words, add_words, fill_stripes, invert_words, put_triples,
     put_words, same_words, subtract_words,
 };
+use crate::moves::{lower_words, raise_words};
 use std::alloc::{AllocError, Global};
 use std::marker::Model;
 
@@ -200,6 +201,25 @@ impl Plane {
         invert_words(&mut self.words);
     }
 
+    /// Puts the bits of `other`, each `by` places up, and zeros below them.
+    pub fn raise_from(&mut self, other: &Plane, by: usize)
+        requires { length self.old ≡ length other.now }
+        ensures long { length self.new ≡ length self.old }
+        ensures low { (v : ℕ) → v < by → v < length self.old → slice_index_or self.new v false ≡ false }
+        ensures raised { (v : ℕ) → v + by < length self.old → slice_index_or self.new (v + by) false ≡ slice_index_or other.now v false }
+    {
+        raise_words(by, &other.words, &mut self.words);
+    }
+
+    /// Puts the bits of `other`, each `by` places down. The bits above the last that comes down mean nothing.
+    pub fn lower_from(&mut self, other: &Plane, by: usize)
+        requires { length self.old ≡ length other.now }
+        ensures long { length self.new ≡ length self.old }
+        ensures lowered { (v : ℕ) → v + by < length self.old → slice_index_or self.new v false ≡ slice_index_or other.now (v + by) false }
+    {
+        lower_words(by, &other.words, &mut self.words);
+    }
+
     /// Puts what the operation makes of each bit, that of `second` and that of `third` in its place.
     #[tactic(auto, using(crate::proofs::Rules::plane))]
     pub fn put_triple<O: TripleOp>(&mut self, second: &Plane, third: &Plane)
@@ -230,6 +250,17 @@ pub fn add_step(x: &Plane, y: &Plane, carry: &mut Plane, sum: &mut Plane)
     ensures carries { carry.new ≡ zip3 carry_bit x.now y.now carry.old }
 {
     add_words(&x.words, &y.words, &mut carry.words, &mut sum.words);
+}
+
+/// Adds three bits in each place, as one step of an addition in place: their sum goes into `sum`, which is one of the
+/// three, and what they carry into `carry`.
+pub fn accumulate_step(x: &Plane, sum: &mut Plane, carry: &mut Plane)
+    requires sums { length x.now ≡ length sum.old }
+    requires carries { length x.now ≡ length carry.old }
+    ensures sums { sum.new ≡ zip3 sum_bit x.now sum.old carry.old }
+    ensures carries { carry.new ≡ zip3 carry_bit x.now sum.old carry.old }
+{
+    accumulate_words(&x.words, &mut sum.words, &mut carry.words);
 }
 
 /// Takes two bits from a third in each place, as one step of a subtraction of numbers whose bits lie in planes: what is

@@ -1,7 +1,7 @@
 use Rattle.std.proofs.Common.{◌∙◌, ℕ, List, Bool, ap, length, refl}
 use Rattle.paris_field.specs.Numbers.{value_of_planes}
-use Rattle.paris_alu.specs.Alu.{operand}
-use Rattle.paris_alu.proofs.Places.{held}
+use Rattle.paris_field.specs.Fields.{operand}
+use Rattle.paris_field.proofs.Places.{held}
 use Rattle.paris_alu.proofs.Combined.{copied_field}
 use Rattle.paris_alu.proofs.bitwise.copy_low.Goals as goal
 

@@ -1,7 +1,7 @@
 use Rattle.std.proofs.Common.{◌∙◌, ℕ, List, Bool, ap, length, refl, subst, sym}
 use Rattle.paris_field.specs.Numbers.{AllOf, value_of_planes}
-use Rattle.paris_alu.specs.Alu.{operand}
-use Rattle.paris_alu.proofs.Places.{held}
+use Rattle.paris_field.specs.Fields.{operand}
+use Rattle.paris_field.proofs.Places.{held}
 use Rattle.paris_alu.proofs.Combined.{all_inverted, inverted_field}
 use Rattle.paris_alu.proofs.bitwise.invert.Goals as goal
 

@@ -4,11 +4,11 @@ use Rattle.std.specs.Simd.Lanes.{zip2}
 use Rattle.std.proofs.lemmas.Simd.{length-zip2}
 use Rattle.std.proofs.lemmas.Result.{IfOk-weaker}
 use Rattle.paris_plane.specs.Bits.{differ}
-use Rattle.paris_field.specs.Fields.{FieldNumbers}
+use Rattle.paris_field.specs.Fields.{FieldNumbers, operand}
 use Rattle.paris_field.specs.Numbers.{value_of_planes}
 use Rattle.paris_alu.specs.declared.bitwise.BitOperator.{BitOperator}
-use Rattle.paris_alu.specs.Alu.{binary_field, bitwise_operator, operand}
-use Rattle.paris_alu.proofs.Places.{Holds, held}
+use Rattle.paris_alu.specs.Alu.{binary_field, bitwise_operator}
+use Rattle.paris_field.proofs.Places.{Holds, held}
 use Rattle.paris_alu.proofs.Combined.{and_number, bitwise_field, or_number, xor_number}
 use Rattle.paris_alu.proofs.bitwise.logic.Goals as goal
 

@@ -2,8 +2,9 @@ use Rattle.std.proofs.Common.{◌≡◌, ℕ, ◌∙◌, ap, eqb, length, List, 
 use Rattle.std.proofs.lemmas.Result.{IfOk-weaker}
 use Rattle.paris_model.specs.declared.operators.Comparison.{Comparison}
 use Rattle.paris_model.specs.Elementwise.{is_less}
-use Rattle.paris_alu.specs.Alu.{comparison_plane, operand}
-use Rattle.paris_alu.proofs.Places.{Holds, held}
+use Rattle.paris_field.specs.Fields.{operand}
+use Rattle.paris_alu.specs.Alu.{comparison_plane}
+use Rattle.paris_field.proofs.Places.{Holds, held}
 use Rattle.paris_alu.proofs.Compares.{less_mask, turned, turned_twice, unlike_plane}
 use Rattle.paris_alu.proofs.comparisons.compare.Goals as goal
 

@@ -2,9 +2,8 @@ use Rattle.std.proofs.Common.{◌<◌, ◌-◌, ℕ, ◌∙◌, ap, arith, lengt
 use Rattle.std.proofs.lemmas.List.{get_or_read}
 use Rattle.paris_model.specs.declared.operators.Sign.{Sign}
 use Rattle.paris_model.specs.Elementwise.{is_less}
-use Rattle.paris_field.specs.Numbers.{number_at}
-use Rattle.paris_alu.specs.Alu.{bits_everywhere}
-use Rattle.paris_alu.proofs.Places.{length-bits_everywhere, read_long}
+use Rattle.paris_field.specs.Numbers.{number_at, bits_everywhere}
+use Rattle.paris_field.proofs.Places.{length-bits_everywhere, read_long}
 use Rattle.paris_alu.proofs.Compares.{less_signed, less_unsigned}
 use Rattle.paris_alu.proofs.comparisons.less.Goals.{in-Unsigned, in-Signed}
 use Rattle.paris_alu.proofs.comparisons.less.Goals as goal

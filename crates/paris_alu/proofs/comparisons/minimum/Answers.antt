@@ -2,9 +2,9 @@ use Rattle.std.proofs.Common.{◌≡◌, ℕ, ◌∙◌, ap, length, List, Bool,
 use Rattle.std.proofs.lemmas.Result.{IfOk-weaker}
 use Rattle.paris_model.specs.declared.operators.BinaryOperator.TheVariants.{Minimum}
 use Rattle.paris_model.specs.Elementwise.{is_less}
-use Rattle.paris_field.specs.Fields.{FieldNumbers}
-use Rattle.paris_alu.specs.Alu.{binary_field, operand}
-use Rattle.paris_alu.proofs.Places.{Holds, held, length-bits_everywhere}
+use Rattle.paris_field.specs.Fields.{FieldNumbers, operand}
+use Rattle.paris_alu.specs.Alu.{binary_field}
+use Rattle.paris_field.proofs.Places.{Holds, held, length-bits_everywhere}
 use Rattle.paris_alu.proofs.Compares.{chosen_field, less_mask}
 use Rattle.paris_alu.proofs.comparisons.minimum.Goals as goal
 

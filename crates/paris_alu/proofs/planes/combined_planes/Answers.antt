@@ -2,7 +2,7 @@ use Rattle.std.proofs.Common.{◌≡◌, ◌<◌, ◌∙◌, ap, arith, length, 
 use Rattle.std.specs.Simd.Lanes.{zip2}
 use Rattle.std.proofs.lemmas.List.{get_or_read}
 use Rattle.paris_field.specs.Numbers.{plane_at}
-use Rattle.paris_alu.proofs.Places.{zip2_more}
+use Rattle.paris_field.proofs.Places.{zip2_more}
 use Rattle.paris_alu.proofs.planes.combined_planes.Goals as goal
 
 pub loop-k-preserved : goal.loop-k-preserved

@@ -2,7 +2,7 @@ use Rattle.std.proofs.Common.{◌≡◌, ℕ, ◌+◌, ◌<◌, ◌∙◌, ap, a
 use Rattle.std.proofs.lemmas.List.{get_or_read, length-replicate, length_push}
 use Rattle.paris_plane.specs.Bits.{borrow_bit, sum_bit}
 use Rattle.paris_field.specs.Numbers.{AllOf, number_at, plane_at}
-use Rattle.paris_alu.proofs.Places.{all_none, all_pushed, length_triple, read_long}
+use Rattle.paris_field.proofs.Places.{all_none, all_pushed, length_triple, read_long}
 use Rattle.paris_alu.proofs.Chains.{difference_more}
 use Rattle.paris_alu.proofs.planes.difference_planes.Goals as goal
 

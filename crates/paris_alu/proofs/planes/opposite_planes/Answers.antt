@@ -4,7 +4,7 @@ use Rattle.std.proofs.lemmas.Simd.{length-zip2}
 use Rattle.std.proofs.lemmas.List.{get_or_read, length_push}
 use Rattle.paris_plane.specs.Bits.{differ}
 use Rattle.paris_field.specs.Numbers.{AllOf, number_at, plane_at}
-use Rattle.paris_alu.proofs.Places.{all_none, all_pushed, read_long}
+use Rattle.paris_field.proofs.Places.{all_none, all_pushed, read_long}
 use Rattle.paris_alu.proofs.Chains.{opposite_more}
 use Rattle.paris_alu.proofs.planes.opposite_planes.Goals as goal
 

@@ -2,7 +2,7 @@ use Rattle.std.proofs.Common.{◌≡◌, ℕ, ◌^◌, ◌<◌, ◌∙◌, ap, a
 use Rattle.std.proofs.lemmas.List.{get_or_read}
 use Rattle.paris_field.specs.Numbers.{number_at, plane_at}
 use Rattle.paris_alu.specs.Bits.{unlike_bit}
-use Rattle.paris_alu.proofs.Places.{clear_is, get_triple, length-bits_everywhere, length_triple, read_long}
+use Rattle.paris_field.proofs.Places.{clear_is, get_triple, length-bits_everywhere, length_triple, read_long}
 use Rattle.paris_alu.proofs.Steps.{unlike_step}
 use Rattle.paris_alu.proofs.Chains.{chain_more}
 use Rattle.paris_alu.proofs.planes.unlike.Goals as goal

@@ -1,6 +1,5 @@
 use Rattle.std.proofs.Common.{◌≡◌, eqb, not, take}
-use Rattle.paris_field.specs.Numbers.{number_at}
-use Rattle.paris_alu.specs.Alu.{bits_everywhere}
+use Rattle.paris_field.specs.Numbers.{number_at, bits_everywhere}
 use Rattle.paris_alu.proofs.planes.unlike.Given as goal
 
 abbrev pub invariant-loop-k : goal.invariant-loop-k

@@ -1,8 +1,9 @@
 use Rattle.std.proofs.Common.{◌≡◌, ℕ, ◌∙◌, ap, length, List, Bool, refl, sym}
 use Rattle.paris_field.specs.Numbers.{bit_in, value_of_planes}
-use Rattle.paris_alu.specs.Alu.{operand, binary_field, carry_plane}
+use Rattle.paris_field.specs.Fields.{operand}
+use Rattle.paris_alu.specs.Alu.{binary_field, carry_plane}
 use Rattle.paris_model.specs.declared.operators.BinaryOperator.TheVariants.{UnsignedAddCarry}
-use Rattle.paris_alu.proofs.Places.{Holds, held}
+use Rattle.paris_field.proofs.Places.{Holds, held}
 use Rattle.paris_alu.proofs.Totals.{Added, added, carried_field, carried_plane}
 use Rattle.paris_alu.proofs.sums.add_carry.Goals as goal
 

@@ -2,8 +2,8 @@ use Rattle.std.proofs.Common.{◌≡◌, ◌<◌, ◌-◌, ◌&&◌, ℕ, ◌∙
 use Rattle.std.specs.Simd.Lanes.{zip2}
 use Rattle.std.proofs.lemmas.List.{get_or_read, length-replicate}
 use Rattle.paris_field.specs.Numbers.{value_of_planes, plane_at}
-use Rattle.paris_alu.specs.Alu.{operand}
-use Rattle.paris_alu.proofs.Places.{Holds, held}
+use Rattle.paris_field.specs.Fields.{operand}
+use Rattle.paris_field.proofs.Places.{Holds, held}
 use Rattle.paris_alu.proofs.Totals.{Opposed, opposed, opposite_field, opposite_overflow}
 use Rattle.paris_alu.proofs.sums.negate.Goals as goal
 

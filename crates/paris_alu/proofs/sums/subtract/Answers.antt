@@ -1,8 +1,8 @@
 use Rattle.std.proofs.Common.{◌≡◌, ◌-◌, ℕ, ◌∙◌, ap, arith, length, List, Bool, [], false, refl, replicate, sym}
 use Rattle.std.proofs.lemmas.List.{get_or_read, length-replicate}
 use Rattle.paris_field.specs.Numbers.{value_of_planes, plane_at}
-use Rattle.paris_alu.specs.Alu.{operand}
-use Rattle.paris_alu.proofs.Places.{Holds, held, last_long}
+use Rattle.paris_field.specs.Fields.{operand}
+use Rattle.paris_field.proofs.Places.{Holds, held, last_long}
 use Rattle.paris_alu.proofs.Totals.{Taken, taken, difference_carry, difference_field, difference_overflow}
 use Rattle.paris_alu.proofs.sums.subtract.Goals as goal
 

@@ -1,9 +1,9 @@
 use Rattle.std.proofs.Common.{◌≡◌, ◌<◌, ◌-◌, ℕ, ◌∙◌, ap, arith, eqb, not, length, List, Bool, [], false, refl, replicate, subst, sym}
 use Rattle.std.proofs.lemmas.List.{get_or_read, take_rest}
-use Rattle.paris_field.specs.Numbers.{AllOf, value_of_planes, number_at, plane_at}
-use Rattle.paris_alu.specs.Alu.{bits_everywhere, operand}
+use Rattle.paris_field.specs.Numbers.{AllOf, value_of_planes, number_at, plane_at, bits_everywhere}
+use Rattle.paris_field.specs.Fields.{operand}
 use Rattle.paris_alu.specs.Bits.{by_sign}
-use Rattle.paris_alu.proofs.Places.{Holds, held}
+use Rattle.paris_field.proofs.Places.{Holds, held}
 use Rattle.paris_alu.proofs.Resized.{all_extended, extended_long, kept_le, kept_some, no_longer, resized_overflow, resized_value, rest_long, shorter}
 use Rattle.paris_alu.proofs.widths.extend.Goals as goal
 

@@ -1,5 +1,5 @@
 use Rattle.std.proofs.Common.{◌∙◌, ap, length}
-use Rattle.paris_alu.proofs.Places.{length-bits_everywhere}
+use Rattle.paris_field.proofs.Places.{length-bits_everywhere}
 use Rattle.paris_plane_tests.proofs.worked_rows.Operation.run.Goals as goal
 
 pub add_carry-requires-clause-carries : goal.add_carry-requires-clause-carries

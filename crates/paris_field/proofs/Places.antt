@@ -8,9 +8,8 @@ use Rattle.paris_model.specs.Store.{everywhere}
 use Rattle.paris_plane.specs.Bits.{zip3}
 use Rattle.paris_plane.proofs.Bits.{length-zip3, get_or-zip3}
 use Rattle.paris_field.specs.Fields.{FieldNumbers}
-use Rattle.paris_field.specs.Numbers.{AllOf, bit_in, value_of_planes, number_at, numbers, plane_at}
+use Rattle.paris_field.specs.Numbers.{AllOf, bit_in, value_of_planes, number_at, numbers, plane_at, bits_everywhere}
 use Rattle.paris_field.proofs.Lists.{numbers_are}
-use Rattle.paris_alu.specs.Alu.{bits_everywhere}
 
 -- a plane that is f in each processor
 pub plane_is : (p : List Bool) (n : ℕ) (f : ℕ → Bool) → length p ≡ n → ((v : ℕ) → v < n → get_or p v false ≡ f v) → p ≡ bits_everywhere n f
