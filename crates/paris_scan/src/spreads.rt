@@ -1,0 +1,89 @@
+//! Spreads and reduces.
+
+ghost use Rattle.std.specs.Prelude.{◌≡◌, ◌<◌, ◌≤◌, IfOk, IfSome, is_some, length};
+ghost use Rattle.paris_geometry.specs.Geometry.{axis_length, processor_count};
+ghost use Rattle.paris_scan.specs.Lines.{combined_field, is_sum, of_lines, placed_field, stores_at, sums_overflow};
+
+use crate::scans::Combined;
+use paris_field::FieldValue;
+use paris_geometry::Geometry;
+use paris_model::Combiner;
+use paris_plane::Plane;
+use std::alloc::{AllocError, Global};
+
+/// In each processor what the low `bits` bits of the selected processors of its line combine to.
+pub fn spread(
+    alloc: Global,
+    operator: Combiner,
+    geometry: Geometry,
+    axis: usize,
+    x: &FieldValue,
+    selected: &Plane,
+    bits: u64,
+) -> Result<Combined, AllocError>
+    requires axis { axis < length geometry }
+    requires positive { 0 < bits }
+    requires narrow { bits ≤ 128 }
+    requires x_width { bits ≤ x.now.width }
+    requires count { length x.now.numbers ≡ processor_count geometry }
+    requires selected { length selected.now ≡ processor_count geometry }
+    ensures value { IfOk result (λ combined. combined.value ≡ combined_field operator bits (processor_count geometry) (of_lines geometry axis selected.now bits x.now)) }
+    ensures overflow { IfOk result (λ combined. IfSome combined.overflow (λ overflow. overflow ≡ sums_overflow bits (processor_count geometry) (of_lines geometry axis selected.now bits x.now))) }
+    ensures sums { IfOk result (λ combined. is_some combined.overflow ≡ is_sum operator) }
+{
+    Err(AllocError)
+}
+
+/// What the values of lines combine to, and which processors store it.
+#[derive(Debug, Drop)]
+pub struct Reduced {
+    pub combined: Combined,
+    pub stores: Plane,
+}
+
+/// What the low `bits` bits of the selected processors of each line combine to; the selected processors with the coordinate `place` store
+/// it.
+pub fn reduce(
+    alloc: Global,
+    operator: Combiner,
+    geometry: Geometry,
+    axis: usize,
+    place: u64,
+    x: &FieldValue,
+    selected: &Plane,
+    bits: u64,
+) -> Result<Reduced, AllocError>
+    requires axis { axis < length geometry }
+    requires place { place < axis_length geometry axis }
+    requires positive { 0 < bits }
+    requires narrow { bits ≤ 128 }
+    requires x_width { bits ≤ x.now.width }
+    requires count { length x.now.numbers ≡ processor_count geometry }
+    requires selected { length selected.now ≡ processor_count geometry }
+    ensures value { IfOk result (λ reduced. reduced.combined.value ≡ combined_field operator bits (processor_count geometry) (of_lines geometry axis selected.now bits x.now)) }
+    ensures overflow { IfOk result (λ reduced. IfSome reduced.combined.overflow (λ overflow. overflow ≡ sums_overflow bits (processor_count geometry) (of_lines geometry axis selected.now bits x.now))) }
+    ensures sums { IfOk result (λ reduced. is_some reduced.combined.overflow ≡ is_sum operator) }
+    ensures stores { IfOk result (λ reduced. reduced.stores ≡ stores_at geometry axis place selected.now) }
+{
+    Err(AllocError)
+}
+
+/// In each processor the low `bits` bits of the processor of its line with the coordinate `place`.
+pub fn copy_spread(
+    alloc: Global,
+    geometry: Geometry,
+    axis: usize,
+    place: u64,
+    x: &FieldValue,
+    bits: u64,
+) -> Result<FieldValue, AllocError>
+    requires axis { axis < length geometry }
+    requires place { place < axis_length geometry axis }
+    requires positive { 0 < bits }
+    requires narrow { bits ≤ 128 }
+    requires x_width { bits ≤ x.now.width }
+    requires count { length x.now.numbers ≡ processor_count geometry }
+    ensures { IfOk result (λ value. value ≡ placed_field geometry axis place bits x.now) }
+{
+    Err(AllocError)
+}
