@@ -27,8 +27,8 @@ use Rattle.paris_model.specs.Conditional.{conditional_after, conditional_source_
 use Rattle.paris_model.specs.Instructions.{reads, writes, after_plan, after_in, target_keys, source_keys, source_fields, source_flags, field_keys, flag_keys, stores_all_bits}
 use Rattle.paris_model.proofs.Stores.{everywhere-same, everywhere-at}
 use Rattle.paris_model.proofs.Worlds.{has_key-append, or_true_second, reads_sources, reads_targets}
-use Rattle.paris_field.specs.Fields.{FieldNumbers, use Rattle.paris_field.specs.Numbers.{bits_everywhere}
-operand}
+use Rattle.paris_field.specs.Fields.{FieldNumbers, operand}
+use Rattle.paris_field.specs.Numbers.{bits_everywhere}
 use Rattle.paris_alu.specs.Alu.{binary_field, carry_plane, overflow_plane, unary_field, unary_overflow_plane, resized_field, resize_overflow_plane, comparison_plane}
 use Rattle.paris_exec.proofs.Executed.{flag_width}
 use Rattle.paris_exec.proofs.Puts.{flag_bit}

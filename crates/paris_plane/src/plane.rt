@@ -5,8 +5,8 @@ ghost use Rattle.std.specs.Simd.Lanes.{zip2};
 ghost use Rattle.paris_plane.specs.Bits.{borrow_bit, carry_bit, differ, stripes, sum_bit, word_bit, words_for, zip3};
 
 use crate::kernel::{
-    And, Or, Select, TripleOp, WordOp, Xor, accumulate_words, add_words, fill_stripes, invert_words, put_triples,
-    put_words, same_words, subtract_words,
+    And, Or, Select, TripleOp, WordOp, Xor, accumulate_words, add_words, fill_stripes,
+    invert_words, put_triples, put_words, same_words, subtract_words,
 };
 use crate::moves::{lower_words, raise_words};
 use std::alloc::{AllocError, Global};

@@ -1,5 +1,4 @@
-use Rattle.std.proofs.Common.{◌≤◌, length, take, arith}
-use Rattle.paris_geometry.specs.Geometry.{stride, processor_count}
+use Rattle.std.proofs.Common.{take, arith}
 use Rattle.paris_geometry.proofs.Neighbours.{line_fits, stride_fits}
 use Rattle.paris_geometry.proofs.Strides.{geometry_powers, geometry_small, all_taken, stride_positive}
 use Rattle.paris_geometry.proofs.shape.Geometry.stride.Goals as goal
