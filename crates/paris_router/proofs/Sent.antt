@@ -28,12 +28,14 @@ messages_more p selected address value =
 
 pub sent : (p : ℕ) (selected : ℕ → Bool) (address value : ℕ → ℕ) → selected p ≡ true → messages (p + 1) selected address value ≡ messages p selected address value ++ (address p, value p) ∷ []
 sent p selected address value does =
-    ap (λ k. messages k selected address value) (omega arith) ∙ messages_more p selected address value
+    let next : p + 1 ≡ suc p = omega arith in
+    ap (λ k. messages k selected address value) next ∙ messages_more p selected address value
     ∙ ap (λ b. messages p selected address value ++ map (λ q. (address q, value q)) (cond b (p ∷ []) [])) does
 
 pub silent : (p : ℕ) (selected : ℕ → Bool) (address value : ℕ → ℕ) → selected p ≡ false → messages (p + 1) selected address value ≡ messages p selected address value
 silent p selected address value stays =
-    ap (λ k. messages k selected address value) (omega arith) ∙ messages_more p selected address value
+    let next : p + 1 ≡ suc p = omega arith in
+    ap (λ k. messages k selected address value) next ∙ messages_more p selected address value
     ∙ ap (λ b. messages p selected address value ++ map (λ q. (address q, value q)) (cond b (p ∷ []) [])) stays
     ∙ append-nil (messages p selected address value)
 
@@ -46,8 +48,11 @@ same_messages (suc n) selected a b x y addresses values =
     ∙ ap (λ l. messages n selected b y ++ l) (last (selected n) refl)
     ∙ sym (messages_more n selected b y)
   where
-    last : (s : Bool) → selected n ≡ s → map (λ q. (a q, x q)) (cond s (n ∷ []) []) ≡ map (λ q. (b q, y q)) (cond s (n ∷ []) [])
-    last true e = ap (λ k. (k, x n) ∷ []) (addresses n (omega arith) e) ∙ ap (λ k. (b n, k) ∷ []) (values n (omega arith))
+    last : (s : Bool) → selected n ≡ s → map {B = ℕ × ℕ} (λ q. (a q, x q)) (cond s (n ∷ []) []) ≡ map {B = ℕ × ℕ} (λ q. (b q, y q)) (cond s (n ∷ []) [])
+    last true e =
+        let from_address : ℕ → List (ℕ × ℕ) = λ k. (k, x n) ∷ [] in
+        let from_value : ℕ → List (ℕ × ℕ) = λ k. (b n, k) ∷ [] in
+        ap from_address (addresses n (omega arith) e) ∙ ap from_value (values n (omega arith))
     last false e = refl
 
 pub messages_all : (P : ℕ × ℕ → Type 0) (n : ℕ) (selected : ℕ → Bool) (address value : ℕ → ℕ) → ((p : ℕ) → p < n → P (address p, value p)) → All P (messages n selected address value)

@@ -1,6 +1,6 @@
 //! Sending by send address.
 
-ghost use Rattle.std.specs.Prelude.{◌≡◌, ◌<◌, ◌≤◌, All, IfOk, false, find, length, replicate, slice_index};
+ghost use Rattle.std.specs.Prelude.{◌≡◌, ◌<◌, ◌≤◌, All, IfOk, IfSome, false, find, length, replicate, slice_index};
 ghost use Rattle.paris_geometry.specs.Geometry.{numbers_below};
 ghost use Rattle.paris_model.specs.Mail.{arrivals, collision_at, first_cause};
 ghost use Rattle.paris_model.specs.Store.{everywhere};
@@ -48,7 +48,8 @@ fn deliver(
 
 /// The least processor of a plane whose bit is 1.
 fn first_one(plane: &Plane) -> Option<usize>
-    ensures { result ≡ find (has plane.now) (numbers_below (length plane.now)) }
+    ensures value { result ≡ find (has plane.now) (numbers_below (length plane.now)) }
+    ensures within { IfSome result (λ v. v < length plane.now) }
 {
     (0..plane.len()).find(|v| plane.get(*v))
 }
