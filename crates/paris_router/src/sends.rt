@@ -82,9 +82,11 @@ pub fn send(
     let mut receivers = Plane::zeros(alloc, count)?;
     let mut crowded = Plane::zeros(alloc, count)?;
     deliver(&mail, &mut values, &mut receivers, &mut crowded);
-    if let Some(r) = first_one(&crowded) {
-        return Ok(Err(Refusal::Collision(r as u32)));
+    match first_one(&crowded) {
+        Some(r) => Ok(Err(Refusal::Collision(r as u32))),
+        None => {
+            let value = FieldValue::from_numbers(alloc, bits, &values)?;
+            Ok(Ok(Delivery { value, receivers }))
+        }
     }
-    let value = FieldValue::from_numbers(alloc, bits, &values)?;
-    Ok(Ok(Delivery { value, receivers }))
 }
