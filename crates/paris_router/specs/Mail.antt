@@ -1,5 +1,5 @@
 -- Messages between processors whose addresses and values lie in fields.
-use Rattle.std.specs.Prelude.{ℕ, Bool, false, List, length, slice_index, slice_index_or, Option, Some, None, Result, Ok, Err, if◌then◌else◌}
+use Rattle.std.specs.Prelude.{ℕ, Bool, false, nat_lt, List, length, slice_index, slice_index_or, Option, Some, None, Result, Ok, Err, if◌then◌else◌}
 use Rattle.paris_model.specs.declared.actions.Refusal.{Refusal}
 use Rattle.paris_model.specs.Mail.{arrivals, bad_sender, gets_mail, messages}
 use Rattle.paris_model.specs.Store.{everywhere}
@@ -19,6 +19,10 @@ refusal_in (Err cause) = Some cause
 abbrev pub bad_sender_of : FieldNumbers → List Bool → Option ℕ
 bad_sender_of addresses selected = bad_sender (length addresses.numbers) (has selected) (slice_index addresses.numbers)
 
+-- the address of each selected processor, and 0 for the others
+abbrev pub selected_addresses : FieldNumbers → List Bool → List ℕ
+selected_addresses addresses selected = everywhere (length addresses.numbers) (λ v. if has selected v then slice_index addresses.numbers v else 0)
+
 -- in each selected processor the low L bits at its address
 abbrev pub fetched_field : ℕ → FieldNumbers → FieldNumbers → List Bool → FieldNumbers
 fetched_field L addresses x selected = record { width = L; numbers = everywhere (length x.numbers) (λ v. if has selected v then operand L x (slice_index addresses.numbers v) else 0) }
@@ -34,3 +38,7 @@ delivered_field L n mail = record { width = L; numbers = everywhere n (λ r. sli
 -- where mail arrives
 abbrev pub receivers_of : ℕ → List (ℕ × ℕ) → List Bool
 receivers_of n mail = bits_everywhere n (gets_mail mail)
+
+-- where two messages meet
+abbrev pub crowded_in : ℕ → List (ℕ × ℕ) → List Bool
+crowded_in n mail = bits_everywhere n (λ r. nat_lt 1 (length (arrivals mail r)))

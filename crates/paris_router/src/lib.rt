@@ -1,8 +1,14 @@
 //! Moves by send address: each selected processor fetches from an address, or sends to one.
 #![tactic(auto)]
 
+mod addresses;
 mod gets;
+mod messages;
+mod numbers;
 mod sends;
 
+pub use addresses::checked_addresses;
 pub use gets::get;
+pub use messages::{checked_mail, receivers};
+pub use numbers::{low_mask, low_numbers};
 pub use sends::{Delivery, send};

@@ -1,0 +1,71 @@
+-- Lists of numbers by processor: low bits, and what is fetched from an address.
+use Rattle.std.proofs.Common.{◌≡◌, ◌≤◌, ℕ, ◌+◌, ◌%◌, ◌<◌, ◌^◌, Bool, true, false, List, All, length, get_or, map, cond, refl, sym, ap, subst, ◌∙◌, arith, inl, inr}
+use Rattle.std.proofs.Math.ListN.{get_or-eq_default}
+use Rattle.std.proofs.lemmas.Bool.{cases_lt}
+use Rattle.std.proofs.lemmas.List.{get_or-map, length-map}
+use Rattle.std.proofs.lemmas.List.Elements.{All-from_get_or, All-get_or, All-map}
+use Rattle.std.proofs.lemmas.List.FromFn.{fill_by_all, get_or-map-range_with_len, length-map-range_with_len}
+use Rattle.std.proofs.lemmas.Nat.{mod_below}
+use lib.Pow.{pow_pos}
+use Rattle.paris_geometry.specs.Geometry.{numbers_below}
+use Rattle.paris_model.specs.Store.{everywhere, low}
+use Rattle.paris_field.specs.Fields.{FieldNumbers, operand}
+use Rattle.paris_field.proofs.Places.{everywhere_same}
+use Rattle.paris_router.specs.Mail.{has, selected_addresses}
+
+pub length-everywhere : (n : ℕ) (f : ℕ → ℕ) → length (everywhere n f) ≡ n
+length-everywhere n f = length-map-range_with_len f 0 n
+
+pub get_or-everywhere : (n : ℕ) (f : ℕ → ℕ) (v : ℕ) → v < n → get_or (everywhere n f) v 0 ≡ f v
+get_or-everywhere n f v h = get_or-map-range_with_len f 0 n v v 0 h (omega arith)
+
+pub cut_everywhere : (L : ℕ) (xs : List ℕ) → map (low L) xs ≡ everywhere (length xs) (λ v. low L (get_or xs v 0))
+cut_everywhere L xs = fill_by_all (λ v. low L (get_or xs v 0)) (map (low L) xs) (length xs) 0 (length-map xs (low L)) (λ v h. get_or-map (low L) xs v 0 0 h)
+
+pub cut_fit : (L : ℕ) (xs : List ℕ) → All (λ x. x < 2 ^ L) (map (low L) xs)
+cut_fit L xs = All-map (λ x. x < 2 ^ L) (low L) xs (λ k d there. mod_below (get_or xs k d) (2 ^ L) (pow_pos L))
+
+-- each number of a list that fits, and the 0 past its end
+pub small : (L : ℕ) (xs : List ℕ) (i : ℕ) → All (λ x. x < 2 ^ L) xs → get_or xs i 0 < 2 ^ L
+small L xs i fit =
+    elim (cases_lt i (length xs)) [
+      | inl inside ↦ All-get_or (λ x. x < 2 ^ L) xs i 0 inside fit
+      | inr past ↦ subst (λ x. x < 2 ^ L) (sym (get_or-eq_default xs 0 past)) (pow_pos L)
+    ]
+
+pub everywhere_all : (P : ℕ → Type 0) (n : ℕ) (f : ℕ → ℕ) → ((v : ℕ) → v < n → P (f v)) → All P (everywhere n f)
+everywhere_all P n f each =
+    All-from_get_or P (everywhere n f) 0 (λ v h.
+    let long = length-everywhere n f in
+    let inside : v < n = omega arith in
+    subst P (sym (get_or-everywhere n f v inside)) (each v inside))
+
+one_fits : (L : ℕ) (b : Bool) (x : ℕ) → x < 2 ^ L → cond b x 0 < 2 ^ L
+one_fits L true x h = h
+one_fits L false x h = pow_pos L
+
+pub fetched_fit : (L n : ℕ) (test : ℕ → Bool) (place : ℕ → ℕ) (xs : List ℕ) → All (λ x. x < 2 ^ L) xs → All (λ x. x < 2 ^ L) (everywhere n (λ v. cond (test v) (get_or xs (place v) 0) 0))
+fetched_fit L n test place xs fit = everywhere_all (λ x. x < 2 ^ L) n (λ v. cond (test v) (get_or xs (place v) 0) 0) (λ v h. one_fits L (test v) (get_or xs (place v) 0) (small L xs (place v) fit))
+
+-- the address of a selected processor
+pub address_at : (addresses : FieldNumbers) (selected : List Bool) (v : ℕ) → v < length addresses.numbers → has selected v ≡ true → get_or (selected_addresses addresses selected) v 0 ≡ get_or addresses.numbers v 0
+address_at addresses selected v h does =
+    get_or-everywhere (length addresses.numbers) (λ v. cond (has selected v) (get_or addresses.numbers v 0) 0) v h
+    ∙ ap (λ b. cond b (get_or addresses.numbers v 0) 0) does
+
+pub fetched_is : (L n : ℕ) (x addresses : FieldNumbers) (selected : List Bool) → n ≡ length addresses.numbers → length addresses.numbers ≡ length x.numbers → All (λ r. r < length addresses.numbers) (selected_addresses addresses selected)
+    → everywhere n (λ v. cond (has selected v) (get_or (everywhere (length x.numbers) (operand L x)) (get_or (selected_addresses addresses selected) v 0) 0) 0) ≡ everywhere (length x.numbers) (λ v. cond (has selected v) (operand L x (get_or addresses.numbers v 0)) 0)
+fetched_is L n x addresses selected count same within =
+    ap (λ k. everywhere k (λ v. cond (has selected v) (get_or (everywhere (length x.numbers) (operand L x)) (get_or (selected_addresses addresses selected) v 0) 0) 0)) (count ∙ same)
+    ∙ everywhere_same (length x.numbers)
+    (λ v. cond (has selected v) (get_or (everywhere (length x.numbers) (operand L x)) (get_or (selected_addresses addresses selected) v 0) 0) 0)
+    (λ v. cond (has selected v) (operand L x (get_or addresses.numbers v 0)) 0)
+    (λ v h. at v h (has selected v) refl)
+  where
+    at : (v : ℕ) → v < length x.numbers → (b : Bool) → has selected v ≡ b → cond b (get_or (everywhere (length x.numbers) (operand L x)) (get_or (selected_addresses addresses selected) v 0) 0) 0 ≡ cond b (operand L x (get_or addresses.numbers v 0)) 0
+    at v h true does =
+        let long = length-everywhere (length addresses.numbers) (λ v. cond (has selected v) (get_or addresses.numbers v 0) 0) in
+        let inside : get_or (selected_addresses addresses selected) v 0 < length x.numbers = subst (λ n. get_or (selected_addresses addresses selected) v 0 < n) same (within v 0 (omega arith)) in
+        get_or-everywhere (length x.numbers) (operand L x) (get_or (selected_addresses addresses selected) v 0) inside
+        ∙ ap (operand L x) (address_at addresses selected v (omega arith) does)
+    at v h false stays = refl

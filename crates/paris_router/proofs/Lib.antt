@@ -1,0 +1,4 @@
+pub mod Least
+pub mod Posted
+pub mod Sent
+pub mod Fetched

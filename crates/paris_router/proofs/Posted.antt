@@ -1,0 +1,115 @@
+-- Messages, one after the other, and what processors have of them.
+use Rattle.std.proofs.Common.{◌≡◌, ◌≢◌, ℕ, zero, suc, ◌+◌, ◌<◌, ◌≤◌, Bool, true, false, List, [], ◌∷◌, ◌++◌, length, get_or, take, set, map, replicate, refl, sym, ap, subst, ◌∙◌, cond, eqb, arith, inl, inr}
+use Rattle.std.specs.Prelude.{◌==◌, filter, nat_lt}
+use Rattle.std.specs.List.{All, range_with_len}
+use Rattle.std.proofs.lemmas.Bool.Decides.{nat_tests}
+use Rattle.std.proofs.lemmas.Bool.{cases_eq, ne_eqb}
+use Rattle.std.proofs.Common.{eq-eqb}
+use Rattle.std.proofs.lemmas.List.{append-nil, get_or-replicate, get_or-set_other, get_or-set_same, length-append, length-replicate, length-set, map-append, take_more}
+use Rattle.std.proofs.lemmas.List.Elements.{filter-append}
+use Rattle.std.proofs.lemmas.List.FromFn.{fill_by_all, get_or-map-range_with_len, length-map-range_with_len}
+use Rattle.paris_geometry.specs.Geometry.{numbers_below}
+use Rattle.paris_model.specs.Mail.{arrivals}
+
+-- what arrives of one message more
+posted : (mail : List (ℕ × ℕ)) (message : ℕ × ℕ) (r : ℕ) → arrivals (mail ++ message ∷ []) r ≡ arrivals mail r ++ arrivals (message ∷ []) r
+posted mail message r =
+    ap (map (λ (m : ℕ × ℕ). m.1)) (filter-append (λ (m : ℕ × ℕ). m.0 == r) mail (message ∷ []))
+    ∙ map-append (λ (m : ℕ × ℕ). m.1) (filter (λ (m : ℕ × ℕ). m.0 == r) mail) (filter (λ (m : ℕ × ℕ). m.0 == r) (message ∷ []))
+
+alone : (message : ℕ × ℕ) (r : ℕ) → arrivals (message ∷ []) r ≡ cond (message.0 == r) (message.1 ∷ []) []
+alone message r = go (message.0 == r) refl
+  where
+    go : (b : Bool) → (message.0 == r) ≡ b → arrivals (message ∷ []) r ≡ cond (message.0 == r) (message.1 ∷ []) []
+    go true e = simp e
+    go false e = simp e
+
+pub arrives : (mail : List (ℕ × ℕ)) (i r : ℕ) (d : ℕ × ℕ) → i < length mail → (get_or mail i d).0 ≡ r → arrivals (take (i + 1) mail) r ≡ arrivals (take i mail) r ++ (get_or mail i d).1 ∷ []
+arrives mail i r d h here =
+    ap (λ l. arrivals l r) (take_more mail i d h) ∙ posted (take i mail) (get_or mail i d) r
+    ∙ ap (λ xs. arrivals (take i mail) r ++ xs) (alone (get_or mail i d) r ∙ ap (λ b. cond b ((get_or mail i d).1 ∷ []) []) (eq-eqb (get_or mail i d).0 r here))
+
+pub passes : (mail : List (ℕ × ℕ)) (i r : ℕ) (d : ℕ × ℕ) → i < length mail → (get_or mail i d).0 ≢ r → arrivals (take (i + 1) mail) r ≡ arrivals (take i mail) r
+passes mail i r d h there =
+    ap (λ l. arrivals l r) (take_more mail i d h) ∙ posted (take i mail) (get_or mail i d) r
+    ∙ ap (λ xs. arrivals (take i mail) r ++ xs) (alone (get_or mail i d) r ∙ ap (λ b. cond b ((get_or mail i d).1 ∷ []) []) (ne_eqb (get_or mail i d).0 r there))
+    ∙ append-nil (arrivals (take i mail) r)
+
+-- what each of n processors makes of the values that arrive there
+abbrev pub seen : {X : Type 0} → (ℕ → List ℕ → X) → ℕ → List (ℕ × ℕ) → List X
+seen h n mail = map (λ r. h r (arrivals mail r)) (numbers_below n)
+
+pub length-seen : {X : Type 0} (h : ℕ → List ℕ → X) (n : ℕ) (mail : List (ℕ × ℕ)) → length (seen h n mail) ≡ n
+length-seen h n mail = length-map-range_with_len (λ r. h r (arrivals mail r)) 0 n
+
+pub get_or-seen : {X : Type 0} (h : ℕ → List ℕ → X) (n : ℕ) (mail : List (ℕ × ℕ)) (r : ℕ) (d : X) → r < n → get_or (seen h n mail) r d ≡ h r (arrivals mail r)
+get_or-seen h n mail r d inside = get_or-map-range_with_len (λ r. h r (arrivals mail r)) 0 n r r d inside (omega arith)
+
+-- before any message
+pub none_seen : {X : Type 0} (h : ℕ → List ℕ → X) (n : ℕ) (x : X) → ((r : ℕ) → h r [] ≡ x) → replicate n x ≡ seen h n []
+none_seen h n x all = fill_by_all (λ r. h r []) (replicate n x) n x (length-replicate n x) (λ r inside. get_or-replicate n r x x inside ∙ sym (all r))
+
+-- the receiver of one message more makes x of its values
+pub seen_more : {X : Type 0} (h : ℕ → List ℕ → X) (n : ℕ) (mail : List (ℕ × ℕ)) (i : ℕ) (d : ℕ × ℕ) (x : X) → i < length mail → (get_or mail i d).0 < n → h (get_or mail i d).0 (arrivals (take i mail) (get_or mail i d).0 ++ (get_or mail i d).1 ∷ []) ≡ x → set (seen h n (take i mail)) (get_or mail i d).0 x ≡ seen h n (take (i + 1) mail)
+seen_more h n mail i d x at inside made =
+    let before = seen h n (take i mail) in
+    let long : length before ≡ n = length-seen h n (take i mail) in
+    let there : (get_or mail i d).0 < length before = omega arith in
+    fill_by_all (λ r. h r (arrivals (take (i + 1) mail) r)) (set before (get_or mail i d).0 x) n x (length-set before (get_or mail i d).0 x ∙ long) (λ r within.
+    elim (cases_eq (get_or mail i d).0 r) [
+      | inl same ↦
+          ap (λ k. get_or (set before (get_or mail i d).0 x) k x) (sym same)
+          ∙ get_or-set_same before (get_or mail i d).0 x x there
+          ∙ sym made
+          ∙ ap (λ k. h k (arrivals (take i mail) k ++ (get_or mail i d).1 ∷ [])) same
+          ∙ ap (h r) (sym (arrives mail i r d at same))
+      | inr other ↦
+          get_or-set_other before (get_or mail i d).0 r x x (λ e. other (sym e))
+          ∙ get_or-seen h n (take i mail) r x within
+          ∙ ap (h r) (sym (passes mail i r d at other))
+    ])
+
+-- a message that changes nothing at its receiver
+pub seen_same : {X : Type 0} (h : ℕ → List ℕ → X) (n : ℕ) (mail : List (ℕ × ℕ)) (i : ℕ) (d : ℕ × ℕ) (x : X) → i < length mail → h (get_or mail i d).0 (arrivals (take i mail) (get_or mail i d).0 ++ (get_or mail i d).1 ∷ []) ≡ h (get_or mail i d).0 (arrivals (take i mail) (get_or mail i d).0) → seen h n (take i mail) ≡ seen h n (take (i + 1) mail)
+seen_same h n mail i d x at made =
+    fill_by_all (λ r. h r (arrivals (take (i + 1) mail) r)) (seen h n (take i mail)) n x (length-seen h n (take i mail)) (λ r within.
+    get_or-seen h n (take i mail) r x within
+    ∙ elim (cases_eq (get_or mail i d).0 r) [
+      | inl same ↦
+          sym (ap (λ k. h k (arrivals (take i mail) k ++ (get_or mail i d).1 ∷ []) ) (sym same) ∙ made ∙ ap (λ k. h k (arrivals (take i mail) k)) same)
+          ∙ ap (h r) (sym (arrives mail i r d at same))
+      | inr other ↦ ap (h r) (sym (passes mail i r d at other))
+    ])
+
+-- tests of an order
+less : (m n : ℕ) → m < n → nat_lt m n ≡ true
+less m n h = grind (arith, nat_tests)
+
+not_less : (m n : ℕ) → n ≤ m → nat_lt m n ≡ false
+not_less m n h = grind (arith, nat_tests)
+
+is_less : (m n : ℕ) → nat_lt m n ≡ true → m < n
+is_less m n h = grind (arith, nat_tests)
+
+at_most : (m n : ℕ) → nat_lt m n ≡ false → n ≤ m
+at_most m n h = grind (arith, nat_tests)
+
+-- how many values a list has, and its first one, with one value more
+pub some_more : (xs : List ℕ) (x : ℕ) → nat_lt 0 (length (xs ++ x ∷ [])) ≡ true
+some_more xs x = less 0 (length (xs ++ x ∷ [])) (omega (arith, length-append xs (x ∷ [])))
+
+pub two_now : (xs : List ℕ) (x : ℕ) → nat_lt 0 (length xs) ≡ true → nat_lt 1 (length (xs ++ x ∷ [])) ≡ true
+two_now xs x some = less 1 (length (xs ++ x ∷ [])) (omega (arith, length-append xs (x ∷ []), is_less 0 (length xs) some))
+
+pub one_now : (xs : List ℕ) (x : ℕ) → nat_lt 0 (length xs) ≡ false → nat_lt 1 (length (xs ++ x ∷ [])) ≡ nat_lt 1 (length xs)
+one_now xs x none =
+    let empty = at_most 0 (length xs) none in
+    not_less 1 (length (xs ++ x ∷ [])) (omega (arith, length-append xs (x ∷ []))) ∙ sym (not_less 1 (length xs) (omega arith))
+
+pub first_kept : (xs : List ℕ) (x : ℕ) → nat_lt 0 (length xs) ≡ true → get_or (xs ++ x ∷ []) 0 0 ≡ get_or xs 0 0
+first_kept [] x some = absurd (omega (arith, is_less 0 0 some))
+first_kept (y ∷ ys) x some = refl
+
+pub first_now : (xs : List ℕ) (x : ℕ) → nat_lt 0 (length xs) ≡ false → get_or (xs ++ x ∷ []) 0 0 ≡ x
+first_now [] x none = refl
+first_now (y ∷ ys) x none = absurd (omega (arith, at_most 0 (length (y ∷ ys)) none))
