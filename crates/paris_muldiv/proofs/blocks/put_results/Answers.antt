@@ -23,7 +23,7 @@ returns-clause-values g c =
     let v : ℕ = 64 * c.args.block + i in
     let L : ℕ = length c.args.values.now in
     let result : ℕ → ℕ → ℕ = λ x y. low L (binary_result g.O.NumberOp.operator L x y 0 0) in
-    c.put_block.ensures.numbers i inside within
+    c.put_block.ensures.numbers i inside (omega arith)
     ∙ c.block_results-word.ensures.values i (omega arith)
     ∙ ap (λ x. result x (get_or c.block_numbers-y.result i 0)) (c.block_numbers-x.ensures i inside (omega arith))
     ∙ ap (result (number_at c.args.xs.now v)) (c.block_numbers-y.ensures i inside (omega arith))
