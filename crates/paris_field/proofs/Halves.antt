@@ -1,6 +1,6 @@
 -- A word of a number's bits, and the numbers of a block of processors.
 use Rattle.std.proofs.Common.{◌≡◌, ℕ, zero, suc, ◌+◌, ◌*◌, ◌/◌, ◌%◌, ◌^◌, ◌<◌, ◌≤◌, List, [], ◌∷◌, Bool, true, false, length, get_or, take, drop, min, arith, ap, ◌∙◌, sym, eqb, refl, inl, inr}
-use Rattle.std.proofs.Math.Nat.{div-eq_of_lt}
+use Rattle.std.proofs.Math.Nat.{div-eq_of_lt, mod-eq_of_lt}
 use Rattle.std.proofs.Math.Pow.{pow_mono}
 use Rattle.std.proofs.lemmas.Bool.{cases_lt}
 use Rattle.std.proofs.lemmas.List.{get_or-take, length-take, take_all, drop_all, length-drop}
@@ -67,3 +67,10 @@ number_from_bits (p ∷ ps) v x each =
     let both : x % 2 ^ (length ps + 1) ≡ (x / 2 % 2 ^ length ps) * 2 + x % 2 = mod-pow-add x (length ps) 1 in
     let longer : x % 2 ^ suc (length ps) ≡ x % 2 ^ (length ps + 1) = ap (λ n. x % 2 ^ n) (omega arith) in
     omega (arith, lowest, rest, both, longer)
+
+-- two lists of as many planes with the same bits in a processor
+pub same_number : (ps qs : List (List Bool)) (v : ℕ) → length ps ≡ length qs → ((k : ℕ) → k < length qs → get_or (plane_at ps k) v false ≡ get_or (plane_at qs k) v false) → number_at ps v ≡ number_at qs v
+same_number ps qs v count each =
+    number_from_bits ps v (number_at qs v) (λ k h. each k (omega arith) ∙ sym (word_bit-number_at qs k v))
+    ∙ ap (λ n. number_at qs v % 2 ^ n) count
+    ∙ mod-eq_of_lt (number_at_lt qs v)

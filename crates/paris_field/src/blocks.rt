@@ -42,6 +42,22 @@ fn low_words(planes: &[Plane], block: usize, vps: usize) -> [u64; 64]
     rows
 }
 
+/// The number of each processor of a block, the first processor's first. Those past the last processor mean nothing.
+pub fn block_numbers(planes: &[Plane], block: usize, vps: usize) -> [u128; 64]
+    requires narrow { length planes.now ≤ 128 }
+    requires within { 64 * block < vps }
+    requires long { AllOf vps planes.now }
+    ensures { (i : ℕ) → i < 64 → 64 * block + i < vps → slice_index result i ≡ number_at planes.now (64 * block + i) }
+{
+    let low = low_words(planes, block, vps);
+    let high = low_words(&planes[planes.len().min(64)..], block, vps);
+    let mut numbers = [0u128; 64];
+    for i in 0..64usize {
+        numbers[i] = high[i] as u128 * WORD + low[i] as u128;
+    }
+    numbers
+}
+
 /// Adds the numbers of a block to those of the blocks below.
 fn push_block(
     list: &mut Vec<u128>,
@@ -55,10 +71,9 @@ fn push_block(
     requires below { list.old.items ≡ numbers (64 * block) planes.now }
     ensures { OnOk result (list.new.items ≡ numbers (min (64 * block + 64) vps) planes.now) }
 {
-    let low = low_words(planes, block, vps);
-    let high = low_words(&planes[planes.len().min(64)..], block, vps);
+    let block_numbers = block_numbers(planes, block, vps);
     for i in 0..(vps - 64 * block).min(64) {
-        list.push(high[i] as u128 * WORD + low[i] as u128)?;
+        list.push(block_numbers[i])?;
     }
     Ok(())
 }
@@ -76,50 +91,64 @@ pub fn numbers_in(alloc: Global, planes: &[Plane], vps: usize) -> Result<Vec<u12
     Ok(list)
 }
 
-/// A word of the number of each processor of a block: the 64 bits from bit `from` on.
-fn words_from(list: &[u128], block: usize, from: u32) -> [u64; 64]
+/// A word of each of the first 64 numbers: the 64 bits from bit `from` on.
+fn words_from(numbers: &[u128], from: u32) -> [u64; 64]
     requires narrow { from < 128 }
-    ensures { (i : ℕ) → i < 64 → 64 * block + i < length list.now → slice_index result i ≡ slice_index list.now (64 * block + i) / 2 ^ from % 2 ^ 64 }
+    ensures { (i : ℕ) → i < 64 → i < length numbers.now → slice_index result i ≡ slice_index numbers.now i / 2 ^ from % 2 ^ 64 }
 {
     let mut words = [0u64; 64];
-    let first = block.saturating_mul(64).min(list.len());
-    for i in 0..(list.len() - first).min(64) {
-        words[i] = ((list[first + i] >> from) % WORD) as u64;
+    for i in 0..numbers.len().min(64) {
+        words[i] = ((numbers[i] >> from) % WORD) as u64;
     }
     words
 }
 
 /// Puts the bits from bit `from` on of the numbers of a block into the planes from there on, up to 64 of them.
-fn put_words(planes: &mut [Plane], list: &[u128], block: usize, from: usize)
+fn put_words(planes: &mut [Plane], numbers: &[u128], block: usize, from: usize, vps: usize)
     requires narrow { from < 128 }
-    requires within { 64 * block < length list.now }
-    requires long { AllOf (length list.now) planes.old }
-    ensures long { AllOf (length list.now) planes.new }
-    ensures bits { (k : ℕ) → k < 64 → from + k < length planes.old → (i : ℕ) → i < 64 → 64 * block + i < length list.now → slice_index_or (plane_at planes.new (from + k)) (64 * block + i) false ≡ word_bit (slice_index list.now (64 * block + i)) (from + k) }
+    requires within { 64 * block < vps }
+    requires whole { min (64 * block + 64) vps ≤ 64 * block + length numbers.now }
+    requires long { AllOf vps planes.old }
+    ensures long { AllOf vps planes.new }
+    ensures bits { (k : ℕ) → k < 64 → from + k < length planes.old → (i : ℕ) → i < 64 → 64 * block + i < vps → slice_index_or (plane_at planes.new (from + k)) (64 * block + i) false ≡ word_bit (slice_index numbers.now i) (from + k) }
     ensures low { (k : ℕ) → k < from → plane_at planes.new k ≡ plane_at planes.old k }
-    ensures others { (k : ℕ) → k < length planes.old → (v : ℕ) → v < length list.now → v / 64 ≢ block → slice_index_or (plane_at planes.new k) v false ≡ slice_index_or (plane_at planes.old k) v false }
+    ensures others { (k : ℕ) → k < length planes.old → (v : ℕ) → v < vps → v / 64 ≢ block → slice_index_or (plane_at planes.new k) v false ≡ slice_index_or (plane_at planes.old k) v false }
 {
-    let mut rows = words_from(list, block, from as u32);
+    let mut rows = words_from(numbers, from as u32);
     transpose64(&mut rows);
     for k in 0..planes.len().saturating_sub(from).min(64) {
         planes[from + k].set_word(block, rows[k]);
     }
 }
 
-/// Puts the numbers of a block, as far as their bits have planes.
-fn put_block(planes: &mut [Plane], list: &[u128], block: usize)
+/// Puts numbers into the processors of a block, as far as their bits have planes.
+fn put_bits(planes: &mut [Plane], numbers: &[u128], block: usize, vps: usize)
     requires narrow { length planes.old ≤ 128 }
-    requires within { 64 * block < length list.now }
-    requires long { AllOf (length list.now) planes.old }
-    ensures long { AllOf (length list.now) planes.new }
-    ensures bits { (k : ℕ) → k < length planes.old → (i : ℕ) → i < 64 → 64 * block + i < length list.now → slice_index_or (plane_at planes.new k) (64 * block + i) false ≡ word_bit (slice_index list.now (64 * block + i)) k }
-    ensures others { (k : ℕ) → k < length planes.old → (v : ℕ) → v < length list.now → v / 64 ≢ block → slice_index_or (plane_at planes.new k) v false ≡ slice_index_or (plane_at planes.old k) v false }
+    requires within { 64 * block < vps }
+    requires whole { min (64 * block + 64) vps ≤ 64 * block + length numbers.now }
+    requires long { AllOf vps planes.old }
+    ensures long { AllOf vps planes.new }
+    ensures bits { (k : ℕ) → k < length planes.old → (i : ℕ) → i < 64 → 64 * block + i < vps → slice_index_or (plane_at planes.new k) (64 * block + i) false ≡ word_bit (slice_index numbers.now i) k }
+    ensures others { (k : ℕ) → k < length planes.old → (v : ℕ) → v < vps → v / 64 ≢ block → slice_index_or (plane_at planes.new k) v false ≡ slice_index_or (plane_at planes.old k) v false }
 {
-    put_words(planes, list, block, 0);
+    put_words(planes, numbers, block, 0, vps);
     if planes.len() <= 64 {
         return;
     }
-    put_words(planes, list, block, 64);
+    put_words(planes, numbers, block, 64, vps);
+}
+
+/// Puts numbers, the first processor's first, into the processors of a block, as far as their bits have planes.
+pub fn put_block(planes: &mut [Plane], numbers: &[u128], block: usize, vps: usize)
+    requires narrow { length planes.old ≤ 128 }
+    requires within { 64 * block < vps }
+    requires whole { min (64 * block + 64) vps ≤ 64 * block + length numbers.now }
+    requires long { AllOf vps planes.old }
+    ensures long { AllOf vps planes.new }
+    ensures numbers { (i : ℕ) → i < 64 → 64 * block + i < vps → number_at planes.new (64 * block + i) ≡ low (length planes.old) (slice_index numbers.now i) }
+    ensures others { (v : ℕ) → v < vps → v / 64 ≢ block → number_at planes.new v ≡ number_at planes.old v }
+{
+    put_bits(planes, numbers, block, vps);
 }
 
 /// Puts a number into each processor, block by block, as far as its bits have planes.
@@ -130,6 +159,6 @@ pub fn put_all(planes: &mut [Plane], list: &[u128])
     ensures numbers { (v : ℕ) → v < length list.now → number_at planes.new v ≡ low (length planes.old) (slice_index list.now v) }
 {
     for block in 0..list.len().div_ceil(64) {
-        put_block(planes, list, block);
+        put_block(planes, &list[64 * block..], block, list.len());
     }
 }

@@ -6,6 +6,7 @@ mod field;
 mod planes;
 mod transpose;
 
+pub use blocks::{block_numbers, put_block};
 pub use field::FieldValue;
 pub use planes::{add_planes, copy_planes, merge_planes, zero_planes};
 pub use transpose::transpose64;

@@ -1,6 +1,8 @@
 //! Products, quotients and remainders of fields whose bits lie in planes.
 #![tactic(auto)]
 
+mod blocks;
+mod numbers;
 mod products;
 mod quotients;
 

@@ -4,6 +4,8 @@ ghost use Rattle.std.specs.Prelude.{◌≡◌, ◌<◌, ◌≤◌, IfOk, length}
 ghost use Rattle.paris_alu.specs.Alu.{binary_field, overflow_plane};
 ghost use Rattle.paris_muldiv.specs.Products.{product_operator};
 
+use crate::blocks::computed;
+use crate::numbers::{SignedProduct, UnsignedProduct};
 use paris_alu::Overflowing;
 use paris_field::FieldValue;
 use paris_model::Sign;
@@ -25,5 +27,8 @@ pub fn multiply(
     ensures value { IfOk result (λ product. product.value ≡ binary_field (product_operator sign) bits x.now y.now (λ _. 0)) }
     ensures overflow { IfOk result (λ product. product.overflow ≡ overflow_plane (product_operator sign) bits x.now y.now (λ _. 0)) }
 {
-    Err(AllocError)
+    match sign {
+        Sign::Unsigned => computed::<UnsignedProduct>(alloc, x, y, bits),
+        Sign::Signed => computed::<SignedProduct>(alloc, x, y, bits),
+    }
 }

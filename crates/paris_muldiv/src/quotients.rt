@@ -4,6 +4,8 @@ ghost use Rattle.std.specs.Prelude.{◌≡◌, ◌<◌, ◌≤◌, IfOk, length}
 ghost use Rattle.paris_model.specs.declared.operators.BinaryOperator.TheVariants.{Remainder, Truncate};
 ghost use Rattle.paris_alu.specs.Alu.{binary_field, overflow_plane};
 
+use crate::blocks::computed;
+use crate::numbers::{UnsignedQuotient, UnsignedRest};
 use paris_alu::Overflowing;
 use paris_field::FieldValue;
 use std::alloc::{AllocError, Global};
@@ -23,7 +25,7 @@ pub fn truncate(
     ensures value { IfOk result (λ quotient. quotient.value ≡ binary_field Truncate bits x.now y.now (λ _. 0)) }
     ensures overflow { IfOk result (λ quotient. quotient.overflow ≡ overflow_plane Truncate bits x.now y.now (λ _. 0)) }
 {
-    Err(AllocError)
+    computed::<UnsignedQuotient>(alloc, x, y, bits)
 }
 
 /// The remainders of the low `bits` bits, and where the divisor is 0; there the value is 0.
@@ -41,5 +43,5 @@ pub fn remainder(
     ensures value { IfOk result (λ rest. rest.value ≡ binary_field Remainder bits x.now y.now (λ _. 0)) }
     ensures overflow { IfOk result (λ rest. rest.overflow ≡ overflow_plane Remainder bits x.now y.now (λ _. 0)) }
 {
-    Err(AllocError)
+    computed::<UnsignedRest>(alloc, x, y, bits)
 }

@@ -8,4 +8,4 @@ returns-clause-bits c =
     λ k hk inside i hi within.
     let put : k < c.loop-k.k = omega arith in
     c.loop-k.invariant.bits k put i hi within ∙ c.transpose64.ensures k i hk hi
-    ∙ ap (λ w. word_bit w k) (c.words_from-rows.ensures i hi within) ∙ word_from _ c.args.from k hk
+    ∙ ap (λ w. word_bit w k) (c.words_from-rows.ensures i hi (omega arith)) ∙ word_from _ c.args.from k hk

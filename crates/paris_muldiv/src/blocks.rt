@@ -1,0 +1,130 @@
+//! An operation on the numbers of all processors, block by block of 64.
+
+ghost use Rattle.std.specs.Prelude.{◌≡◌, ◌≢◌, ℕ, ◌+◌, ◌*◌, ◌/◌, ◌^◌, ◌<◌, ◌≤◌, IfOk, false, length, min, slice_index, slice_index_or};
+ghost use Rattle.paris_model.specs.Elementwise.{binary_overflow, binary_result};
+ghost use Rattle.paris_model.specs.Store.{low};
+ghost use Rattle.paris_plane.specs.Bits.{word_bit};
+ghost use Rattle.paris_field.specs.Numbers.{AllOf, number_at};
+ghost use Rattle.paris_alu.specs.Alu.{binary_field, overflow_plane};
+
+use crate::numbers::NumberOp;
+use paris_alu::Overflowing;
+use paris_field::{FieldValue, block_numbers, put_block, zero_planes};
+use paris_plane::Plane;
+use std::alloc::{AllocError, Global};
+
+/// A word whose bit `i`, which was 0, is this one.
+fn with_bit(word: u64, i: usize, bit: bool) -> u64
+    requires within { i < 64 }
+    requires clear { word_bit word i ≡ false }
+    ensures here { word_bit result i ≡ bit }
+    ensures others { (j : ℕ) → j ≢ i → word_bit result j ≡ word_bit word j }
+{
+    if bit { word | 1u64 << i } else { word }
+}
+
+/// What the operation makes of the first `count` operands of a block: the results, and a word of where they overflow.
+fn block_results<O: NumberOp>(
+    bits: u64,
+    xs: &[u128; 64],
+    ys: &[u128; 64],
+    count: usize,
+) -> ([u128; 64], u64)
+    requires positive { 0 < bits }
+    requires narrow { bits ≤ 128 }
+    requires within { count ≤ 64 }
+    requires xs_fit { (i : ℕ) → i < count → slice_index xs.now i < 2 ^ bits }
+    requires ys_fit { (i : ℕ) → i < count → slice_index ys.now i < 2 ^ bits }
+    ensures values { (i : ℕ) → i < count → low bits (slice_index result.0 i) ≡ low bits (binary_result O.operator bits (slice_index xs.now i) (slice_index ys.now i) 0 0) }
+    ensures overflow { (i : ℕ) → i < count → word_bit result.1 i ≡ binary_overflow O.operator bits (slice_index xs.now i) (slice_index ys.now i) 0 }
+{
+    let mut results = [0u128; 64];
+    let mut word = 0u64;
+    for i in 0..count {
+        let (result, overflows) = O::apply(bits, xs[i], ys[i]);
+        results[i] = result;
+        word = with_bit(word, i, overflows);
+    }
+    (results, word)
+}
+
+/// Puts into the processors of a block what the operation makes of their numbers.
+fn put_results<O: NumberOp>(
+    xs: &[Plane],
+    ys: &[Plane],
+    block: usize,
+    values: &mut [Plane],
+    overflow: &mut Plane,
+)
+    requires positive { 0 < length values.old }
+    requires narrow { length values.old ≤ 128 }
+    requires x_count { length xs.now ≡ length values.old }
+    requires y_count { length ys.now ≡ length values.old }
+    requires within { 64 * block < length overflow.old }
+    requires xs { AllOf (length overflow.old) xs.now }
+    requires ys { AllOf (length overflow.old) ys.now }
+    requires values { AllOf (length overflow.old) values.old }
+    ensures long { length overflow.new ≡ length overflow.old }
+    ensures planes { AllOf (length overflow.old) values.new }
+    ensures values { (i : ℕ) → i < 64 → 64 * block + i < length overflow.old → number_at values.new (64 * block + i) ≡ low (length values.old) (binary_result O.operator (length values.old) (number_at xs.now (64 * block + i)) (number_at ys.now (64 * block + i)) 0 0) }
+    ensures overflow { (i : ℕ) → i < 64 → 64 * block + i < length overflow.old → slice_index_or overflow.new (64 * block + i) false ≡ binary_overflow O.operator (length values.old) (number_at xs.now (64 * block + i)) (number_at ys.now (64 * block + i)) 0 }
+    ensures other_values { (v : ℕ) → v < length overflow.old → v / 64 ≢ block → number_at values.new v ≡ number_at values.old v }
+    ensures other_bits { (v : ℕ) → v < length overflow.old → v / 64 ≢ block → slice_index_or overflow.new v false ≡ slice_index_or overflow.old v false }
+{
+    let vps = overflow.len();
+    let x = block_numbers(xs, block, vps);
+    let y = block_numbers(ys, block, vps);
+    let bits = values.len() as u64;
+    let (results, word) = block_results::<O>(bits, &x, &y, (vps - 64 * block).min(64));
+    put_block(values, &results, block, vps);
+    overflow.set_word(block, word);
+}
+
+/// Puts into all processors what the operation makes of their numbers.
+fn put_all_results<O: NumberOp>(
+    xs: &[Plane],
+    ys: &[Plane],
+    values: &mut [Plane],
+    overflow: &mut Plane,
+)
+    requires positive { 0 < length values.old }
+    requires narrow { length values.old ≤ 128 }
+    requires x_count { length xs.now ≡ length values.old }
+    requires y_count { length ys.now ≡ length values.old }
+    requires xs { AllOf (length overflow.old) xs.now }
+    requires ys { AllOf (length overflow.old) ys.now }
+    requires values { AllOf (length overflow.old) values.old }
+    ensures long { length overflow.new ≡ length overflow.old }
+    ensures planes { AllOf (length overflow.old) values.new }
+    ensures values { (v : ℕ) → v < length overflow.old → number_at values.new v ≡ low (length values.old) (binary_result O.operator (length values.old) (number_at xs.now v) (number_at ys.now v) 0 0) }
+    ensures overflow { (v : ℕ) → v < length overflow.old → slice_index_or overflow.new v false ≡ binary_overflow O.operator (length values.old) (number_at xs.now v) (number_at ys.now v) 0 }
+{
+    for block in 0..overflow.len().div_ceil(64) {
+        put_results::<O>(xs, ys, block, values, overflow);
+    }
+}
+
+/// What the operation makes of the low `bits` bits of two fields.
+pub(crate) fn computed<O: NumberOp>(
+    alloc: Global,
+    x: &FieldValue,
+    y: &FieldValue,
+    bits: u64,
+) -> Result<Overflowing, AllocError>
+    requires positive { 0 < bits }
+    requires narrow { bits ≤ 128 }
+    requires x_width { bits ≤ x.now.width }
+    requires y_width { bits ≤ y.now.width }
+    requires same { length x.now.numbers ≡ length y.now.numbers }
+    ensures value { IfOk result (λ computed. computed.value ≡ binary_field O.operator bits x.now y.now (λ _. 0)) }
+    ensures overflow { IfOk result (λ computed. computed.overflow ≡ overflow_plane O.operator bits x.now y.now (λ _. 0)) }
+{
+    let vps = x.len();
+    let mut planes = zero_planes(alloc, bits as usize, vps)?;
+    let mut overflow = Plane::zeros(alloc, vps)?;
+    put_all_results::<O>(x.low(bits), y.low(bits), &mut planes, &mut overflow);
+    Ok(Overflowing {
+        value: FieldValue::from_planes(planes, vps),
+        overflow,
+    })
+}
