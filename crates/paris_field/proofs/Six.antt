@@ -1,6 +1,5 @@
 -- Six exchanges of digits, one for each weight, turn the square about its diagonal.
-use Rattle.std.proofs.Common.{◌≡◌, ℕ, zero, suc, ◌+◌, ◌*◌, ◌/◌, ◌%◌, ◌<◌, ◌&&◌, Bool, true, false, not, cond, List, get_or, arith, ap, ◌∙◌, sym, eqb, inl, inr, refl}
-use Rattle.std.proofs.lemmas.Bool.{cases_eq}
+use Rattle.std.proofs.Common.{◌≡◌, ℕ, ◌+◌, ◌*◌, ◌/◌, ◌%◌, ◌<◌, List, get_or, arith, ap, ◌∙◌}
 use Rattle.paris_plane.specs.Bits.{word_bit}
 use Rattle.paris_field.specs.Square.{crossed}
 
