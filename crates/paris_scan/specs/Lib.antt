@@ -1,1 +1,4 @@
 pub mod Lines
+pub mod Runs
+pub mod Sums
+pub mod Without

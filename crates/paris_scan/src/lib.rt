@@ -1,8 +1,12 @@
 //! Scans, spreads and reduces along an axis, in logarithmically many steps.
 #![tactic(auto)]
 
+mod combine;
+mod doubling;
+mod moves;
 mod scans;
 mod spreads;
+mod sums;
 
 pub use scans::{Combined, copy_scan, scan};
 pub use spreads::{Reduced, copy_spread, reduce, spread};
