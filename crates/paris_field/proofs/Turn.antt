@@ -94,7 +94,7 @@ first_zero s n e = ap (λ d. n - s * d) e ∙ omega arith
 first_one : (s n : ℕ) → digit s n ≡ 1 → first s n ≡ n - s
 first_one s n e = ap (λ d. n - s * d) e ∙ omega arith
 
-one_at_least : (s n : ℕ) → digit s n ≡ 1 → s ≤ n
+pub one_at_least : (s n : ℕ) → digit s n ≡ 1 → s ≤ n
 one_at_least s n e =
     elim (cases_lt n s) [ inl below ↦ absurd (omega (arith, e, digit_below s n below)) | inr above ↦ above ]
 

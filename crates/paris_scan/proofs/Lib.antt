@@ -6,3 +6,4 @@ pub mod Carried
 pub mod Turns
 pub mod Added
 pub mod Defined
+pub mod Gathered

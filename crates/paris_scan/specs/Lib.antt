@@ -2,3 +2,4 @@ pub mod Lines
 pub mod Runs
 pub mod Sums
 pub mod Without
+pub mod Blocks

@@ -1,6 +1,7 @@
 //! Scans, spreads and reduces along an axis, in logarithmically many steps.
 #![tactic(auto)]
 
+mod butterfly;
 mod combine;
 mod doubling;
 mod moves;
