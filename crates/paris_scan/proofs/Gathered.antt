@@ -2,7 +2,7 @@
 use Rattle.std.proofs.Common.{◌≡◌, ℕ, zero, suc, ◌+◌, ◌-◌, ◌*◌, ◌/◌, ◌%◌, ◌<◌, ◌≤◌, Bool, true, false, cond, List, [], ◌∷◌, ◌++◌, append_assoc, length, map, arith, ap, ◌∙◌, sym, subst, refl, inl, inr}
 use Rattle.std.specs.Prelude.{All, filter}
 use Rattle.std.specs.List.{range_with_len}
-use Rattle.std.proofs.Math.Nat.{add-mul-div_left, add-mod_right, div-div-eq-div-mul, div_le_self, mul-pos, div-one, mod-one}
+use Rattle.std.proofs.Math.Nat.{add-mul-div_left, add-mod_right, div-div-eq-div-mul, mul-pos}
 use Rattle.std.proofs.Math.Arith.{mod-mul}
 use Rattle.std.proofs.lemmas.List.Elements.{All-append, All-nil}
 use Rattle.std.proofs.lemmas.Nat.{div-add-mod'}
