@@ -1,15 +1,17 @@
 -- What the exchange of two rows of a square of bits does to each bit, and six exchanges together.
-use Rattle.std.proofs.Common.{◌≡◌, ℕ, zero, suc, ◌+◌, ◌-◌, ◌*◌, ◌/◌, ◌%◌, ◌^◌, ◌<◌, ◌≤◌, ◌≢◌, Bool, false, cond, List, get_or, set, length, arith, ap, ◌∙◌, sym, eqb, bit_and, bit_xor, add-zero, inl, inr, refl, ◌⊎◌}
+use Rattle.std.proofs.Common.{◌≡◌, ℕ, zero, suc, ◌+◌, ◌-◌, ◌*◌, ◌/◌, ◌%◌, ◌^◌, ◌<◌, ◌≤◌, ◌≢◌, Bool, false, cond, List, get_or, set, length, arith, ap, ◌∙◌, sym, eqb, bit_and, bit_xor, add-zero, inl, inr, refl}
 use Rattle.std.specs.Int.{bit_at}
-use Rattle.std.proofs.Math.Nat.{div-div-eq-div-mul, pow-succ', add-mul-div_left, div-eq_of_lt}
-use Rattle.std.proofs.lemmas.Bool.{cases_lt, cases_eq}
+use Rattle.std.proofs.Math.Nat.{div-div-eq-div-mul, pow-succ'}
+use Rattle.std.proofs.lemmas.Bool.{cases_lt}
 use Rattle.std.proofs.lemmas.Grind.{get_or-set_at}
 use Rattle.std.proofs.lemmas.List.{get_or-set_other, length-set}
 use Rattle.std.proofs.lemmas.Nat.Bits.{bit_at_cat_low, bit_at_cat_high, bit_at-zero}
 use Rattle.std.proofs.lemmas.Nat.{pow-add, div-add-mod'}
 use Rattle.paris_plane.specs.Bits.{word_bit}
 use Rattle.paris_plane.specs.Laws.{xor_by_bit, and_by_bit}
-use Rattle.paris_field.specs.Square.{digit, crossed, MarksZeros}
+use Rattle.paris_plane.specs.Digits.{digit, MarksZeros}
+use Rattle.paris_plane.proofs.Digits.{digit-add, digit_below, digit_cases}
+use Rattle.paris_field.specs.Square.{crossed}
 
 pub shr_bit : (n s i : ℕ) → word_bit (n / 2 ^ s) i ≡ word_bit n (s + i)
 unfolding word_bit
@@ -53,19 +55,6 @@ lower_of_upper x y s m i h below =
     let back : word_bit x (s + (i - s)) ≡ word_bit x i = ap (word_bit x) (omega arith) in
     grind (arith, back, xor_by_bit x (exchanged x y s m * 2 ^ s % 2 ^ 64) i, shl_high (exchanged x y s m) s i h below, and_by_bit (bit_xor (x / 2 ^ s) y) m (i - s), xor_by_bit (x / 2 ^ s) y (i - s), shr_bit x s (i - s))
 
--- digits
-pub digit-add : (s n : ℕ) → 0 < s → digit s (n + s) ≡ (digit s n + 1) % 2
-digit-add s n h =
-    let more : (n + s) / s ≡ n / s + 1 = ap (λ t. (n + t) / s) (omega arith) ∙ add-mul-div_left n 1 h in
-    ap (λ q. q % 2) more ∙ omega arith
-
-digit_below : (s n : ℕ) → n < s → digit s n ≡ 0
-digit_below s n below = ap (λ q. q % 2) (div-eq_of_lt below)
-
-pub digit_cases : (s n : ℕ) → (digit s n ≡ 0) ⊎ (digit s n ≡ 1)
-digit_cases s n =
-    elim (cases_eq (digit s n) 0) [ inl e ↦ inl e | inr e ↦ inr (omega arith) ]
-
 -- the two words of an exchange
 pub lower_word : (x y s m i : ℕ) → MarksZeros s m → i < 64 → word_bit (bit_xor y (exchanged x y s m)) i ≡ cond (eqb (digit s i) 0) (word_bit x (i + s)) (word_bit y i)
 lower_word x y s m i marks h =
@@ -105,7 +94,7 @@ first_zero s n e = ap (λ d. n - s * d) e ∙ omega arith
 first_one : (s n : ℕ) → digit s n ≡ 1 → first s n ≡ n - s
 first_one s n e = ap (λ d. n - s * d) e ∙ omega arith
 
-one_at_least : (s n : ℕ) → digit s n ≡ 1 → s ≤ n
+pub one_at_least : (s n : ℕ) → digit s n ≡ 1 → s ≤ n
 one_at_least s n e =
     elim (cases_lt n s) [ inl below ↦ absurd (omega (arith, e, digit_below s n below)) | inr above ↦ above ]
 

@@ -2,7 +2,8 @@
 
 ghost use Rattle.std.specs.Prelude.{◌≡◌, ℕ, ◌+◌, ◌-◌, ◌<◌, ◌==◌, cond, slice_index};
 ghost use Rattle.paris_plane.specs.Bits.{word_bit};
-ghost use Rattle.paris_field.specs.Square.{MarksZeros, crossed, digit};
+ghost use Rattle.paris_plane.specs.Digits.{MarksZeros, digit};
+ghost use Rattle.paris_field.specs.Square.{crossed};
 
 /// Turns a square of bits about its diagonal: bit i of word j becomes bit j of word i.
 pub fn transpose64(rows: &mut [u64; 64])

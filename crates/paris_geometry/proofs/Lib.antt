@@ -2,3 +2,4 @@ pub mod Addresses
 pub mod Neighbours
 pub mod Products
 pub mod Strides
+pub mod Powers

@@ -1,6 +1,7 @@
 //! Planes: one bit for each virtual processor, kept in words of 64 and worked on by lanes of four words.
 #![tactic(auto)]
 
+mod exchange;
 mod kernel;
 mod moves;
 mod plane;

@@ -2,8 +2,11 @@
 
 ghost use Rattle.std.specs.Prelude.{◌≡◌, ◌≢◌, ◌↔◌, ℕ, ◌+◌, ◌*◌, ◌/◌, IfOk, IsTrue, cond, length, map, not, ◌<◌, replicate, slice_index, slice_index_or, slice_set, true, false, ◌&&◌, ◌||◌};
 ghost use Rattle.std.specs.Simd.Lanes.{zip2};
+ghost use Rattle.std.specs.Int.{IsPowerOfTwo};
 ghost use Rattle.paris_plane.specs.Bits.{borrow_bit, carry_bit, differ, stripes, sum_bit, word_bit, words_for, zip3};
+ghost use Rattle.paris_plane.specs.Digits.{digit};
 
+use crate::exchange::exchange_words;
 use crate::kernel::{
     And, Or, Select, TripleOp, WordOp, Xor, accumulate_words, add_words, fill_stripes,
     invert_words, put_triples, put_words, same_words, subtract_words,
@@ -218,6 +221,18 @@ impl Plane {
         ensures lowered { (v : ℕ) → v + by < length self.old → slice_index_or self.new v false ≡ slice_index_or other.now (v + by) false }
     {
         lower_words(by, &other.words, &mut self.words);
+    }
+
+    /// Puts the bits of `other`, each two of which are exchanged whose places differ in the binary digit of weight `distance`. A
+    /// bit whose other place is past the end means nothing.
+    pub fn exchange_from(&mut self, other: &Plane, distance: usize)
+        requires same { length self.old ≡ length other.now }
+        requires power { IsPowerOfTwo distance }
+        ensures long { length self.new ≡ length self.old }
+        ensures low { (v : ℕ) → digit distance v ≡ 0 → v + distance < length self.old → slice_index_or self.new v false ≡ slice_index_or other.now (v + distance) false }
+        ensures high { (v : ℕ) → digit distance v ≡ 0 → v + distance < length self.old → slice_index_or self.new (v + distance) false ≡ slice_index_or other.now v false }
+    {
+        exchange_words(distance, &other.words, &mut self.words);
     }
 
     /// Puts what the operation makes of each bit, that of `second` and that of `third` in its place.

@@ -7,3 +7,4 @@ pub mod Joined
 pub mod Turns
 pub mod Added
 pub mod Defined
+pub mod Gathered

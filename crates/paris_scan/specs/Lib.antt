@@ -4,3 +4,4 @@ pub mod Lines
 pub mod Runs
 pub mod Sums
 pub mod Without
+pub mod Blocks

@@ -2,6 +2,7 @@
 #![tactic(auto)]
 
 mod bitwise;
+mod butterfly;
 mod combine;
 mod doubling;
 mod firsts;

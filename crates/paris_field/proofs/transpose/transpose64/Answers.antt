@@ -1,4 +1,5 @@
-use Rattle.paris_field.proofs.Six.{marks_32, marks_16, marks_8, marks_4, marks_2, marks_1, goes_on_32, goes_on_16, goes_on_8, goes_on_4, goes_on_2, goes_on_1, turned_first, turned_more, turned_whole}
+use Rattle.paris_plane.proofs.Digits.{marks_32, marks_16, marks_8, marks_4, marks_2, marks_1}
+use Rattle.paris_field.proofs.Six.{goes_on_32, goes_on_16, goes_on_8, goes_on_4, goes_on_2, goes_on_1, turned_first, turned_more, turned_whole}
 use Rattle.paris_field.proofs.transpose.transpose64.Goals as goal
 
 pub exchange_digits-requires-clause-mask : goal.exchange_digits-requires-clause-mask

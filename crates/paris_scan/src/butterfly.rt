@@ -1,0 +1,56 @@
+//! Values gathered over whole lines: after each step a processor holds what twice as many neighbours of its line show.
+
+ghost use Rattle.std.specs.Prelude.{◌≡◌, ℕ, ◌+◌, ◌^◌, ◌<◌, ◌≤◌, All, List, length};
+ghost use Rattle.std.specs.Int.{IsPowerOfTwo};
+ghost use Rattle.paris_plane.specs.Digits.{digit};
+ghost use Rattle.paris_geometry.specs.Geometry.{axis_length, processor_count, stride};
+ghost use Rattle.paris_field.specs.Numbers.{AllOf, number_at, plane_at};
+ghost use Rattle.paris_scan.specs.Blocks.{block};
+
+use crate::combine::Commute;
+use paris_geometry::Geometry;
+use paris_plane::Plane;
+
+/// Puts into each processor of `other` the number of the one whose place differs in the binary digit of weight `distance`.
+fn exchange_numbers(distance: usize, state: &[Plane], other: &mut [Plane])
+    requires power { IsPowerOfTwo distance }
+    requires same { length other.old ≡ length state.now }
+    requires long { (k : ℕ) → k < length state.now → length (plane_at other.old k) ≡ length (plane_at state.now k) }
+    ensures long { (k : ℕ) → k < length state.now → length (plane_at other.new k) ≡ length (plane_at state.now k) }
+    ensures low { (n v : ℕ) → AllOf n state.now → digit distance v ≡ 0 → v + distance < n → number_at other.new v ≡ number_at state.now (v + distance) }
+    ensures high { (n v : ℕ) → AllOf n state.now → digit distance v ≡ 0 → v + distance < n → number_at other.new (v + distance) ≡ number_at state.now v }
+{
+    for k in 0..state.len() {
+        other[k].exchange_from(&state[k], distance);
+    }
+}
+
+/// Puts into each processor what the lists of all processors of its line come to, by rising coordinate. `other` and `spare` are
+/// written over.
+pub(crate) fn gather<C: Commute>(
+    geometry: Geometry,
+    axis: usize,
+    state: &mut [Plane],
+    other: &mut [Plane],
+    spare: &mut Plane,
+)
+    requires axis { axis < length geometry }
+    requires some { C.extra ≤ length state.old }
+    requires same { length other.old ≡ length state.old }
+    requires state { AllOf (processor_count geometry) state.old }
+    requires other { AllOf (processor_count geometry) other.old }
+    requires spare { length spare.old ≡ processor_count geometry }
+    ensures long { AllOf (processor_count geometry) state.new }
+    ensures lines { (L : ℕ) (own : ℕ → List ℕ) → length state.old ≡ L + C.extra → ((u : ℕ) → All (λ x. x < 2 ^ L) (own u))
+        → ((v : ℕ) → v < processor_count geometry → number_at state.old v ≡ C.shows L (own v))
+        → (v : ℕ) → v < processor_count geometry → number_at state.new v ≡ C.shows L (block own (stride geometry axis) (axis_length geometry axis) v) }
+{
+    let length = geometry.len(axis) as usize;
+    let stride = geometry.stride(axis);
+    let mut places: usize = 1;
+    while places < length {
+        exchange_numbers(places * stride, state, other);
+        C::join(other, state, spare);
+        places *= 2;
+    }
+}
