@@ -1,16 +1,34 @@
 //! Combining sends.
 
-ghost use Rattle.std.specs.Prelude.{◌≡◌, ◌<◌, ◌≤◌, IfOk, None, length};
-ghost use Rattle.paris_model.specs.Mail.{first_cause};
+ghost use Rattle.std.specs.Prelude.{◌≡◌, ◌<◌, ◌≤◌, ◌^◌, All, IfOk, None, length, slice_index};
+ghost use Rattle.paris_model.specs.Combine.{combined};
+ghost use Rattle.paris_model.specs.Mail.{arrivals, first_cause};
+ghost use Rattle.paris_model.specs.Store.{everywhere};
 ghost use Rattle.paris_names.specs.declared.limits.TheConstants.{MAX_PROCESSORS};
 ghost use Rattle.paris_router.specs.Mail.{bad_sender_of, mail_in, receivers_of, refusal_in};
 ghost use Rattle.paris_combine.specs.Combined.{combined_mail};
 
+use crate::operators::apply;
 use paris_field::FieldValue;
 use paris_model::{Combiner, Refusal};
 use paris_plane::Plane;
-use paris_router::Delivery;
+use paris_router::{Delivery, checked_mail, low_numbers, receivers};
 use std::alloc::{AllocError, Global};
+
+/// Combines each message with the number of its receiver, one after the other.
+fn combine_in(operator: Combiner, bits: u64, mail: &[(usize, u128)], values: &mut [u128])
+    requires narrow { bits ≤ 128 }
+    requires within { All (λ message. message.0 < length values.old) mail.now }
+    requires fit { All (λ message. message.1 < 2 ^ bits) mail.now }
+    requires held { All (λ value. value < 2 ^ bits) values.old }
+    ensures value { values.new ≡ everywhere (length values.old) (λ r. combined operator bits (slice_index values.old r) (arrivals mail.now r)) }
+    ensures fit { All (λ value. value < 2 ^ bits) values.new }
+{
+    for message in mail {
+        let (receiver, value) = *message;
+        values[receiver] = apply(operator, bits, values[receiver], value);
+    }
+}
 
 /// In each processor the low `bits` bits of `old`, combined one by one with the low `bits` bits of `x` that each selected processor sends
 /// to the address that it holds, by sender. Refused with the least selected processor whose address is outside the set, if there is one.
@@ -34,5 +52,13 @@ pub fn send_with(
     ensures value { IfOk result (λ sent. IfOk sent (λ delivery. delivery.value ≡ combined_mail operator bits old.now (mail_in bits addresses.now x.now selected.now))) }
     ensures receivers { IfOk result (λ sent. IfOk sent (λ delivery. delivery.receivers ≡ receivers_of (length x.now.numbers) (mail_in bits addresses.now x.now selected.now))) }
 {
-    Err(AllocError)
+    let mail = match checked_mail(alloc, addresses, x, selected, bits)? {
+        Ok(mail) => mail,
+        Err(refusal) => return Ok(Err(refusal)),
+    };
+    let mut values = low_numbers(old, bits)?;
+    let receivers = receivers(alloc, &mail, x.len())?;
+    combine_in(operator, bits, &mail, &mut values);
+    let value = FieldValue::from_numbers(alloc, bits, &values)?;
+    Ok(Ok(Delivery { value, receivers }))
 }

@@ -1,5 +1,5 @@
 -- Lists of numbers by processor: low bits, and what is fetched from an address.
-use Rattle.std.proofs.Common.{◌≡◌, ◌≤◌, ℕ, ◌+◌, ◌%◌, ◌<◌, ◌^◌, Bool, true, false, List, All, length, get_or, map, cond, refl, sym, ap, subst, ◌∙◌, arith, inl, inr}
+use Rattle.std.proofs.Common.{◌≡◌, ℕ, ◌<◌, ◌^◌, Bool, true, false, List, All, length, get_or, map, cond, refl, sym, ap, subst, ◌∙◌, arith, inl, inr}
 use Rattle.std.proofs.Math.ListN.{get_or-eq_default}
 use Rattle.std.proofs.lemmas.Bool.{cases_lt}
 use Rattle.std.proofs.lemmas.List.{get_or-map, length-map}
@@ -7,7 +7,6 @@ use Rattle.std.proofs.lemmas.List.Elements.{All-from_get_or, All-get_or, All-map
 use Rattle.std.proofs.lemmas.List.FromFn.{fill_by_all, get_or-map-range_with_len, length-map-range_with_len}
 use Rattle.std.proofs.lemmas.Nat.{mod_below}
 use lib.Pow.{pow_pos}
-use Rattle.paris_geometry.specs.Geometry.{numbers_below}
 use Rattle.paris_model.specs.Store.{everywhere, low}
 use Rattle.paris_field.specs.Fields.{FieldNumbers, operand}
 use Rattle.paris_field.proofs.Places.{everywhere_same}

@@ -1,7 +1,6 @@
 -- Messages, one after the other, and what processors have of them.
-use Rattle.std.proofs.Common.{◌≡◌, ◌≢◌, ℕ, zero, suc, ◌+◌, ◌<◌, ◌≤◌, Bool, true, false, List, [], ◌∷◌, ◌++◌, length, get_or, take, set, map, replicate, refl, sym, ap, subst, ◌∙◌, cond, eqb, arith, inl, inr}
+use Rattle.std.proofs.Common.{◌≡◌, ◌≢◌, ℕ, ◌+◌, ◌<◌, ◌≤◌, Bool, true, false, List, [], ◌∷◌, ◌++◌, length, get_or, take, set, map, replicate, refl, sym, ap, ◌∙◌, cond, arith, inl, inr}
 use Rattle.std.specs.Prelude.{◌==◌, filter, nat_lt}
-use Rattle.std.specs.List.{All, range_with_len}
 use Rattle.std.proofs.lemmas.Bool.Decides.{nat_tests}
 use Rattle.std.proofs.lemmas.Bool.{cases_eq, ne_eqb}
 use Rattle.std.proofs.Common.{eq-eqb}
@@ -76,7 +75,7 @@ seen_same h n mail i d x at made =
     get_or-seen h n (take i mail) r x within
     ∙ elim (cases_eq (get_or mail i d).0 r) [
       | inl same ↦
-          sym (ap (λ k. h k (arrivals (take i mail) k ++ (get_or mail i d).1 ∷ []) ) (sym same) ∙ made ∙ ap (λ k. h k (arrivals (take i mail) k)) same)
+          sym (ap (λ k. h k (arrivals (take i mail) k ++ (get_or mail i d).1 ∷ [])) (sym same) ∙ made ∙ ap (λ k. h k (arrivals (take i mail) k)) same)
           ∙ ap (h r) (sym (arrives mail i r d at same))
       | inr other ↦ ap (h r) (sym (passes mail i r d at other))
     ])

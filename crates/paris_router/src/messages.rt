@@ -60,11 +60,7 @@ pub fn checked_mail(
 }
 
 /// In which of `count` processors mail arrives.
-pub fn receivers(
-    alloc: Global,
-    mail: &[(usize, u128)],
-    count: usize,
-) -> Result<Plane, AllocError>
+pub fn receivers(alloc: Global, mail: &[(usize, u128)], count: usize) -> Result<Plane, AllocError>
     requires within { All (λ message. message.0 < count) mail.now }
     ensures { IfOk result (λ plane. plane ≡ receivers_of count mail.now) }
 {

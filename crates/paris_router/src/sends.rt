@@ -21,12 +21,7 @@ pub struct Delivery {
 }
 
 /// Puts the first value that arrives in each processor, and marks the processors where one arrives, and where more than one do.
-fn deliver(
-    mail: &[(usize, u128)],
-    values: &mut [u128],
-    receivers: &mut Plane,
-    crowded: &mut Plane,
-)
+fn deliver(mail: &[(usize, u128)], values: &mut [u128], receivers: &mut Plane, crowded: &mut Plane)
     requires within { All (λ message. message.0 < length values.old) mail.now }
     requires empty { values.old ≡ replicate (length values.old) 0 }
     requires none { receivers.old ≡ replicate (length values.old) false }

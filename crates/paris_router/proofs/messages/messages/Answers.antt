@@ -1,5 +1,4 @@
 use Rattle.std.proofs.Common.{◌∙◌, ◌∷◌, ◌++◌, [], ℕ, ap, sym, get_or}
-use Rattle.std.specs.Vec.{vec_items}
 use Rattle.paris_router.specs.Mail.{has}
 use Rattle.paris_router.proofs.Sent.{sent, silent}
 use Rattle.paris_router.proofs.messages.messages.Goals as goal

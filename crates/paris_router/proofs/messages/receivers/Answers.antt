@@ -1,10 +1,9 @@
-use Rattle.std.proofs.Common.{◌≡◌, ◌<◌, ◌∙◌, ℕ, List, ap, sym, arith, get_or, length, set, take, true, false, refl}
+use Rattle.std.proofs.Common.{◌<◌, ◌∙◌, ℕ, List, ap, arith, get_or, length, set, take, true, false, refl}
 use Rattle.std.specs.Prelude.{nat_lt}
 use Rattle.std.proofs.lemmas.List.Elements.{All-get_or}
 use Rattle.paris_model.specs.Mail.{arrivals}
 use Rattle.paris_router.proofs.Posted.{length-seen, none_seen, seen_more, some_more}
 use Rattle.paris_router.proofs.messages.receivers.Goals as goal
-
 
 pub loop-message-init : goal.loop-message-init
 loop-message-init c = c.in_ok-plane.ensures ∙ none_seen (λ (r : ℕ) (xs : List ℕ). nat_lt 0 (length xs)) c.args.count false (λ r. refl)

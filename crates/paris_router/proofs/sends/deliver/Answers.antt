@@ -2,7 +2,7 @@ use Rattle.std.proofs.Common.{◌≡◌, ◌<◌, ◌∙◌, ℕ, List, Bool, ap
 use Rattle.std.specs.Prelude.{nat_lt}
 use Rattle.std.proofs.lemmas.List.Elements.{All-get_or}
 use Rattle.paris_model.specs.Mail.{arrivals}
-use Rattle.paris_router.proofs.Posted.{first_kept, first_now, get_or-seen, none_seen, one_now, seen, seen_more, seen_same, some_more, two_now}
+use Rattle.paris_router.proofs.Posted.{first_kept, first_now, get_or-seen, none_seen, one_now, seen_more, seen_same, some_more, two_now}
 use Rattle.paris_router.proofs.sends.deliver.Goals as goal
 use Rattle.paris_router.proofs.sends.deliver.Goals.{then-get, else-get}
 
