@@ -74,14 +74,15 @@ fn number(width: u64, seed: u64, v: usize) -> u128
     let place = (v as u64).wrapping_mul(3);
     let low = word(seed, place.wrapping_add(1));
     let high = word(seed, place.wrapping_add(2));
+    let most = mask(width);
     match word(seed, place) % 12 {
         0 => 0,
         1 => 1,
-        2 => mask(width),
-        3 => mask(width) - mask(width) / 2,
-        4 => mask(width) / 2,
-        5 | 6 => u128::from(low >> (high % 64)) & mask(width),
-        _ => ((u128::from(high) << 64) | u128::from(low)) & mask(width),
+        2 => most,
+        3 => most - most / 2,
+        4 => most / 2,
+        5 | 6 => u128::from(low >> (high % 64)) & most,
+        _ => ((u128::from(high) << 64) | u128::from(low)) & most,
     }
 }
 
