@@ -1,0 +1,14 @@
+//! Tests of products, quotients and remainders of fields: worked rows, and each beside the same on the numbers of each processor.
+//! It has no code of its own.
+#![tactic(auto)]
+
+#[cfg(test)]
+mod beside;
+#[cfg(test)]
+mod cases;
+#[cfg(test)]
+mod expected;
+#[cfg(test)]
+mod operations;
+#[cfg(test)]
+mod worked_rows;

@@ -1,0 +1,90 @@
+//! The operations on fields, and a run of one.
+
+ghost use Rattle.std.specs.Prelude.{◌≡◌, ◌<◌, ◌≤◌, IfOk, length};
+
+use paris_alu::Overflowing;
+use paris_field::FieldValue;
+use paris_model::Sign;
+use paris_muldiv::{multiply, remainder, truncate};
+use std::alloc::{AllocError, Global};
+use std::process::Abort;
+use std::test::Fail;
+
+/// What is done to two fields.
+#[derive(Clone, Copy, Debug)]
+pub(crate) enum Operation {
+    Multiply(Sign),
+    Truncate,
+    Remainder,
+}
+
+impl Operation {
+    /// What the call makes of the low `bits` bits.
+    fn run(
+        self,
+        alloc: Global,
+        x: &FieldValue,
+        y: &FieldValue,
+        bits: u64,
+    ) -> Result<Overflowing, AllocError>
+        requires positive { 0 < bits }
+        requires narrow { bits ≤ 128 }
+        requires x_width { bits ≤ x.now.width }
+        requires y_width { bits ≤ y.now.width }
+        requires same { length x.now.numbers ≡ length y.now.numbers }
+    {
+        match self {
+            Operation::Multiply(sign) => multiply(alloc, sign, x, y, bits),
+            Operation::Truncate => truncate(alloc, x, y, bits),
+            Operation::Remainder => remainder(alloc, x, y, bits),
+        }
+    }
+}
+
+/// The results and where they overflow, one number each for every processor.
+#[derive(Drop)]
+pub(crate) struct Outcome {
+    pub(crate) values: Vec<u128>,
+    pub(crate) overflow: Vec<u128>,
+}
+
+/// The field of these numbers.
+fn field_of(
+    rt: &impl Abort,
+    alloc: Global,
+    width: u64,
+    numbers: &[u128],
+) -> Result<FieldValue, Fail>
+    requires { width ≤ 128 }
+    ensures width { IfOk result (λ value. value.width ≡ width) }
+    ensures count { IfOk result (λ value. length value.numbers ≡ length numbers.now) }
+{
+    assert!(rt; FieldValue::first_too_wide(width, numbers).is_none());
+    let value = FieldValue::from_numbers(alloc, width, numbers)?;
+    Ok(value)
+}
+
+/// Runs an operation on the low `bits` bits of numbers of `width` bits.
+pub(crate) fn outcome_of(
+    rt: &impl Abort,
+    alloc: Global,
+    operation: Operation,
+    width: u64,
+    bits: u64,
+    x: &[u128],
+    y: &[u128],
+) -> Result<Outcome, Fail>
+    requires positive { 0 < bits }
+    requires within { bits ≤ width }
+    requires narrow { width ≤ 128 }
+    requires same { length x.now ≡ length y.now }
+{
+    let x = field_of(rt, alloc, width, x)?;
+    let y = field_of(rt, alloc, width, y)?;
+    let made = operation.run(alloc, &x, &y, bits)?;
+    let overflow = FieldValue::from_plane(alloc, made.overflow)?;
+    Ok(Outcome {
+        values: made.value.numbers()?,
+        overflow: overflow.numbers()?,
+    })
+}
