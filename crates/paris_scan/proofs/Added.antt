@@ -8,17 +8,14 @@ use lib.Pow.{pow_pos}
 use Rattle.std.proofs.Math.Nat.{add-mod, mod-lt, mod-eq_of_lt}
 use Rattle.std.proofs.lemmas.Bool.{cases_lt}
 use Rattle.std.proofs.lemmas.Bool.Decides.{nat_tests}
-use Rattle.std.proofs.lemmas.List.Sums.{sum_by-append}
 use Rattle.std.proofs.lemmas.Simd.{get_or-zip2}
 use Rattle.std.specs.Simd.Lanes.{zip2}
 use Rattle.paris_model.specs.Store.{bit}
 use Rattle.paris_field.specs.Numbers.{bit_in, number_at, plane_at}
 use Rattle.paris_field.proofs.Numbers.{sum_mod, carry_is, one_more, zero_bit_in}
 use Rattle.paris_scan.proofs.Tops.{top_split, low_lt}
-use Rattle.paris_scan.specs.Sums.{sum_shown, none_sum}
-
-pub sum_append : (xs ys : List ℕ) → sum (xs ++ ys) ≡ sum xs + sum ys
-sum_append xs ys = sum_by-append (λ x. x) xs ys
+use Rattle.paris_scan.specs.Sums.{sum_shown}
+use Rattle.paris_scan.specs.Laws.{none_sum, sum_append}
 
 -- a number's low bits and the bit above them
 parts : (p a b : ℕ) (x y : Bool) → a < p → b < p → a + p * bit x ≡ b + p * bit y → (a ≡ b) × (x ≡ y)

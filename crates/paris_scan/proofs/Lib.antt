@@ -3,6 +3,7 @@ pub mod Tops
 pub mod Twice
 pub mod Reach
 pub mod Carried
+pub mod Joined
 pub mod Turns
 pub mod Added
 pub mod Defined

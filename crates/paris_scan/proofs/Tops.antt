@@ -12,3 +12,13 @@ top_split ps L v some long =
 
 pub low_lt : (ps : List (List Bool)) (k v : ℕ) → k ≤ length ps → number_at (take k ps) v < 2 ^ k
 low_lt ps k v h = subst (λ m. number_at (take k ps) v < 2 ^ m) (length-take-le k ps h) (number_at_lt (take k ps) v)
+
+-- the top plane of L + 1
+pub split_at : (L v : ℕ) (ps : List (List Bool)) → length ps ≡ L + 1 → number_at ps v ≡ number_at (take L ps) v + 2 ^ L * bit_in (plane_at ps L) v
+split_at L v ps long =
+    let same : L + 1 - 1 ≡ L = omega arith in
+    top_split ps (L + 1) v (omega arith) long ∙ ap (λ k. number_at (take k ps) v + 2 ^ k * bit_in (plane_at ps k) v) same
+
+-- all planes
+pub whole : (k v : ℕ) (ps : List (List Bool)) → length ps ≡ k → number_at (take k ps) v ≡ number_at ps v
+whole k v ps long = ap (λ qs. number_at qs v) (take_all k ps (omega (arith, long)))

@@ -1,3 +1,5 @@
+pub mod Firsts
+pub mod Laws
 pub mod Lines
 pub mod Runs
 pub mod Sums

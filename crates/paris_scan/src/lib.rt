@@ -1,9 +1,12 @@
 //! Scans, spreads and reduces along an axis, in logarithmically many steps.
 #![tactic(auto)]
 
+mod bitwise;
 mod butterfly;
 mod combine;
 mod doubling;
+mod firsts;
+mod maxima;
 mod moves;
 mod scans;
 mod spreads;

@@ -2,7 +2,8 @@
 
 ghost use Rattle.std.specs.Prelude.{◌≡◌, ℕ, ◌+◌, ◌*◌, ◌^◌, ◌<◌, ◌≤◌, ◌||◌, drop, false, length, slice_index_or, take};
 ghost use Rattle.paris_field.specs.Numbers.{AllOf, bit_in, number_at};
-ghost use Rattle.paris_scan.specs.Sums.{none_sum, sum_shown, sums_swapped};
+ghost use Rattle.paris_scan.specs.Laws.{none_sum, sums_swapped};
+ghost use Rattle.paris_scan.specs.Sums.{sum_shown};
 
 use crate::combine::{Combine, Commute};
 use paris_plane::{Plane, accumulate_step};
