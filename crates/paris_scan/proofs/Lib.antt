@@ -8,3 +8,4 @@ pub mod Turns
 pub mod Added
 pub mod Defined
 pub mod Gathered
+pub mod Placed

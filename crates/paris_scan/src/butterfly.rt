@@ -1,15 +1,18 @@
 //! Values gathered over whole lines: after each step a processor holds what twice as many neighbours of its line show.
 
-ghost use Rattle.std.specs.Prelude.{◌≡◌, ℕ, ◌+◌, ◌^◌, ◌<◌, ◌≤◌, All, List, length};
+ghost use Rattle.std.specs.Prelude.{◌≡◌, ℕ, ◌+◌, ◌^◌, ◌<◌, ◌≤◌, ◌∷◌, All, Bool, IfOk, List, [], length};
 ghost use Rattle.std.specs.Int.{IsPowerOfTwo};
 ghost use Rattle.paris_plane.specs.Digits.{digit};
 ghost use Rattle.paris_geometry.specs.Geometry.{axis_length, processor_count, stride};
+ghost use Rattle.paris_model.specs.Lines.{line_values, values_where};
 ghost use Rattle.paris_field.specs.Numbers.{AllOf, number_at, plane_at};
 ghost use Rattle.paris_scan.specs.Blocks.{block};
 
 use crate::combine::Commute;
+use paris_field::zero_planes;
 use paris_geometry::Geometry;
 use paris_plane::Plane;
+use std::alloc::{AllocError, Global};
 
 /// Puts into each processor of `other` the number of the one whose place differs in the binary digit of weight `distance`.
 fn exchange_numbers(distance: usize, state: &[Plane], other: &mut [Plane])
@@ -53,4 +56,28 @@ pub(crate) fn gather<C: Commute>(
         C::join(other, state, spare);
         places *= 2;
     }
+}
+
+/// What the values of each line come to, in each of its processors. In `state` each selected processor has its own value, and the
+/// others have 0.
+pub(crate) fn spread_planes<C: Commute>(
+    alloc: Global,
+    geometry: Geometry,
+    axis: usize,
+    mut state: Vec<Plane>,
+) -> Result<Vec<Plane>, AllocError>
+    requires axis { axis < length geometry }
+    requires some { C.extra ≤ length state.items }
+    requires state { AllOf (processor_count geometry) state.items }
+    ensures count { IfOk result (λ planes. length planes.items ≡ length state.items) }
+    ensures long { IfOk result (λ planes. AllOf (processor_count geometry) planes.items) }
+    ensures shows { IfOk result (λ planes. (L : ℕ) (selected : ℕ → Bool) (value : ℕ → ℕ) → length state.items ≡ L + C.extra → ((u : ℕ) → value u < 2 ^ L)
+        → ((v : ℕ) → v < processor_count geometry → number_at state.items v ≡ C.shows L (values_where selected value (v ∷ [])))
+        → (v : ℕ) → v < processor_count geometry → number_at planes.items v ≡ C.shows L (line_values geometry axis selected value v)) }
+{
+    let vps = geometry.vps();
+    let mut other = zero_planes(alloc, state.len(), vps)?;
+    let mut spare = Plane::zeros(alloc, vps)?;
+    gather::<C>(geometry, axis, &mut state, &mut other, &mut spare);
+    Ok(state)
 }

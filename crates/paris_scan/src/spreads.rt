@@ -8,6 +8,7 @@ use crate::scans::Combined;
 use paris_field::FieldValue;
 use paris_geometry::Geometry;
 use paris_model::Combiner;
+use paris_news::coordinate_plane;
 use paris_plane::Plane;
 use std::alloc::{AllocError, Global};
 
@@ -41,6 +42,25 @@ pub struct Reduced {
     pub stores: Plane,
 }
 
+/// The selected processors with the coordinate `place`.
+fn store_plane(
+    alloc: Global,
+    geometry: Geometry,
+    axis: usize,
+    place: u64,
+    selected: &Plane,
+) -> Result<Plane, AllocError>
+    requires axis { axis < length geometry }
+    requires place { place < axis_length geometry axis }
+    requires selected { length selected.now ≡ processor_count geometry }
+    ensures { IfOk result (λ plane. plane ≡ stores_at geometry axis place selected.now) }
+{
+    let at = coordinate_plane(alloc, geometry, axis, place)?;
+    let mut stores = selected.copy()?;
+    stores.and_in(&at);
+    Ok(stores)
+}
+
 /// What the low `bits` bits of the selected processors of each line combine to; the selected processors with the coordinate `place` store
 /// it.
 pub fn reduce(
@@ -65,7 +85,9 @@ pub fn reduce(
     ensures sums { IfOk result (λ reduced. is_some reduced.combined.overflow ≡ is_sum operator) }
     ensures stores { IfOk result (λ reduced. reduced.stores ≡ stores_at geometry axis place selected.now) }
 {
-    Err(AllocError)
+    let stores = store_plane(alloc, geometry, axis, place, selected)?;
+    let combined = spread(alloc, operator, geometry, axis, x, selected, bits)?;
+    Ok(Reduced { combined, stores })
 }
 
 /// In each processor the low `bits` bits of the processor of its line with the coordinate `place`.
