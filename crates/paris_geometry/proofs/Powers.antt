@@ -9,7 +9,6 @@ use Rattle.std.proofs.lemmas.Nat.{pow-add}
 use Rattle.paris_geometry.specs.Geometry.{product, stride, axis_length, processor_count, is_power_of_two, is_geometry}
 use Rattle.paris_geometry.proofs.Strides.{product_first, above, all_taken, geometry_powers}
 use Rattle.paris_geometry.proofs.Neighbours.{count_is}
-use lib.Pow.{pow_pos}
 
 power_of : (n a m : ℕ) → list_any (λ k. n == 2 ^ k) (range_with_len a m) ≡ true → IsPowerOfTwo n
 power_of n a zero h = cc
