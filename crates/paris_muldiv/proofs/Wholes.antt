@@ -1,8 +1,7 @@
 -- Whole products by words, and their low bits.
-use Rattle.std.proofs.Common.{◌≡◌, ◌≤◌, ℕ, zero, suc, ◌+◌, ◌-◌, ◌*◌, ◌%◌, ◌^◌, ◌<◌, arith, ◌∙◌, sym, ap}
-use Rattle.std.proofs.Math.Nat.{mul_assoc, mul_comm}
+use Rattle.std.proofs.Common.{◌≡◌, ◌≤◌, ℕ, ◌+◌, ◌-◌, ◌*◌, ◌%◌, ◌^◌, ◌<◌, arith, ◌∙◌, sym, ap}
 use Rattle.std.proofs.Math.Pow.{mod-mod-pow}
-use Rattle.std.proofs.lemmas.Nat.{pow-add, mod-mul-add}
+use Rattle.std.proofs.lemmas.Nat.{mod-mul-add}
 
 -- the product of two numbers of two words, from the four products of their words
 pub whole : (a b c d p0 p1 q0 q1 r0 r1 s0 s1 : ℕ) → p0 + p1 * 2 ^ 64 ≡ a * c + 0 + 0 → q0 + q1 * 2 ^ 64 ≡ b * c + p1 + 0 → r0 + r1 * 2 ^ 64 ≡ a * d + q0 + 0 → s0 + s1 * 2 ^ 64 ≡ b * d + q1 + r1 → (p0 + 2 ^ 64 * r0) + 2 ^ 128 * (s0 + 2 ^ 64 * s1) ≡ (a + 2 ^ 64 * b) * (c + 2 ^ 64 * d)

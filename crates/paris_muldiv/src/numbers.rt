@@ -158,7 +158,11 @@ impl NumberOp for UnsignedQuotient {
     ghost operator = { Truncate };
 
     fn apply(bits: u64, x: u128, y: u128) -> (u128, bool) {
-        if y == 0 { (0, true) } else { (quotient(x, y), false) }
+        if y == 0 {
+            (0, true)
+        } else {
+            (quotient(x, y), false)
+        }
     }
 }
 
@@ -169,6 +173,10 @@ impl NumberOp for UnsignedRest {
     ghost operator = { Remainder };
 
     fn apply(bits: u64, x: u128, y: u128) -> (u128, bool) {
-        if y == 0 { (0, true) } else { (rest(x, y), false) }
+        if y == 0 {
+            (0, true)
+        } else {
+            (rest(x, y), false)
+        }
     }
 }

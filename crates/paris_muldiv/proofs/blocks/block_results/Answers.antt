@@ -1,4 +1,4 @@
-use Rattle.std.proofs.Common.{◌≡◌, ◌≢◌, ℕ, ◌∙◌, ap, arith, below_more, refl}
+use Rattle.std.proofs.Common.{◌≢◌, ℕ, ◌∙◌, ap, arith, below_more, refl}
 use Rattle.std.proofs.lemmas.Grind.{get_or-set_at}
 use Rattle.std.proofs.lemmas.List.{get_or-set_other, length-set, length-replicate}
 use Rattle.paris_model.specs.Store.{low}

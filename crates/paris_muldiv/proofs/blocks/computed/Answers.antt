@@ -1,4 +1,4 @@
-use Rattle.std.proofs.Common.{◌≡◌, ℕ, ◌<◌, ◌∙◌, ap, sym, arith, length, replicate, get_or, List, Bool, false}
+use Rattle.std.proofs.Common.{◌≡◌, ℕ, ◌<◌, ◌∙◌, ap, arith, length, replicate, List, Bool, false}
 use Rattle.std.proofs.lemmas.List.{length-replicate}
 use Rattle.paris_model.specs.Elementwise.{binary_overflow, binary_result}
 use Rattle.paris_model.specs.Store.{low}

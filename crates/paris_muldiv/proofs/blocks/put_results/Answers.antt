@@ -1,4 +1,4 @@
-use Rattle.std.proofs.Common.{◌≡◌, ℕ, ◌+◌, ◌*◌, ◌<◌, ◌^◌, ◌∙◌, ap, arith, sym, subst, length, get_or, Bool}
+use Rattle.std.proofs.Common.{ℕ, ◌+◌, ◌*◌, ◌<◌, ◌^◌, ◌∙◌, ap, arith, sym, subst, length, get_or, Bool}
 use Rattle.paris_model.specs.Elementwise.{binary_overflow, binary_result}
 use Rattle.paris_model.specs.Store.{low}
 use Rattle.paris_field.specs.Numbers.{number_at}
