@@ -3,7 +3,10 @@ pub mod Tops
 pub mod Twice
 pub mod Reach
 pub mod Carried
+pub mod Masked
 pub mod Joined
 pub mod Turns
 pub mod Added
 pub mod Defined
+pub mod Excluded
+pub mod Units

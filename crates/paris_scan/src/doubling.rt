@@ -30,6 +30,7 @@ pub fn double<C: Combine>(
     requires earlier { AllOf (processor_count geometry) earlier.old }
     requires spare { length spare.old ≡ processor_count geometry }
     ensures long { AllOf (processor_count geometry) state.new }
+    ensures earlier { AllOf (processor_count geometry) earlier.new }
     ensures runs { (L : ℕ) (own : ℕ → List ℕ) → length state.old ≡ L + C.extra → ((u : ℕ) → All (λ x. x < 2 ^ L) (own u))
         → ((v : ℕ) → v < processor_count geometry → number_at state.old v ≡ C.shows L (own v))
         → (v : ℕ) → v < processor_count geometry → number_at state.new v ≡ C.shows L (run (λ u. slice_index_or begun.old u false) own direction (stride geometry axis) (axis_length geometry axis) v) }

@@ -5,9 +5,11 @@ mod bitwise;
 mod combine;
 mod doubling;
 mod firsts;
+mod lines;
 mod maxima;
 mod moves;
 mod scans;
+mod sources;
 mod spreads;
 mod sums;
 

@@ -1,10 +1,19 @@
 //! Scans.
 
-ghost use Rattle.std.specs.Prelude.{◌≡◌, ◌<◌, ◌≤◌, IfOk, IfSome, is_some, length};
+ghost use Rattle.std.specs.Prelude.{◌≡◌, ◌<◌, ◌≤◌, None, Some, IfOk, IfSome, is_some, length};
 ghost use Rattle.paris_geometry.specs.Geometry.{processor_count};
+ghost use Rattle.paris_model.specs.declared.operators.Combiner.TheVariants.{Sum};
 ghost use Rattle.paris_model.specs.declared.operators.Inclusion.TheVariants.{Inclusive};
 ghost use Rattle.paris_scan.specs.Lines.{combined_field, first_field, is_sum, scanned, sums_overflow};
+ghost use Rattle.paris_scan.specs.Shown.{complement_shown, shown_field};
 
+use crate::bitwise::{Ors, Xors};
+use crate::combine::Combine;
+use crate::firsts::Firsts;
+use crate::lines::{Along, scan_planes};
+use crate::maxima::Maxima;
+use crate::sources::{complement_planes, invert_planes, selected_planes};
+use crate::sums::Sums;
 use paris_field::FieldValue;
 use paris_geometry::{Direction, Geometry};
 use paris_model::{Combiner, Inclusion};
@@ -16,6 +25,89 @@ use std::alloc::{AllocError, Global};
 pub struct Combined {
     pub value: FieldValue,
     pub overflow: Option<Plane>,
+}
+
+/// A value of an operator that has no overflow.
+fn alone(value: FieldValue) -> Combined
+    ensures { result ≡ record { value = value; overflow = None } }
+{
+    Combined {
+        value,
+        overflow: None,
+    }
+}
+
+/// What the values that a scan combines come to, by an operator that has no plane of its own.
+fn scan_field<C: Combine>(
+    alloc: Global,
+    along: &Along,
+    x: &FieldValue,
+    selected: &Plane,
+    segments: &Plane,
+    bits: u64,
+) -> Result<FieldValue, AllocError>
+    requires plain { C.extra ≡ 0 }
+    requires axis { along.now.axis < length along.now.geometry }
+    requires narrow { bits ≤ 128 }
+    requires x_width { bits ≤ x.now.width }
+    requires count { length x.now.numbers ≡ processor_count along.now.geometry }
+    requires selected { length selected.now ≡ processor_count along.now.geometry }
+    requires segments { length segments.now ≡ processor_count along.now.geometry }
+    ensures { IfOk result (λ value. value ≡ shown_field C.shows bits (processor_count along.now.geometry) (scanned along.now.geometry along.now.axis along.now.direction along.now.inclusion segments.now selected.now bits x.now)) }
+{
+    let state = selected_planes(alloc, selected, x.low(bits))?;
+    let planes = scan_planes::<C>(alloc, along, state, segments)?;
+    Ok(FieldValue::from_planes(planes, x.len()))
+}
+
+/// What the values that a scan combines come to, by an operator that combines their complements to that of the result.
+fn scan_complements<C: Combine>(
+    alloc: Global,
+    along: &Along,
+    x: &FieldValue,
+    selected: &Plane,
+    segments: &Plane,
+    bits: u64,
+) -> Result<FieldValue, AllocError>
+    requires plain { C.extra ≡ 0 }
+    requires axis { along.now.axis < length along.now.geometry }
+    requires narrow { bits ≤ 128 }
+    requires x_width { bits ≤ x.now.width }
+    requires count { length x.now.numbers ≡ processor_count along.now.geometry }
+    requires selected { length selected.now ≡ processor_count along.now.geometry }
+    requires segments { length segments.now ≡ processor_count along.now.geometry }
+    ensures { IfOk result (λ value. value ≡ shown_field (complement_shown C.shows) bits (processor_count along.now.geometry) (scanned along.now.geometry along.now.axis along.now.direction along.now.inclusion segments.now selected.now bits x.now)) }
+{
+    let state = complement_planes(alloc, selected, x.low(bits))?;
+    let mut planes = scan_planes::<C>(alloc, along, state, segments)?;
+    invert_planes(&mut planes);
+    Ok(FieldValue::from_planes(planes, x.len()))
+}
+
+/// The low bits of the sums that a scan makes, and where the exact sum needs more.
+fn scan_sums(
+    alloc: Global,
+    along: &Along,
+    x: &FieldValue,
+    selected: &Plane,
+    segments: &Plane,
+    bits: u64,
+) -> Result<Combined, AllocError>
+    requires axis { along.now.axis < length along.now.geometry }
+    requires narrow { bits ≤ 128 }
+    requires x_width { bits ≤ x.now.width }
+    requires count { length x.now.numbers ≡ processor_count along.now.geometry }
+    requires selected { length selected.now ≡ processor_count along.now.geometry }
+    requires segments { length segments.now ≡ processor_count along.now.geometry }
+    ensures value { IfOk result (λ combined. combined.value ≡ combined_field Sum bits (processor_count along.now.geometry) (scanned along.now.geometry along.now.axis along.now.direction along.now.inclusion segments.now selected.now bits x.now)) }
+    ensures overflow { IfOk result (λ combined. combined.overflow ≡ Some (sums_overflow bits (processor_count along.now.geometry) (scanned along.now.geometry along.now.axis along.now.direction along.now.inclusion segments.now selected.now bits x.now))) }
+{
+    let mut state = selected_planes(alloc, selected, x.low(bits))?;
+    state.push(Plane::zeros(alloc, x.len())?)?;
+    let mut planes = scan_planes::<Sums>(alloc, along, state, segments)?;
+    let overflow = planes.pop();
+    let value = FieldValue::from_planes(planes, x.len());
+    Ok(Combined { value, overflow })
 }
 
 /// In each processor what the low `bits` bits of the selected processors combine to, from the start of its segment on. Where a bit of
@@ -43,7 +135,38 @@ pub fn scan(
     ensures overflow { IfOk result (λ combined. IfSome combined.overflow (λ overflow. overflow ≡ sums_overflow bits (processor_count geometry) (scanned geometry axis direction inclusion segments.now selected.now bits x.now))) }
     ensures sums { IfOk result (λ combined. is_some combined.overflow ≡ is_sum operator) }
 {
-    Err(AllocError)
+    let along = Along {
+        geometry,
+        axis,
+        direction,
+        inclusion,
+    };
+    match operator {
+        Combiner::Sum => {
+            let sums = scan_sums(alloc, &along, x, selected, segments, bits)?;
+            Ok(sums)
+        }
+        Combiner::BitOr => {
+            let value = scan_field::<Ors>(alloc, &along, x, selected, segments, bits)?;
+            Ok(alone(value))
+        }
+        Combiner::BitXor => {
+            let value = scan_field::<Xors>(alloc, &along, x, selected, segments, bits)?;
+            Ok(alone(value))
+        }
+        Combiner::BitAnd => {
+            let value = scan_complements::<Ors>(alloc, &along, x, selected, segments, bits)?;
+            Ok(alone(value))
+        }
+        Combiner::Maximum => {
+            let value = scan_field::<Maxima>(alloc, &along, x, selected, segments, bits)?;
+            Ok(alone(value))
+        }
+        Combiner::Minimum => {
+            let value = scan_complements::<Maxima>(alloc, &along, x, selected, segments, bits)?;
+            Ok(alone(value))
+        }
+    }
 }
 
 /// In each processor the low `bits` bits of the first selected processor from the start of its segment to itself, and 0 where there is
@@ -67,5 +190,15 @@ pub fn copy_scan(
     requires segments { length segments.now ≡ processor_count geometry }
     ensures { IfOk result (λ value. value ≡ first_field bits (processor_count geometry) (scanned geometry axis direction Inclusive segments.now selected.now bits x.now)) }
 {
-    Err(AllocError)
+    let along = Along {
+        geometry,
+        axis,
+        direction,
+        inclusion: Inclusion::Inclusive,
+    };
+    let mut state = selected_planes(alloc, selected, x.low(bits))?;
+    state.push(selected.copy()?)?;
+    let mut planes = scan_planes::<Firsts>(alloc, &along, state, segments)?;
+    planes.truncate(bits as usize);
+    Ok(FieldValue::from_planes(planes, x.len()))
 }
