@@ -46,3 +46,5 @@ none_number (p ∷ ps) v each =
     let first : bit_in p v ≡ 0 = ap bit (each 0 (omega arith)) in
     let rest : number_at ps v ≡ 0 = none_number ps v (λ j h. each (suc j) (omega (arith, h))) in
     omega (arith, first, rest)
+
+-- numbers that count where a mask is 1

@@ -16,7 +16,7 @@ use Rattle.paris_scan.proofs.Steps.{up_inside, down_inside}
 use Rattle.paris_model.specs.declared.operators.Inclusion.TheVariants.{Inclusive}
 use Rattle.paris_geometry.proofs.Neighbours.{coordinate_below, at_coordinate_again, at_own_coordinate, ring_below}
 use Rattle.paris_model.specs.Lines.{from_last, values_where, scan_values}
-use Rattle.paris_scan.specs.Runs.{before, run, first_coordinate}
+use Rattle.paris_scan.specs.Runs.{begins_run, before, run, first_coordinate}
 use Rattle.paris_scan.proofs.Reach.{behind, nearer, distance, distance_below}
 
 -- from the last begin on
@@ -49,7 +49,7 @@ unfoldable pub along : List ℕ → ℕ → Direction → ℕ → ℕ → ℕ
 along axes a Upward v i = at_coordinate axes a v i
 along axes a Downward v i = at_coordinate axes a v (axis_length axes a - 1 - i)
 
-until_is : (axes : List ℕ) (a : ℕ) (d : Direction) (v : ℕ) → coordinate axes a v < axis_length axes a → line_until axes a d v ≡ map (along axes a d v) (range_with_len 0 (distance axes a d v + 1))
+pub until_is : (axes : List ℕ) (a : ℕ) (d : Direction) (v : ℕ) → coordinate axes a v < axis_length axes a → line_until axes a d v ≡ map (along axes a d v) (range_with_len 0 (distance axes a d v + 1))
 unfolding along
 until_is axes a Upward v own = take-map-range_with_len (at_coordinate axes a v) 0 (axis_length axes a) (coordinate axes a v + 1) (omega arith)
 until_is axes a Downward v own =
@@ -74,7 +74,7 @@ before_is axes a Upward v own = at_own_coordinate axes a v
 before_is axes a Downward v own = ap (at_coordinate axes a v) (let e : axis_length axes a - 1 - (axis_length axes a - 1 - coordinate axes a v) ≡ coordinate axes a v = omega arith in e) ∙ at_own_coordinate axes a v
 
 -- the one before v is its neighbour
-before_neighbour : (axes : List ℕ) (a : ℕ) (d : Direction) (v : ℕ) → is_geometry axes ≡ true → a < length axes → coordinate axes a v ≢ first_coordinate d (axis_length axes a) → before d (stride axes a) v ≡ neighbour axes a (opposite d) v
+pub before_neighbour : (axes : List ℕ) (a : ℕ) (d : Direction) (v : ℕ) → is_geometry axes ≡ true → a < length axes → coordinate axes a v ≢ first_coordinate d (axis_length axes a) → before d (stride axes a) v ≡ neighbour axes a (opposite d) v
 before_neighbour axes a Upward v sound within apart =
     let some : 0 < stride axes a = stride_positive axes a (geometry_powers axes sound) in
     let own : coordinate axes a v < axis_length axes a = coordinate_below axes a v sound within in
@@ -94,7 +94,7 @@ no_distance : (axes : List ℕ) (a : ℕ) (d : Direction) (v : ℕ) → coordina
 no_distance axes a Upward v e = e
 no_distance axes a Downward v e = omega (arith, e)
 
-until_first : (axes : List ℕ) (a : ℕ) (d : Direction) (v : ℕ) → is_geometry axes ≡ true → a < length axes → coordinate axes a v ≡ first_coordinate d (axis_length axes a) → line_until axes a d v ≡ v ∷ []
+pub until_first : (axes : List ℕ) (a : ℕ) (d : Direction) (v : ℕ) → is_geometry axes ≡ true → a < length axes → coordinate axes a v ≡ first_coordinate d (axis_length axes a) → line_until axes a d v ≡ v ∷ []
 until_first axes a d v sound within e =
     let own : coordinate axes a v < axis_length axes a = coordinate_below axes a v sound within in
     let z : distance axes a d v ≡ 0 = no_distance axes a d v e in
@@ -102,7 +102,7 @@ until_first axes a d v sound within e =
     ∙ ap (λ k. map (along axes a d v) (range_with_len 0 (k + 1))) z
     ∙ ap (λ x. x ∷ []) (ap (along axes a d v) (sym z) ∙ before_is axes a d v own)
 
-until_more : (axes : List ℕ) (a : ℕ) (d : Direction) (v : ℕ) → is_geometry axes ≡ true → a < length axes → coordinate axes a v ≢ first_coordinate d (axis_length axes a) → line_until axes a d v ≡ line_until axes a d (before d (stride axes a) v) ++ v ∷ []
+pub until_more : (axes : List ℕ) (a : ℕ) (d : Direction) (v : ℕ) → is_geometry axes ≡ true → a < length axes → coordinate axes a v ≢ first_coordinate d (axis_length axes a) → line_until axes a d v ≡ line_until axes a d (before d (stride axes a) v) ++ v ∷ []
 until_more axes a d v sound within apart =
     let s : ℕ = stride axes a in
     let u : ℕ = before d s v in
@@ -117,16 +117,12 @@ until_more axes a d v sound within apart =
     ∙ ap (λ j. map (along axes a d u) (range_with_len 0 j)) (sym next)
     ∙ sym (until_is axes a d u (coordinate_below axes a u sound within)))
 
-values_append : (p : ℕ → Bool) (g : ℕ → ℕ) (xs ys : List ℕ) → values_where p g (xs ++ ys) ≡ values_where p g xs ++ values_where p g ys
+pub values_append : (p : ℕ → Bool) (g : ℕ → ℕ) (xs ys : List ℕ) → values_where p g (xs ++ ys) ≡ values_where p g xs ++ values_where p g ys
 values_append p g xs ys = ap (map g) (filter-append p xs ys) ∙ map-append g (filter p xs) (filter p ys)
 
-values_cond : (p : ℕ → Bool) (g : ℕ → ℕ) (b : Bool) (xs ys : List ℕ) → values_where p g (cond b xs ys) ≡ cond b (values_where p g xs) (values_where p g ys)
+pub values_cond : (p : ℕ → Bool) (g : ℕ → ℕ) (b : Bool) (xs ys : List ℕ) → values_where p g (cond b xs ys) ≡ cond b (values_where p g xs) (values_where p g ys)
 values_cond p g true xs ys = refl
 values_cond p g false xs ys = refl
-
--- where a segment begins, and where a line does
-abbrev pub begins_run : List ℕ → ℕ → Direction → (ℕ → Bool) → ℕ → Bool
-begins_run axes a d begins v = eqb (coordinate axes a v) (first_coordinate d (axis_length axes a)) || begins v
 
 pub run_is : (axes : List ℕ) (a : ℕ) (d : Direction) (begins selected : ℕ → Bool) (value : ℕ → ℕ) (k v : ℕ) → is_geometry axes ≡ true → a < length axes → v < processor_count axes → distance axes a d v < k → run (begins_run axes a d begins) (λ u. values_where selected value (u ∷ [])) d (stride axes a) k v ≡ values_where selected value (from_last begins (line_until axes a d v))
 unfolding run
@@ -155,14 +151,14 @@ run_is axes a d begins selected value (suc k) v sound within below near =
     ]
 
 -- the values that an inclusive scan combines are the run as long as the line
-and_true : (b : Bool) → (b && true) ≡ b
+pub and_true : (b : Bool) → (b && true) ≡ b
 and_true true = refl
 and_true false = refl
 
-cond_same : (b c : Bool) (x : ℕ) (xs ys : List ℕ) → b ≡ c → xs ≡ ys → cond b (x ∷ xs) xs ≡ cond c (x ∷ ys) ys
+pub cond_same : (b c : Bool) (x : ℕ) (xs ys : List ℕ) → b ≡ c → xs ≡ ys → cond b (x ∷ xs) xs ≡ cond c (x ∷ ys) ys
 cond_same b c x xs ys e h = ap (λ t. cond t (x ∷ xs) xs) e ∙ ap (λ l. cond c (x ∷ l) l) h
 
-filter_same : (p q : ℕ → Bool) (xs : List ℕ) → ((u : ℕ) → p u ≡ q u) → filter p xs ≡ filter q xs
+pub filter_same : (p q : ℕ → Bool) (xs : List ℕ) → ((u : ℕ) → p u ≡ q u) → filter p xs ≡ filter q xs
 filter_same p q [] each = refl
 filter_same p q (x ∷ xs) each = cond_same (p x) (q x) x (filter p xs) (filter q xs) (each x) (filter_same p q xs each)
 

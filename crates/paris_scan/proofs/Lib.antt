@@ -9,3 +9,6 @@ pub mod Added
 pub mod Defined
 pub mod Gathered
 pub mod Placed
+pub mod Excluded
+pub mod Units
+pub mod Masked

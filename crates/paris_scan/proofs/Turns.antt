@@ -1,5 +1,5 @@
 -- One turn of a scan by doubling, and its last.
-use Rattle.std.proofs.Common.{◌≡◌, ℕ, zero, suc, ◌+◌, ◌-◌, ◌*◌, ◌<◌, ◌≤◌, Bool, true, false, ◌||◌, cond, List, [], ◌++◌, length, get_or, arith, ap, ◌∙◌, sym, subst, refl}
+use Rattle.std.proofs.Common.{◌≡◌, ℕ, zero, suc, ◌+◌, ◌-◌, ◌*◌, ◌<◌, ◌≤◌, Bool, true, false, ◌||◌, cond, List, [], ◌++◌, length, get_or, arith, ap, ◌∙◌, sym, subst, refl, eqb}
 use Rattle.std.specs.Prelude.{All}
 use Rattle.std.specs.Simd.Lanes.{zip2}
 use Rattle.std.proofs.lemmas.Simd.{get_or-zip2, length-zip2}
@@ -8,8 +8,9 @@ use Rattle.paris_field.proofs.Places.{get_or-bits_everywhere, length-bits_everyw
 use Rattle.std.proofs.lemmas.List.Elements.{All-nil}
 use Rattle.paris_geometry.specs.declared.direction.Direction.{Direction}
 use Rattle.paris_geometry.specs.declared.direction.Direction.TheVariants.{Upward, Downward}
-use Rattle.paris_geometry.specs.Geometry.{stride, axis_length, processor_count, is_geometry}
-use Rattle.paris_scan.specs.Runs.{before, begun_within, run, StartsLines, Reaches}
+use Rattle.paris_geometry.specs.Geometry.{stride, axis_length, processor_count, is_geometry, coordinate}
+use Rattle.std.proofs.lemmas.Bool.Decides.{nat_tests}
+use Rattle.paris_scan.specs.Runs.{begins_run, first_coordinate, before, begun_within, run, StartsLines, Reaches}
 use Rattle.paris_scan.proofs.Twice.{run_split, begun_split, run_stays, run_all}
 use Rattle.paris_scan.proofs.Reach.{reached, begun_in_line, behind, starts_at}
 
@@ -41,7 +42,7 @@ begun_doubled {axes} {a} {d} {f} w m by old moved new v is nold nm olds moves e 
     ∙ ap (λ x. begun_within f d s m (before d x v)) is)
     ∙ sym (ap (λ k. begun_within f d s k v) (twice m) ∙ begun_split f d s m m v)
 
-cut_shows : (sh : List ℕ → ℕ) (b : Bool) (x : ℕ) (r : List ℕ) → sh [] ≡ 0 → (b ≡ true → x ≡ 0) → (b ≡ false → x ≡ sh r) → x ≡ sh (cond b [] r)
+pub cut_shows : (sh : List ℕ → ℕ) (b : Bool) (x : ℕ) (r : List ℕ) → sh [] ≡ 0 → (b ≡ true → x ≡ 0) → (b ≡ false → x ≡ sh r) → x ≡ sh (cond b [] r)
 cut_shows sh true x r none t f = t refl ∙ sym none
 cut_shows sh false x r none t f = f refl
 
@@ -71,6 +72,22 @@ run_doubled {axes} {a} {d} {f} w sh P own m by begun old earlier new v none fits
     ∙ ap (λ x. sh (run f own d s m (before d x v))) is))
     (olds v below)
     ∙ ap sh (cut_append b r ys ∙ sym (ap (λ k. run f own d s k v) (twice m) ∙ run_split f own d s m m v))
+
+-- what is moved on by one place at the end, and cut where a segment begins
+pub run_before : {axes : List ℕ} {a : ℕ} {d : Direction} {f : ℕ → Bool} → Walk axes a d f → (sh : List ℕ → ℕ) (own : ℕ → List ℕ) (k by : ℕ) (begins : List Bool) (last earlier : ℕ → ℕ) (v : ℕ) → sh [] ≡ 0 → by ≡ stride axes a
+    → ((u : ℕ) → u < processor_count axes → get_or begins u false ≡ f u)
+    → ((u : ℕ) → u < processor_count axes → last u ≡ sh (run f own d (stride axes a) k u))
+    → ((u : ℕ) → u < processor_count axes → get_or begins u false ≡ true → earlier u ≡ 0)
+    → ((u : ℕ) → u < processor_count axes → get_or begins u false ≡ false → Reaches d by (processor_count axes) u → earlier u ≡ last (before d by u))
+    → v < processor_count axes → earlier v ≡ sh (cond (f v) [] (run f own d (stride axes a) k (before d (stride axes a) v)))
+run_before {axes} {a} {d} {f} w sh own k by begins last earlier v none is starts lasts cuts moves below =
+    let s : ℕ = stride axes a in
+    cut_shows sh (f v) (earlier v) (run f own d s k (before d s v)) none (λ t. cuts v below (starts v below ∙ t)) (λ n.
+    let b = behind axes a d v w.sound w.within below (starts_at axes a d f v w.starts below n) in
+    let reach : Reaches d by (processor_count axes) v = subst (λ x. Reaches d x (processor_count axes) v) (sym is) b.reaches in
+    moves v below (starts v below ∙ n) reach
+    ∙ ap (λ x. last (before d x v)) is
+    ∙ lasts (before d s v) b.there)
 
 -- as many places as the line has are all that count
 pub run_ended : {axes : List ℕ} {a : ℕ} {d : Direction} {f : ℕ → Bool} → Walk axes a d f → (own : ℕ → List ℕ) (m v : ℕ) → axis_length axes a ≤ m → v < processor_count axes → run f own d (stride axes a) m v ≡ run f own d (stride axes a) (axis_length axes a) v
@@ -104,3 +121,11 @@ begun_at n v edge plane segments begun is ns e h =
     let np : length plane ≡ n = ap length is ∙ length-bits_everywhere n edge in
     ap (λ l. get_or l v false) e ∙ get_or-zip2 (λ x y. x || y) plane segments v false false false (omega arith) (omega arith)
     ∙ ap (λ b. b || get_or segments v false) (ap (λ l. get_or l v false) is ∙ get_or-bits_everywhere n edge v h)
+
+or_first : (b c : Bool) → b ≡ true → (b || c) ≡ true
+or_first b c e = ap (λ x. x || c) e
+
+pub starts_line : (axes : List ℕ) (a : ℕ) (d : Direction) (segments : ℕ → Bool) (v : ℕ) → coordinate axes a v ≡ first_coordinate d (axis_length axes a) → begins_run axes a d segments v ≡ true
+starts_line axes a d segments v e =
+    let t : eqb (coordinate axes a v) (first_coordinate d (axis_length axes a)) ≡ true = grind (arith, nat_tests, e) in
+    or_first (eqb (coordinate axes a v) (first_coordinate d (axis_length axes a))) (segments v) t

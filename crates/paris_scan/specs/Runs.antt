@@ -1,5 +1,5 @@
 -- The values of the last places of a line, cut where a segment begins.
-use Rattle.std.specs.Prelude.{ℕ, zero, suc, ◌≡◌, ◌<◌, ◌≤◌, ◌+◌, ◌-◌, Bool, true, false, ◌||◌, cond, List, [], ◌++◌}
+use Rattle.std.specs.Prelude.{ℕ, zero, suc, ◌≡◌, ◌<◌, ◌≤◌, ◌+◌, ◌-◌, Bool, true, false, ◌||◌, cond, List, [], ◌++◌, ◌==◌}
 use Rattle.paris_geometry.specs.declared.direction.Direction.{Direction}
 use Rattle.paris_geometry.specs.declared.direction.Direction.TheVariants.{Upward, Downward}
 use Rattle.paris_geometry.specs.Geometry.{axis_length, coordinate, processor_count}
@@ -23,6 +23,10 @@ run begins own direction s (suc k) v = cond (begins v) (own v) (run begins own d
 abbrev pub first_coordinate : Direction → ℕ → ℕ
 first_coordinate Upward n = 0
 first_coordinate Downward n = n - 1
+
+-- where a line begins, or a segment
+abbrev pub begins_run : List ℕ → ℕ → Direction → (ℕ → Bool) → ℕ → Bool
+begins_run axes a direction begins v = (coordinate axes a v == first_coordinate direction (axis_length axes a)) || begins v
 
 -- a segment begins where a line does
 abbrev pub StartsLines : List ℕ → ℕ → Direction → (ℕ → Bool) → Type 0

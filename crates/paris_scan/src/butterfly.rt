@@ -30,7 +30,7 @@ fn exchange_numbers(distance: usize, state: &[Plane], other: &mut [Plane])
 
 /// Puts into each processor what the lists of all processors of its line come to, by rising coordinate. `other` and `spare` are
 /// written over.
-pub(crate) fn gather<C: Commute>(
+fn gather<C: Commute>(
     geometry: Geometry,
     axis: usize,
     state: &mut [Plane],
@@ -60,7 +60,7 @@ pub(crate) fn gather<C: Commute>(
 
 /// What the values of each line come to, in each of its processors. In `state` each selected processor has its own value, and the
 /// others have 0.
-pub(crate) fn spread_planes<C: Commute>(
+pub fn spread_planes<C: Commute>(
     alloc: Global,
     geometry: Geometry,
     axis: usize,

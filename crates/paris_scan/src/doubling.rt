@@ -12,7 +12,7 @@ use paris_plane::Plane;
 
 /// Puts into each processor what the list of its line up to it comes to, from where its segment begins. `begun` has a 1
 /// where a segment or a line begins, and is written over, as `earlier` and `spare` are.
-pub fn double<C: Combine>(
+pub(crate) fn double<C: Combine>(
     geometry: Geometry,
     axis: usize,
     direction: Direction,
@@ -30,6 +30,7 @@ pub fn double<C: Combine>(
     requires earlier { AllOf (processor_count geometry) earlier.old }
     requires spare { length spare.old ≡ processor_count geometry }
     ensures long { AllOf (processor_count geometry) state.new }
+    ensures earlier { AllOf (processor_count geometry) earlier.new }
     ensures runs { (L : ℕ) (own : ℕ → List ℕ) → length state.old ≡ L + C.extra → ((u : ℕ) → All (λ x. x < 2 ^ L) (own u))
         → ((v : ℕ) → v < processor_count geometry → number_at state.old v ≡ C.shows L (own v))
         → (v : ℕ) → v < processor_count geometry → number_at state.new v ≡ C.shows L (run (λ u. slice_index_or begun.old u false) own direction (stride geometry axis) (axis_length geometry axis) v) }

@@ -1,4 +1,5 @@
-//! Scans, spreads and reduces along an axis, in logarithmically many steps.
+//! Values combined along the lines of an axis, in logarithmically many steps: by doubling up to each processor, and by a
+//! butterfly over whole lines.
 #![tactic(auto)]
 
 mod bitwise;
@@ -6,11 +7,17 @@ mod butterfly;
 mod combine;
 mod doubling;
 mod firsts;
+mod lines;
 mod maxima;
 mod moves;
-mod scans;
-mod spreads;
+mod sources;
 mod sums;
 
-pub use scans::{Combined, copy_scan, scan};
-pub use spreads::{Reduced, copy_spread, reduce, spread};
+pub use bitwise::{Ors, Xors};
+pub use butterfly::spread_planes;
+pub use combine::{Combine, Commute};
+pub use firsts::Firsts;
+pub use lines::{Along, scan_planes};
+pub use maxima::Maxima;
+pub use sources::{complement_planes, invert_planes, selected_planes};
+pub use sums::Sums;
