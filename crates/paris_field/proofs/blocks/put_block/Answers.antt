@@ -1,4 +1,4 @@
-use Rattle.std.proofs.Common.{◌≡◌, ℕ, ◌+◌, ◌*◌, ◌%◌, ◌^◌, ◌∙◌, ap, arith, length, get_or}
+use Rattle.std.proofs.Common.{◌+◌, ◌*◌, ◌%◌, ◌^◌, ◌∙◌, ap, arith, get_or}
 use Rattle.paris_field.proofs.Halves.{number_from_bits, same_number}
 use Rattle.paris_field.proofs.blocks.put_block.Goals as goal
 
