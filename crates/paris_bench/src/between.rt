@@ -18,7 +18,7 @@ use std::io;
 const WORDS: usize = 500_000;
 
 /// What is measured of processors on one axis.
-#[derive(Clone, Copy, PartialEq, Eq, Debug)]
+#[derive(Clone, Copy)]
 enum Operation {
     /// `scan-with-u-add`, upward and inclusive
     Scan,
@@ -37,7 +37,7 @@ enum Operation {
 }
 
 /// What an operation makes.
-#[derive(Debug, Drop)]
+#[derive(Drop)]
 enum Answer {
     Nothing,
     Refused,
@@ -212,11 +212,7 @@ fn divided(alloc: Global, fields: &Fields) -> Result<Answer, AllocError> {
 }
 
 /// What the operation makes of the fields. Of fields that don't fit each other it is nothing.
-fn answer_of(
-    alloc: Global,
-    operation: Operation,
-    fields: &Fields,
-) -> Result<Answer, AllocError> {
+fn answer_of(alloc: Global, operation: Operation, fields: &Fields) -> Result<Answer, AllocError> {
     match operation {
         Operation::Scan => scanned(alloc, fields),
         Operation::Spread => spread_out(alloc, fields),
