@@ -3,6 +3,7 @@ pub mod Executed
 pub mod Frames
 pub mod InEvery
 pub mod Left
+pub mod Neighbours
 pub mod Operands
 pub mod Puts
 pub mod Addresses

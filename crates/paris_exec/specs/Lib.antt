@@ -1,4 +1,4 @@
 pub mod Frames
+pub mod Made
 pub mod Planes
-pub mod Seen
 pub mod Tasks
