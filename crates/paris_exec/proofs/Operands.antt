@@ -229,7 +229,7 @@ module _ (t : Task) (sign : Sign) (D A : Operand) (L M : ℕ) (acts : t.plan.act
       let widths : list_all (λ (o : Operand). nat_lt 0 o.width && nat_le o.width 64) (D ∷ A ∷ []) ≡ true = sym (ap have_field_widths acts) ∙ fit.widths in
       let most : A.width ≤ 64 = narrow_second D A widths in
       let longest : M ≤ A.width = from.1 in
-      ((good_length L D (or_false_first (is_bad_length L D) (is_bad_length M A) bad)).0, (from.0, (let m : M ≤ 128 = omega (arith, longest, most) in m)))
+      ((good_length L D (or_false_first (is_bad_length L D) (is_bad_length M A) bad)).0, from.0, (let m : M ≤ 128 = omega (arith, longest, most) in m))
 
 module _ (t : Task) (op : Comparison) (A B : Operand) (L : ℕ) (acts : t.plan.action ≡ OnSelected (Compare op A B L)) where
   pub compare_left_read : has_key (reads t.plan) (Field A.field) ≡ true

@@ -16,10 +16,10 @@ pub resized-requires-clause-narrow : goal.resized-requires-clause-narrow
 resized-requires-clause-narrow c = narrow_length c.args.order.now c.args.to.now.field c.args.bits c.requires.fit (resize_to c.args.order.now c.args.sign c.args.to.now c.args.from.now c.args.bits c.args.from_bits c.requires.acts c.requires.fit)
 
 pub resized-requires-clause-from_some : goal.resized-requires-clause-from_some
-resized-requires-clause-from_some c = (resize_lengths c.args.order.now c.args.sign c.args.to.now c.args.from.now c.args.bits c.args.from_bits c.requires.acts c.requires.fit).1.0
+resized-requires-clause-from_some c = (resize_lengths c.args.order.now c.args.sign c.args.to.now c.args.from.now c.args.bits c.args.from_bits c.requires.acts c.requires.fit).1
 
 pub resized-requires-clause-from_narrow : goal.resized-requires-clause-from_narrow
-resized-requires-clause-from_narrow c = (resize_lengths c.args.order.now c.args.sign c.args.to.now c.args.from.now c.args.bits c.args.from_bits c.requires.acts c.requires.fit).1.1
+resized-requires-clause-from_narrow c = (resize_lengths c.args.order.now c.args.sign c.args.to.now c.args.from.now c.args.bits c.args.from_bits c.requires.acts c.requires.fit).2
 
 pub put_overflowing-requires-clause-read : goal.put_overflowing-requires-clause-read
 put_overflowing-requires-clause-read c = resize_read c.args.order.now c.args.sign c.args.to.now c.args.from.now c.args.bits c.args.from_bits c.requires.acts

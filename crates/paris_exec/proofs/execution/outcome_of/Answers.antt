@@ -8,7 +8,7 @@ use Rattle.paris_exec.proofs.execution.outcome_of.Goals as goal
 pub returns-in-Ok : goal.returns-in-Ok
 returns-in-Ok c =
     ap Values c.new.ensures
-    ∙ direct_outcome c.args.order.now c.in-Ok.values.items (ap refusal_in (sym c.in-Ok.is) ∙ c.in_ok-answer.ensures.refused) (if_ok _ c.in-Ok.is c.in_ok-answer.ensures.values)
+    ∙ direct_outcome c.args.order.now c.in-Ok.values.items (ap refusal_in (sym c.in-Ok.is) ∙ c.in_ok-values.ensures.refused) (if_ok _ c.in-Ok.is c.in_ok-values.ensures.values)
 
 pub returns-in-Err : goal.returns-in-Err
-returns-in-Err c = refused_outcome c.args.order.now c.in-Err.cause (ap refusal_in (sym c.in-Err.is) ∙ c.in_ok-answer.ensures.refused)
+returns-in-Err c = refused_outcome c.args.order.now c.in-Err.cause (ap refusal_in (sym c.in-Err.is) ∙ c.in_ok-values.ensures.refused)

@@ -15,22 +15,22 @@ input-x-requires c = source_read c.args.order.now (Send c.args.to.now c.args.fro
 pub flag_plane-selected-requires : goal.flag_plane-selected-requires
 flag_plane-selected-requires c = context_read c.args.order.now (Send c.args.to.now c.args.from.now c.args.axis c.args.direction c.args.bits) c.requires.acts
 
-pub send-sent-requires-clause-axis : goal.send-sent-requires-clause-axis
-send-sent-requires-clause-axis c =
+pub send-requires-clause-axis : goal.send-requires-clause-axis
+send-requires-clause-axis c =
     subst (λ (axes : List ℕ). c.args.axis < length axes) (sym (c.geometry-geometry.ensures ∙ ap (λ (p : Plan). p.axes) c.plan.ensures)) (axis_there c.args.order.now (Send c.args.to.now c.args.from.now c.args.axis c.args.direction c.args.bits) c.requires.acts c.requires.fit)
 
-pub send-sent-requires-clause-narrow : goal.send-sent-requires-clause-narrow
-send-sent-requires-clause-narrow c = narrow_length c.args.order.now c.args.to.now.field c.args.bits c.requires.fit (target_wide c.args.order.now (Send c.args.to.now c.args.from.now c.args.axis c.args.direction c.args.bits) c.requires.acts c.requires.fit c.args.bits refl)
+pub send-requires-clause-narrow : goal.send-requires-clause-narrow
+send-requires-clause-narrow c = narrow_length c.args.order.now c.args.to.now.field c.args.bits c.requires.fit (target_wide c.args.order.now (Send c.args.to.now c.args.from.now c.args.axis c.args.direction c.args.bits) c.requires.acts c.requires.fit c.args.bits refl)
 
-pub send-sent-requires-clause-x_width : goal.send-sent-requires-clause-x_width
-send-sent-requires-clause-x_width c =
+pub send-requires-clause-x_width : goal.send-requires-clause-x_width
+send-requires-clause-x_width c =
     value_wide c.args.order.now (Field c.args.from.now.field) c.input-x.result.now c.args.bits c.input-x.ensures.value (source_wide c.args.order.now (Send c.args.to.now c.args.from.now c.args.axis c.args.direction c.args.bits) c.requires.acts c.requires.fit c.args.bits refl)
 
-pub send-sent-requires-clause-count : goal.send-sent-requires-clause-count
-send-sent-requires-clause-count c = c.input-x.ensures.count ∙ ap processor_count (sym (c.geometry-geometry.ensures ∙ ap (λ (p : Plan). p.axes) c.plan.ensures))
+pub send-requires-clause-count : goal.send-requires-clause-count
+send-requires-clause-count c = c.input-x.ensures.count ∙ ap processor_count (sym (c.geometry-geometry.ensures ∙ ap (λ (p : Plan). p.axes) c.plan.ensures))
 
-pub send-sent-requires-clause-selected : goal.send-sent-requires-clause-selected
-send-sent-requires-clause-selected c = c.flag_plane-selected.ensures.count ∙ ap processor_count (sym (c.geometry-geometry.ensures ∙ ap (λ (p : Plan). p.axes) c.plan.ensures))
+pub send-requires-clause-selected : goal.send-requires-clause-selected
+send-requires-clause-selected c = c.flag_plane-selected.ensures.count ∙ ap processor_count (sym (c.geometry-geometry.ensures ∙ ap (λ (p : Plan). p.axes) c.plan.ensures))
 
 pub put_where-requires-clause-mask : goal.put_where-requires-clause-mask
 put_where-requires-clause-mask c = bits_count c.in_ok-sent.sent.receivers (processor_count c.geometry-geometry.result) _ _ c.in_ok-sent.ensures.receivers (ap processor_count (c.geometry-geometry.ensures ∙ ap (λ (p : Plan). p.axes) c.plan.ensures))
@@ -45,3 +45,13 @@ put_where-requires-clause-fits_key c =
 
 pub put_where-requires-clause-count : goal.put_where-requires-clause-count
 put_where-requires-clause-count c = numbers_count c.in_ok-sent.sent.value c.args.bits (processor_count c.geometry-geometry.result) _ _ c.in_ok-sent.ensures.value (ap processor_count (c.geometry-geometry.ensures ∙ ap (λ (p : Plan). p.axes) c.plan.ensures))
+
+pub returns : goal.returns
+returns c =
+    c.in_ok-push.ensures.items
+    ∙ ap (λ (ys : List FieldNumbers). ys ++ c.in_ok-put_where.field-0 ∷ []) c.in_ok-values.ensures.items
+    ∙ ap (λ (y : FieldNumbers). y ∷ []) c.in_ok-put_where.ensures
+    ∙ send_left c.args.order.now c.args.to.now c.args.from.now c.args.axis c.args.direction c.args.bits c.input-x.result.now c.input-x.ensures.value c.requires.acts c.in_ok-sent.sent.value c.flag_plane-selected.result.now c.in_ok-sent.sent.receivers
+    (c.in_ok-sent.ensures.value ∙ ap (λ (axes : List ℕ). sent_field axes c.args.axis c.args.direction c.args.bits c.input-x.result.now) (c.geometry-geometry.ensures ∙ ap (λ (p : Plan). p.axes) c.plan.ensures))
+    c.flag_plane-selected.ensures.bits
+    (c.in_ok-sent.ensures.receivers ∙ ap (λ (axes : List ℕ). sent_plane axes c.args.axis c.args.direction c.flag_plane-selected.result.now) (c.geometry-geometry.ensures ∙ ap (λ (p : Plan). p.axes) c.plan.ensures))
