@@ -164,12 +164,12 @@ widened_is x none value all planes w none_is all_is fit planes_are width_is numb
     ∙ ap (λ m. stored m (λ v. slice_index_or all v false) (slice_index none.numbers) x.width (number_at planes)) count
     ∙ sym (fill_by_all _ x.numbers (length x.numbers) 0 refl (λ v below.
     sym (
-      ap (λ bs. if slice_index_or bs v false then put (slice_index none.numbers v) (number_at planes v) x.width else slice_index none.numbers v) all_is
-      ∙ ap (λ b. if b then put (slice_index none.numbers v) (number_at planes v) x.width else slice_index none.numbers v) (get_or-replicate (length x.numbers) v true false below)
-      ∙ ap (λ (y : FieldNumbers). put (slice_index y.numbers v) (number_at planes v) x.width) none_is
-      ∙ ap (λ o. put o (number_at planes v) x.width) (get_or-replicate (length x.numbers) v 0 0 below)
-      ∙ ap (λ y. put 0 y x.width) (planes_are v below)
-      ∙ put_whole 0 (slice_index x.numbers v) x.width (pow_pos x.width)
-      ∙ mod-eq_of_lt (fit_at x.width x.numbers fit v below)
+    ap (λ bs. if slice_index_or bs v false then put (slice_index none.numbers v) (number_at planes v) x.width else slice_index none.numbers v) all_is
+    ∙ ap (λ b. if b then put (slice_index none.numbers v) (number_at planes v) x.width else slice_index none.numbers v) (get_or-replicate (length x.numbers) v true false below)
+    ∙ ap (λ (y : FieldNumbers). put (slice_index y.numbers v) (number_at planes v) x.width) none_is
+    ∙ ap (λ o. put o (number_at planes v) x.width) (get_or-replicate (length x.numbers) v 0 0 below)
+    ∙ ap (λ y. put 0 y x.width) (planes_are v below)
+    ∙ put_whole 0 (slice_index x.numbers v) x.width (pow_pos x.width)
+    ∙ mod-eq_of_lt (fit_at x.width x.numbers fit v below)
     ))) in
     (λ i. record { width = (width_is ∙ ap (λ (y : FieldNumbers). y.width) none_is) i; numbers = same i })

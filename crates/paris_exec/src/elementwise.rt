@@ -229,7 +229,9 @@ fn store_test_values(
     requires fit { IsFit order.now.plan.axes order.now.plan.action }
     ensures { IfOk result (λ values. values.items ≡ left_values order.now) }
 {
-    let new = order.input(&Key::Flag(order.plan().set(), FlagName::Test)).copy()?;
+    let new = order
+        .input(&Key::Flag(order.plan().set(), FlagName::Test))
+        .copy()?;
     put_field(alloc, order, to, new)
 }
 

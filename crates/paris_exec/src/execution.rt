@@ -18,10 +18,7 @@ use paris_names::Items;
 use std::alloc::{AllocError, Global};
 
 /// The values that an order's instruction leaves at the keys that its plan writes, in their order, or why it is refused.
-fn answer(
-    alloc: Global,
-    order: &Order,
-) -> Result<Result<Vec<FieldValue>, Refusal>, AllocError>
+fn answer(alloc: Global, order: &Order) -> Result<Result<Vec<FieldValue>, Refusal>, AllocError>
     ensures refused { IfOk result (λ answer. refusal_in answer ≡ refusal order.now.plan (seen_at order.now)) }
     ensures values { IfOk result (λ answer. IfOk answer (λ values. values.items ≡ left_values order.now)) }
 {
