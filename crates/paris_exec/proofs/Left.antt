@@ -20,20 +20,20 @@ use Rattle.paris_model.specs.declared.actions.Operand.{Operand}
 use Rattle.paris_model.specs.declared.actions.Conditional.{Conditional}
 use Rattle.paris_model.specs.declared.actions.Conditional.TheVariants.{Binary, Unary, MoveConstant, Resize, Compare, MyCoordinate, MyAddress, SetTest, ClearTest, LoadTest, StoreTest}
 use Rattle.paris_model.specs.declared.actions.Action.TheVariants.{OnSelected}
-use Rattle.paris_model.specs.Store.{low, bit, everywhere, stored}
+use Rattle.paris_model.specs.Store.{low, put, bit, everywhere, stored}
 use Rattle.paris_model.specs.Elementwise.{binary_result, binary_flags, binary_carry, binary_overflow, unary_result, unary_flags, unary_overflow, resize_result, resize_overflow, compares}
-use Rattle.paris_model.specs.Frame.{at, low_at, field_at, flag_at, is_selected, put_selected}
+use Rattle.paris_model.specs.Frame.{at, low_at, field_at, flag_at, is_selected, put_where, put_selected}
 use Rattle.paris_model.specs.Conditional.{conditional_after, conditional_source_flags}
 use Rattle.paris_model.specs.Instructions.{reads, writes, after_plan, after_in, target_keys, source_keys, source_fields, source_flags, field_keys, flag_keys, stores_all_bits}
 use Rattle.paris_model.proofs.Stores.{everywhere-same, everywhere-at}
 use Rattle.paris_model.proofs.Worlds.{has_key-append, or_true_second, reads_sources, reads_targets}
-use Rattle.paris_field.specs.Fields.{FieldNumbers, use Rattle.paris_field.specs.Numbers.{bits_everywhere}
-operand}
+use Rattle.paris_field.specs.Fields.{FieldNumbers, operand}
+use Rattle.paris_field.specs.Numbers.{bits_everywhere}
 use Rattle.paris_alu.specs.Alu.{binary_field, carry_plane, overflow_plane, unary_field, unary_overflow_plane, resized_field, resize_overflow_plane, comparison_plane}
 use Rattle.paris_exec.proofs.Executed.{flag_width}
 use Rattle.paris_exec.proofs.Puts.{flag_bit}
 use Rattle.paris_exec.specs.Planes.{flag_value}
-use Rattle.paris_exec.specs.Tasks.{Task, field_of, fields_of, frame_at, seen_at, left_values, put_value}
+use Rattle.paris_exec.specs.Tasks.{Task, field_of, fields_of, frame_at, seen_at, left_values, put_value, put_value_where}
 
 pub or_true_first : (a b : Bool) → a ≡ true → (a || b) ≡ true
 or_true_first true b h = refl
@@ -132,19 +132,25 @@ module _ (t : Task) (i : Conditional Operand ℕ) (acts : t.plan.action ≡ OnSe
 
 -- what is put
 
--- a store looks at the low bits of the new numbers alone
-stored_low : (n : ℕ) (who : ℕ → Bool) (old : ℕ → ℕ) (L : ℕ) (f g : ℕ → ℕ) → ((v : ℕ) → v < n → low L (f v) ≡ low L (g v)) → stored n who old L f ≡ stored n who old L g
-stored_low n who old L f g same = everywhere-same n _ _ (λ v below. ap (λ x. cond (who v) (old v - low L (old v) + x) (old v)) (same v below))
+-- a store looks at its test in the processors alone, and at the low bits of the new numbers
+stored_low : (n : ℕ) (who other : ℕ → Bool) (old : ℕ → ℕ) (L : ℕ) (f g : ℕ → ℕ) → ((v : ℕ) → v < n → who v ≡ other v) → ((v : ℕ) → v < n → low L (f v) ≡ low L (g v)) → stored n who old L f ≡ stored n other old L g
+stored_low n who other old L f g tests same =
+    everywhere-same n _ _ (λ v below. ap (λ b. cond b (put (old v) (f v) L) (old v)) (tests v below) ∙ ap (λ x. cond (other v) (old v - low L (old v) + x) (old v)) (same v below))
 
 pub low_twice : (L x : ℕ) → low L (low L x) ≡ low L x
 low_twice L x = mod-mod x (2 ^ L)
 
--- the numbers of a new value are put
+-- the numbers of a new value are put where a test passes
+pub put_numbers_where : (t : Task) (who other : ℕ → Bool) (k : Key) (x : FieldNumbers) (L : ℕ) (f g : ℕ → ℕ) → x ≡ record { width = L; numbers = everywhere (processor_count t.plan.axes) f }
+    → ((v : ℕ) → v < processor_count t.plan.axes → who v ≡ other v) → ((v : ℕ) → v < processor_count t.plan.axes → low L (f v) ≡ low L (g v)) → put_value_where t who k x ≡ field_of t.plan k (put_where (frame_at t) other k L g)
+put_numbers_where t who other k x L f g is tests same =
+    ap (put_value_where t who k) is
+    ∙ ap (field_of t.plan k) (stored_low (processor_count t.plan.axes) who other (at (frame_at t) k) L _ g tests (λ v below. ap (low L) (everywhere-at (processor_count t.plan.axes) f v below) ∙ same v below))
+
+-- and by the selected processors
 pub put_numbers : (t : Task) (k : Key) (x : FieldNumbers) (L : ℕ) (f g : ℕ → ℕ) → x ≡ record { width = L; numbers = everywhere (processor_count t.plan.axes) f }
     → ((v : ℕ) → v < processor_count t.plan.axes → low L (f v) ≡ low L (g v)) → put_value t k x ≡ field_of t.plan k (put_selected (frame_at t) k L g)
-put_numbers t k x L f g is same =
-    ap (put_value t k) is
-    ∙ ap (field_of t.plan k) (stored_low (processor_count t.plan.axes) (is_selected (frame_at t)) (at (frame_at t) k) L _ g (λ v below. ap (low L) (everywhere-at (processor_count t.plan.axes) f v below) ∙ same v below))
+put_numbers t k x L f g is same = put_numbers_where t (is_selected (frame_at t)) (is_selected (frame_at t)) k x L f g is (λ v below. refl) same
 
 map_map : {A B C : Type 0} (f : A → B) (g : B → C) (xs : List A) → map g (map f xs) ≡ map (λ x. g (f x)) xs
 map_map f g [] = refl
@@ -281,7 +287,7 @@ compare_left_is t op A B L acts x y x_is y_is count bits bits_are =
 -- a list of numbers is put
 put_list : (t : Task) (k : Key) (L : ℕ) (xs : List ℕ) (g : ℕ → ℕ) → ((v : ℕ) → v < processor_count t.plan.axes → slice_index xs v ≡ g v)
     → put_value t k (record { width = L; numbers = xs }) ≡ field_of t.plan k (put_selected (frame_at t) k L g)
-put_list t k L xs g same = ap (field_of t.plan k) (stored_low (processor_count t.plan.axes) (is_selected (frame_at t)) (at (frame_at t) k) L (slice_index xs) g (λ v below. ap (low L) (same v below)))
+put_list t k L xs g same = ap (field_of t.plan k) (stored_low (processor_count t.plan.axes) (is_selected (frame_at t)) (is_selected (frame_at t)) (at (frame_at t) k) L (slice_index xs) g (λ v below. refl) (λ v below. ap (low L) (same v below)))
 
 pub constant_left : (t : Task) (D : Operand) (K L : ℕ) (acts : t.plan.action ≡ OnSelected (MoveConstant D K L)) (x : FieldNumbers) → x ≡ record { width = L; numbers = replicate (processor_count t.plan.axes) K }
     → put_value t (Field D.field) x ∷ [] ≡ left_values t

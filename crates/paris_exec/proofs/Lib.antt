@@ -1,4 +1,6 @@
+pub mod AlongLines
 pub mod Besides
+pub mod ByMail
 pub mod Executed
 pub mod Frames
 pub mod InEvery
@@ -6,3 +8,4 @@ pub mod Left
 pub mod Operands
 pub mod Puts
 pub mod Addresses
+pub mod Stored

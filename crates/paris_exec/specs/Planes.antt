@@ -1,5 +1,5 @@
 -- Values on planes: flags as values, the keys that an order's instruction works on, and which instructions are executed so.
-use Rattle.std.specs.Prelude.{◌≡◌, ℕ, nat_le, Bool, true, false, ◌||◌, List, [], ◌∷◌, map}
+use Rattle.std.specs.Prelude.{◌≡◌, ℕ, nat_le, Bool, true, false, not, ◌&&◌, ◌||◌, List, [], ◌∷◌, map, slice_index_or}
 use Rattle.paris_names.specs.declared.keys.Key.{Key}
 use Rattle.paris_names.specs.declared.keys.Key.TheVariants.{Field}
 use Rattle.paris_names.specs.Keys.{has_key}
@@ -10,10 +10,11 @@ use Rattle.paris_model.specs.declared.actions.Conditional.{Conditional}
 use Rattle.paris_model.specs.declared.actions.Conditional.TheVariants.{Binary, Unary, MoveConstant, Resize, Compare, MyCoordinate, MyAddress, SetTest, ClearTest, LoadTest, StoreTest}
 use Rattle.paris_model.specs.declared.actions.Action.{Action}
 use Rattle.paris_model.specs.declared.actions.Action.TheVariants.{OnSelected, OnAll}
+use Rattle.paris_model.specs.Frame.{is_selected}
 use Rattle.paris_model.specs.Store.{bit}
 use Rattle.paris_model.specs.Instructions.{Plan, reads, key_width}
 use Rattle.paris_field.specs.Fields.{FieldNumbers}
-use Rattle.paris_exec.specs.Tasks.{Task}
+use Rattle.paris_exec.specs.Tasks.{Task, frame_at}
 
 -- bits as a value of width 1
 abbrev pub flag_value : List Bool → FieldNumbers
@@ -23,6 +24,10 @@ flag_value bits = record { width = 1; numbers = map bit bits }
 abbrev pub AreRead : Task → List Key → Type 0
 AreRead t [] = Unit {0}
 AreRead t (k ∷ ks) = (has_key (reads t.plan) k ≡ true) × AreRead t ks
+
+-- whether a processor is selected, and its flag isn't set
+abbrev pub is_selected_without : Task → List Bool → ℕ → Bool
+is_selected_without t flags v = not (slice_index_or flags v false) && is_selected (frame_at t) v
 
 -- whether an operator is a sum or a difference
 abbrev pub is_sum : BinaryOperator → Bool

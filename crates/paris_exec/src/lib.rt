@@ -5,6 +5,8 @@ mod contexts;
 mod elementwise;
 mod execution;
 mod gate;
+mod lines;
+mod mail;
 mod orders;
 mod planes;
 

@@ -1,0 +1,38 @@
+-- Bits and small numbers that are stored.
+use Rattle.std.proofs.Common.{◌≡◌, ℕ, ◌^◌, ◌<◌, ◌≤◌, Bool, true, false, List, [], ◌∷◌, length, map, replicate, slice_index, slice_index_or, refl, sym, ap, ◌∙◌, subst, arith, if◌then◌else◌}
+use Rattle.std.proofs.Math.Nat.{mod-eq_of_lt}
+use Rattle.std.proofs.Math.Pow.{pow_mono}
+use Rattle.std.proofs.lemmas.List.{get_or-replicate}
+use Rattle.std.proofs.lemmas.List.FromFn.{fill_by_all}
+use lib.Pow.{pow_pos}
+use Rattle.paris_geometry.specs.Geometry.{numbers_below}
+use Rattle.paris_model.specs.Store.{bit, everywhere, put, stored}
+use Rattle.paris_field.specs.Fields.{AllFit, FieldNumbers}
+use Rattle.paris_field.specs.Numbers.{bits_everywhere, number_at}
+use Rattle.paris_exec.specs.Planes.{flag_value}
+use Rattle.paris_exec.proofs.Puts.{fit_at, put_whole}
+
+map_map : {A B C : Type 0} (f : A → B) (g : B → C) (xs : List A) → map g (map f xs) ≡ map (λ x. g (f x)) xs
+map_map f g [] = refl
+map_map f g (x ∷ xs) = ap (λ ys. g (f x) ∷ ys) (map_map f g xs)
+
+-- the numbers of a plane of known bits
+pub flag_numbers : (bits : List Bool) (n : ℕ) (b : ℕ → Bool) → bits ≡ bits_everywhere n b → flag_value bits ≡ record { width = 1; numbers = everywhere n (λ v. bit (b v)) }
+flag_numbers bits n b is = ap flag_value is ∙ ap (λ xs. record { width = 1; numbers = xs }) (map_map b bit (numbers_below n))
+
+-- 1 fits each width but 0
+pub one_below : (w : ℕ) → 0 < w → 1 < 2 ^ w
+one_below w some = (let least : 2 ^ 1 ≤ 2 ^ w = pow_mono some in omega (arith, least))
+
+-- numbers that are put over zeros, each whole
+over_zero : (x L : ℕ) → x < 2 ^ L → put 0 x L ≡ x
+over_zero x L small = put_whole 0 x L (pow_pos L) ∙ mod-eq_of_lt small
+
+pub put_over_zeros : (x : FieldNumbers) (n : ℕ) (planes : List (List Bool)) → length x.numbers ≡ n → AllFit x.width x.numbers → ((v : ℕ) → v < n → number_at planes v ≡ slice_index x.numbers v)
+    → stored n (λ v. slice_index_or (replicate n true) v false) (slice_index (replicate n 0)) x.width (number_at planes) ≡ x.numbers
+put_over_zeros x n planes long fit at =
+    sym (fill_by_all (λ v. if slice_index_or (replicate n true) v false then put (slice_index (replicate n 0) v) (number_at planes v) x.width else slice_index (replicate n 0) v) x.numbers n 0 long (λ v below.
+    sym (ap (λ b. if b then put (slice_index (replicate n 0) v) (number_at planes v) x.width else slice_index (replicate n 0) v) (get_or-replicate n v true false below)
+    ∙ ap (λ o. put o (number_at planes v) x.width) (get_or-replicate n v 0 0 below)
+    ∙ ap (λ y. put 0 y x.width) (at v below)
+    ∙ over_zero (slice_index x.numbers v) x.width (fit_at x.width x.numbers fit v (subst (λ m. v < m) (sym long) below)))))
