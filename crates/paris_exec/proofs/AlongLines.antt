@@ -235,7 +235,7 @@ module _ (t : Task) (i : Line Operand) (acts : t.plan.action ≡ AlongLine i) (w
       → put_value_where t who (Field (line_target i).field) value ∷ overflow_values t who overflow ≡ left_values t
   line_left value None is bits_are flags =
       ap (λ y. y ∷ []) (value_put value is)
-      ∙ sym (left_of (Field (line_target i).field ∷ []) (written {List Bool} None flags))
+      ∙ sym (left_of (Field (line_target i).field ∷ []) (written {X = List Bool} None flags))
   line_left value (Some bits) is bits_are flags =
       ap (λ y. y ∷ put_value_where t who (Flag t.plan.set_no Overflow) (flag_value bits) ∷ []) (value_put value is)
       ∙ ap (λ z. field_of t.plan (Field (line_target i).field) (after_plan t.plan (seen_at t) (Field (line_target i).field)) ∷ z ∷ []) (overflow_put bits bits_are)

@@ -7,4 +7,4 @@ use Rattle.paris_exec.proofs.lines.put_combined.Goals as goal
 pub put_where-requires-in-Some-clause-fits_key : goal.put_where-requires-in-Some-clause-fits_key
 put_where-requires-in-Some-clause-fits_key c =
     let one : 1 ≤ 1 = omega arith in
-    subst (λ w. c.in_ok-bits.bits.width ≤ w) (sym (flag_width c.args.order.now.plan c.set.result Overflow)) (subst (λ (y : FieldNumbers). y.width ≤ 1) (sym c.in_ok-bits.ensures) one)
+    subst (λ w. c.in_ok-bits-in-Some.bits.width ≤ w) (sym (flag_width c.args.order.now.plan c.set.result Overflow)) (subst (λ (y : FieldNumbers). y.width ≤ 1) (sym c.in_ok-bits-in-Some.ensures) one)

@@ -4,6 +4,7 @@ use Rattle.paris_geometry.specs.Geometry.{processor_count}
 use Rattle.paris_model.specs.declared.actions.Line.TheVariants.{Spread}
 use Rattle.paris_model.specs.Instructions.{Plan, key_width}
 use Rattle.paris_field.specs.Fields.{FieldNumbers}
+use Rattle.paris_scan.specs.Lines.{of_lines}
 use Rattle.paris_exec.proofs.AlongLines.{line_context_read, line_flags_read, line_source_read, line_source_wide, line_target_read, line_target_wide, spread_left, sum_flags}
 use Rattle.paris_exec.proofs.Operands.{numbers_count, ok_then, value_wide}
 use Rattle.paris_exec.proofs.lines.spread_values.Goals as goal
@@ -34,7 +35,7 @@ put_combined-requires-clause-count c =
 
 pub put_combined-requires-clause-flags : goal.put_combined-requires-clause-flags
 put_combined-requires-clause-flags c =
-    line_flags_read c.args.order.now (Spread c.args.combiner c.args.to.now c.args.from.now c.args.axis c.args.bits) c.requires.acts c.in_ok-new.new.overflow c.args.bits (processor_count c.geometry-geometry.result) _ (sum_flags c.args.combiner c.in_ok-new.new.overflow c.in_ok-new.ensures.sums) c.in_ok-new.ensures.overflow (ap processor_count (c.geometry-geometry.ensures ∙ ap (λ (p : Plan). p.axes) c.plan.ensures))
+    line_flags_read c.args.order.now (Spread c.args.combiner c.args.to.now c.args.from.now c.args.axis c.args.bits) c.requires.acts c.in_ok-new.new.overflow c.args.bits (processor_count c.geometry-geometry.result) (of_lines c.geometry-geometry.result c.args.axis c.flag_plane-selected.result.now c.args.bits c.input-x.result.now) (sum_flags c.args.combiner c.in_ok-new.new.overflow c.in_ok-new.ensures.sums) c.in_ok-new.ensures.overflow (ap processor_count (c.geometry-geometry.ensures ∙ ap (λ (p : Plan). p.axes) c.plan.ensures))
 
 pub returns : goal.returns
 returns c =
