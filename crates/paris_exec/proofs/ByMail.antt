@@ -183,7 +183,7 @@ module _ (t : Task) (i : Mail Operand) (acts : t.plan.action ≡ ByMail i) where
           ∙ mail_left_two D S (put_value_where t (has new.receivers) (Field D.field) new.value) (flag_value new.receivers) (distinct S e) (targets ∙ ap (λ o. D ∷ notify_targets o) e) destination (notice S e (distinct S e))
 
 -- what the kernels see is what the definitions see
-module _ (t : Task) (B A : Operand) (L n : ℕ) (places x : FieldNumbers) (mask : List Bool) (mask_is : map bit mask ≡ seen_at t (Flag t.plan.set_no Context)) (places_are : places ≡ field_of t.plan (Field B.field) (seen_at t (Field B.field)))
+module _ (t : Task) (B A : Operand) (L : ℕ) (places x : FieldNumbers) (mask : List Bool) (mask_is : map bit mask ≡ seen_at t (Flag t.plan.set_no Context)) (places_are : places ≡ field_of t.plan (Field B.field) (seen_at t (Field B.field)))
     (count : length places.numbers ≡ processor_count t.plan.axes) (x_is : x.numbers ≡ seen_at t (Field A.field)) (long : length x.numbers ≡ processor_count t.plan.axes) where
   addresses_seen : slice_index places.numbers ≡ field_at (frame_at t) B
   addresses_seen = ap {B = ℕ → ℕ} (λ (y : FieldNumbers). slice_index y.numbers) places_are

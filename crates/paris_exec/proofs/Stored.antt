@@ -1,5 +1,6 @@
 -- Bits and small numbers that are stored.
-use Rattle.std.proofs.Common.{◌≡◌, ℕ, ◌^◌, ◌<◌, ◌≤◌, Bool, true, false, List, [], ◌∷◌, length, map, replicate, slice_index, slice_index_or, refl, sym, ap, ◌∙◌, subst, arith, if◌then◌else◌}
+use Rattle.std.proofs.Common.{◌≡◌, ℕ, ◌^◌, ◌<◌, ◌≤◌, Bool, true, false, List, [], ◌∷◌, length, map, replicate, slice_index, slice_index_or, refl, sym, ap, ◌∙◌, subst, arith, if◌then◌else◌, Result, Ok}
+use Rattle.std.specs.Prelude.{IfOk}
 use Rattle.std.proofs.Math.Nat.{mod-eq_of_lt}
 use Rattle.std.proofs.Math.Pow.{pow_mono}
 use Rattle.std.proofs.lemmas.List.{get_or-replicate}
@@ -36,3 +37,7 @@ put_over_zeros x n planes long fit at =
     ∙ ap (λ o. put o (number_at planes v) x.width) (get_or-replicate n v 0 0 below)
     ∙ ap (λ y. put 0 y x.width) (at v below)
     ∙ over_zero (slice_index x.numbers v) x.width (fit_at x.width x.numbers fit v (subst (λ m. v < m) (sym long) below)))))
+
+-- what holds of what is given
+pub if_ok : {X E : Type 0} {r : Result X E} {x : X} (P : X → Type 0) → r ≡ Ok x → IfOk r P → P x
+if_ok P e h = subst (λ z. IfOk z P) e h
