@@ -64,7 +64,7 @@ module _ (t : Task) (i : Mail Operand) (acts : t.plan.action ≡ ByMail i) where
     pub mail_addresses_read : has_key (reads t.plan) (Field B.field) ≡ true
     mail_addresses_read = source_among B.field (ap (λ os. has_key (field_keys os) (Field B.field)) sources ∙ first_key (Field B.field) (Field A.field ∷ []))
 
-    pub mail_source_read : has_key (reads t.plan) (Field A.field) ≡ true
+    mail_source_read : has_key (reads t.plan) (Field A.field) ≡ true
     mail_source_read =
         source_among A.field
         (ap (λ os. has_key (field_keys os) (Field A.field)) sources
@@ -108,7 +108,12 @@ module _ (t : Task) (i : Mail Operand) (acts : t.plan.action ≡ ByMail i) where
           ∙ width_first S (mail_sources i) S.field (eq-eqb S.field S.field refl)
           ∙ (let one : S.width ≡ 1 = omega (arith, some, most) in one)
 
--- a number at its own field and at another
+pub mail_from_read : (t : Task) (i : Mail Operand) → t.plan.action ≡ ByMail i → has_key (reads t.plan) (Field (mail_source i).field) ≡ true
+mail_from_read t (Get D B A L) acts = mail_source_read t (Get D B A L) acts B A refl
+mail_from_read t (Send D B A L N) acts = mail_source_read t (Send D B A L N) acts B A refl
+mail_from_read t (CombiningSend op D B A L N) acts = mail_source_read t (CombiningSend op D B A L N) acts B A refl
+
+-- what is delivered to the destination is stored there
 delivered_to : (t : Task) (mail : List (ℕ × ℕ)) (D : Operand) (L : ℕ) (value : ℕ → ℕ) → delivered (frame_at t) mail D L value D.field ≡ put_where (frame_at t) (gets_mail mail) (Field D.field) L value
 delivered_to t mail D L value = ap (λ b. if b then put_where (frame_at t) (gets_mail mail) (Field D.field) L value else notified (processor_count t.plan.axes) mail) (eq-eqb D.field D.field refl)
 
