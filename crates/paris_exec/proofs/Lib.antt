@@ -5,6 +5,7 @@ pub mod Executed
 pub mod Frames
 pub mod InEvery
 pub mod Left
+pub mod Neighbours
 pub mod Operands
 pub mod Puts
 pub mod Addresses

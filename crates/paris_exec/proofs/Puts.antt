@@ -1,10 +1,11 @@
 -- What is put into a key by planes is what the definitions put there.
-use Rattle.std.proofs.Common.{◌≡◌, ℕ, zero, suc, ◌<◌, ◌==◌, Bool, true, false, cond, List, [], ◌∷◌, length, map, slice_index, slice_index_or, refl, sym, ap, ◌∙◌, subst, if◌then◌else◌, arith, ◌^◌, ◌%◌}
+use Rattle.std.proofs.Common.{◌≡◌, ℕ, zero, suc, ◌<◌, ◌==◌, Bool, true, false, cond, List, [], ◌∷◌, length, map, replicate, slice_index, slice_index_or, refl, sym, ap, ◌∙◌, subst, if◌then◌else◌, arith, ◌^◌, ◌%◌}
 use Rattle.std.specs.Prelude.{not, ◌&&◌}
 use Rattle.std.specs.Simd.Lanes.{zip2}
 use Rattle.std.proofs.Math.Nat.{mod-eq_of_lt}
 use Rattle.std.proofs.lemmas.List.Elements.{All-get_or}
-use Rattle.std.proofs.lemmas.List.{length-map}
+use Rattle.std.proofs.lemmas.List.{length-map, length-replicate, get_or-replicate}
+use lib.Pow.{pow_pos}
 use Rattle.std.proofs.lemmas.List.FromFn.{fill_by_all}
 use Rattle.paris_names.specs.declared.keys.FlagName.TheVariants.{Context}
 use Rattle.paris_names.specs.declared.keys.Key.{Key}
@@ -62,6 +63,11 @@ without_at [] mask v h e = absurd (omega (arith, h))
 without_at (b ∷ bs) [] v h e = absurd (omega (arith, e))
 without_at (b ∷ bs) (m ∷ ms) zero h e = refl
 without_at (b ∷ bs) (m ∷ ms) (suc v) h e = without_at bs ms v (omega (arith, h)) (omega (arith, e))
+
+pub length-without : (flags mask : List Bool) → length flags ≡ length mask → length (zip2 (λ a b. a && b) (map not flags) mask) ≡ length flags
+length-without [] mask e = refl
+length-without (b ∷ bs) [] e = absurd (omega (arith, e))
+length-without (b ∷ bs) (m ∷ ms) e = ap suc (length-without bs ms (omega (arith, e)))
 
 -- a store where flags aren't set, by the selected processors
 pub put_without : (t : Task) (k : Key) (new : FieldNumbers) (flags mask : List Bool) → length flags ≡ processor_count t.plan.axes → length mask ≡ processor_count t.plan.axes → map bit mask ≡ seen_at t (Flag t.plan.set_no Context)
@@ -146,3 +152,24 @@ kept_is mask others x new value planes mask_count wide count fit_x fit_new other
     ∙ kept_at (slice_index_or mask v false) (slice_index x.numbers v) (slice_index new.numbers v) x.width (fit_at x.width x.numbers fit_x v below)
     (subst (λ w. slice_index new.numbers v < 2 ^ w) wide (fit_at new.width new.numbers fit_new v (subst (λ n. v < n) (sym count) below)))) in
     (λ i. record { width = (width_is ∙ wide) i; numbers = same i })
+
+-- numbers of a value put over zeros in every processor
+pub widened_is : (x none value : FieldNumbers) (all : List Bool) (planes : List (List Bool)) (w : ℕ) → none ≡ record { width = w; numbers = replicate (length x.numbers) 0 } → all ≡ replicate (length x.numbers) true → AllFit x.width x.numbers
+    → ((v : ℕ) → v < length x.numbers → number_at planes v ≡ slice_index x.numbers v) → value.width ≡ none.width
+    → value.numbers ≡ stored (length none.numbers) (λ v. slice_index_or all v false) (slice_index none.numbers) x.width (number_at planes) → value ≡ record { width = w; numbers = x.numbers }
+widened_is x none value all planes w none_is all_is fit planes_are width_is numbers_are =
+    let count : length none.numbers ≡ length x.numbers = ap (λ (y : FieldNumbers). length y.numbers) none_is ∙ length-replicate (length x.numbers) 0 in
+    let same : value.numbers ≡ x.numbers =
+    numbers_are
+    ∙ ap (λ m. stored m (λ v. slice_index_or all v false) (slice_index none.numbers) x.width (number_at planes)) count
+    ∙ sym (fill_by_all _ x.numbers (length x.numbers) 0 refl (λ v below.
+    sym (
+    ap (λ bs. if slice_index_or bs v false then put (slice_index none.numbers v) (number_at planes v) x.width else slice_index none.numbers v) all_is
+    ∙ ap (λ b. if b then put (slice_index none.numbers v) (number_at planes v) x.width else slice_index none.numbers v) (get_or-replicate (length x.numbers) v true false below)
+    ∙ ap (λ (y : FieldNumbers). put (slice_index y.numbers v) (number_at planes v) x.width) none_is
+    ∙ ap (λ o. put o (number_at planes v) x.width) (get_or-replicate (length x.numbers) v 0 0 below)
+    ∙ ap (λ y. put 0 y x.width) (planes_are v below)
+    ∙ put_whole 0 (slice_index x.numbers v) x.width (pow_pos x.width)
+    ∙ mod-eq_of_lt (fit_at x.width x.numbers fit v below)
+    ))) in
+    (λ i. record { width = (width_is ∙ ap (λ (y : FieldNumbers). y.width) none_is) i; numbers = same i })

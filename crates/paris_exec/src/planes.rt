@@ -166,9 +166,10 @@ pub(crate) fn put_quotient(
     ensures { IfOk result (λ values. values.items ≡ put_value_where order.now (is_selected_without order.now new.overflow) (Field to.now.field) new.value ∷ put_value order.now (Flag order.now.plan.set_no Overflow) (flag_value new.overflow) ∷ []) }
 {
     let Overflowing { value, overflow } = new;
+    let selected = flag_plane(order, &FlagName::Context);
     let mut divided = overflow.copy()?;
     divided.not_in();
-    divided.and_in(flag_plane(order, &FlagName::Context));
+    divided.and_in(selected);
     let mut values = Vec::with_capacity(alloc, 2)?;
     values.push(put_where(order, &divided, &Key::Field(to.field), value)?)?;
     values.push(put_flag(alloc, order, &FlagName::Overflow, &overflow)?)?;
