@@ -1,9 +1,8 @@
 -- What a move to or from the neighbours reads and leaves.
-use Rattle.std.proofs.Common.{◌≡◌, ℕ, ◌<◌, ◌≤◌, ◌==◌, Bool, false, true, List, [], ◌∷◌, length, map, slice_index, slice_index_or, refl, sym, ap, ◌∙◌, subst, arith}
+use Rattle.std.proofs.Common.{◌≡◌, ℕ, ◌<◌, ◌≤◌, ◌==◌, Bool, false, true, List, [], ◌∷◌, length, map, slice_index_or, sym, ap, ◌∙◌, subst, arith}
 use Rattle.std.specs.Prelude.{◌||◌, nat_le}
 use Rattle.std.proofs.lemmas.Bool.Decides.{nat_tests}
 use Rattle.paris_names.specs.declared.keys.FlagName.TheVariants.{Context}
-use Rattle.paris_names.specs.declared.keys.Key.{Key}
 use Rattle.paris_names.specs.declared.keys.Key.TheVariants.{Field, Flag}
 use Rattle.paris_names.specs.Keys.{has_key, key_eq, in_order}
 use Rattle.paris_geometry.specs.declared.direction.Direction.{Direction}
@@ -12,15 +11,14 @@ use Rattle.paris_model.specs.declared.actions.Operand.{Operand}
 use Rattle.paris_model.specs.declared.actions.News.{News}
 use Rattle.paris_model.specs.declared.actions.News.TheVariants.{Get, Send}
 use Rattle.paris_model.specs.declared.actions.Action.TheVariants.{ByNews}
-use Rattle.paris_model.specs.Fits.{IsFit, is_bad_axis, is_bad_length, has_bad_axis, has_bad_length, news_axis}
+use Rattle.paris_model.specs.Fits.{IsFit, is_bad_length, has_bad_axis, has_bad_length, news_axis}
 use Rattle.paris_model.specs.Frame.{is_selected, low_at}
 use Rattle.paris_model.specs.Instructions.{reads, writes, key_width, after_plan, after_in, target_keys, source_keys, stores_all_bits, operands, width_among}
 use Rattle.paris_model.specs.News.{news_target, news_source, news_sender, news_after}
-use Rattle.paris_model.specs.Store.{low, bit, everywhere}
+use Rattle.paris_model.specs.Store.{low, bit}
 use Rattle.paris_model.proofs.Widths.{key_width-is}
 use Rattle.paris_model.proofs.Worlds.{or_false_first, or_false_second, or_true_second, reads_sources, reads_targets}
 use Rattle.paris_field.specs.Fields.{FieldNumbers, operand}
-use Rattle.paris_field.specs.Numbers.{bits_everywhere}
 use Rattle.paris_field.proofs.Places.{get_or-bits_everywhere}
 use Rattle.paris_news.specs.News.{moved_field, sent_field, sent_plane}
 use Rattle.paris_exec.specs.Planes.{AreRead}

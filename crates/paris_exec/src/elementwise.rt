@@ -10,7 +10,7 @@ ghost use Rattle.paris_names.specs.declared.limits.TheConstants.{MAX_WIDTH};
 
 use crate::binary::binary_values;
 use crate::orders::Order;
-use crate::planes::{put_field, put_flag_alone, put_overflowing};
+use crate::planes::{put_field, put_flag_alone, put_overflowing, widened};
 use paris_alu::{Overflowing, compare, copy_low, extend, invert, negate};
 use paris_field::FieldValue;
 use paris_geometry::Geometry;
@@ -38,19 +38,6 @@ fn unary_values(
         UnaryOperator::BitNot => put_field(alloc, order, to, invert(alloc, x, bits)?),
         UnaryOperator::Move => put_field(alloc, order, to, copy_low(alloc, x, bits)?),
     }
-}
-
-/// The same numbers at a width that isn't less.
-fn widened(alloc: Global, x: &FieldValue, width: u64) -> Result<FieldValue, AllocError>
-    requires wide { x.now.width ≤ width }
-    requires narrow { width ≤ 128 }
-    ensures { IfOk result (λ value. value ≡ record { width = width; numbers = x.now.numbers }) }
-{
-    let vps = x.len();
-    let all = Plane::ones(alloc, vps)?;
-    let mut value = FieldValue::zeros(alloc, width, vps)?;
-    value.merge_in(&all, x.planes(), x.width());
-    Ok(value)
 }
 
 /// The low `from_bits` bits of a field as numbers of `bits` bits. A field of fewer bits has zeros above them.

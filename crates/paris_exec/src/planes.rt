@@ -28,6 +28,19 @@ pub(crate) fn flag_plane<'a>(order: &'a Order, flag: &FlagName) -> &'a Plane
     order.input(&Key::Flag(order.plan().set(), *flag)).mask()
 }
 
+/// The same numbers at a width that isn't less.
+pub(crate) fn widened(alloc: Global, x: &FieldValue, width: u64) -> Result<FieldValue, AllocError>
+    requires wide { x.now.width ≤ width }
+    requires narrow { width ≤ 128 }
+    ensures { IfOk result (λ value. value ≡ record { width = width; numbers = x.now.numbers }) }
+{
+    let vps = x.len();
+    let all = Plane::ones(alloc, vps)?;
+    let mut value = FieldValue::zeros(alloc, width, vps)?;
+    value.merge_in(&all, x.planes(), x.width());
+    Ok(value)
+}
+
 /// New numbers in the selected processors, and the old ones in the others.
 fn keep_others(
     selected: &Plane,

@@ -1,4 +1,4 @@
-use Rattle.std.proofs.Common.{◌≡◌, ◌≤◌, ◌∙◌, ◌/◌, ◌%◌, ◌^◌, refl, ap, sym, subst, List, ℕ, []}
+use Rattle.std.proofs.Common.{◌≤◌, ◌∙◌, ◌/◌, ◌%◌, ◌^◌, refl, ap, sym, subst, List, ℕ, []}
 use Rattle.paris_names.specs.declared.keys.Key.TheVariants.{Field}
 use Rattle.paris_geometry.specs.Geometry.{processor_count}
 use Rattle.paris_model.specs.declared.actions.Conditional.TheVariants.{MyAddress}

@@ -5,7 +5,7 @@ use Rattle.paris_model.specs.declared.actions.News.TheVariants.{Send}
 use Rattle.paris_model.specs.Instructions.{Plan, key_width}
 use Rattle.paris_field.specs.Fields.{FieldNumbers}
 use Rattle.paris_news.specs.News.{sent_field, sent_plane}
-use Rattle.paris_exec.proofs.Operands.{ok_then, value_wide, numbers_count, bits_count, narrow_length}
+use Rattle.paris_exec.proofs.Operands.{value_wide, numbers_count, bits_count, narrow_length}
 use Rattle.paris_exec.proofs.Neighbours.{source_read, context_read, target_read, axis_there, target_wide, source_wide, send_left}
 use Rattle.paris_exec.proofs.news.send_values.Goals as goal
 

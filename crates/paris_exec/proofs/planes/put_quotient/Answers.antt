@@ -1,4 +1,4 @@
-use Rattle.std.proofs.Common.{◌≡◌, ◌∙◌, ◌++◌, ◌∷◌, [], ap, sym, length, map, slice_index_or, false, Bool, List}
+use Rattle.std.proofs.Common.{◌∙◌, ◌++◌, ◌∷◌, [], ap, sym, length, map, slice_index_or, false, Bool, List}
 use Rattle.std.specs.Prelude.{not, ◌&&◌}
 use Rattle.std.specs.Simd.Lanes.{zip2}
 use Rattle.paris_names.specs.declared.keys.FlagName.TheVariants.{Overflow}

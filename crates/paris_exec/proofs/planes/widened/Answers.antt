@@ -1,10 +1,9 @@
-use Rattle.std.proofs.Common.{◌≡◌, ◌∙◌, ◌<◌, ap, sym, subst, length, slice_index, slice_index_or, replicate, true, false}
+use Rattle.std.proofs.Common.{◌∙◌, ap, length, slice_index, slice_index_or, replicate, true, false}
 use Rattle.paris_model.specs.Store.{stored}
-use Rattle.paris_field.specs.Fields.{FieldNumbers}
 use Rattle.paris_field.specs.Numbers.{number_at}
 use Rattle.paris_field.proofs.Values.{all_fit}
 use Rattle.paris_exec.proofs.Puts.{widened_is}
-use Rattle.paris_exec.proofs.elementwise.widened.Goals as goal
+use Rattle.paris_exec.proofs.planes.widened.Goals as goal
 
 pub returns : goal.returns
 returns c =
