@@ -25,19 +25,6 @@ flag_numbers bits n b is = ap flag_value is ∙ ap (λ xs. record { width = 1; n
 pub one_below : (w : ℕ) → 0 < w → 1 < 2 ^ w
 one_below w some = (let least : 2 ^ 1 ≤ 2 ^ w = pow_mono some in omega (arith, least))
 
--- numbers that are put over zeros, each whole
-over_zero : (x L : ℕ) → x < 2 ^ L → put 0 x L ≡ x
-over_zero x L small = put_whole 0 x L (pow_pos L) ∙ mod-eq_of_lt small
-
-pub put_over_zeros : (x : FieldNumbers) (n : ℕ) (planes : List (List Bool)) → length x.numbers ≡ n → AllFit x.width x.numbers → ((v : ℕ) → v < n → number_at planes v ≡ slice_index x.numbers v)
-    → stored n (λ v. slice_index_or (replicate n true) v false) (slice_index (replicate n 0)) x.width (number_at planes) ≡ x.numbers
-put_over_zeros x n planes long fit at =
-    sym (fill_by_all (λ v. if slice_index_or (replicate n true) v false then put (slice_index (replicate n 0) v) (number_at planes v) x.width else slice_index (replicate n 0) v) x.numbers n 0 long (λ v below.
-    sym (ap (λ b. if b then put (slice_index (replicate n 0) v) (number_at planes v) x.width else slice_index (replicate n 0) v) (get_or-replicate n v true false below)
-    ∙ ap (λ o. put o (number_at planes v) x.width) (get_or-replicate n v 0 0 below)
-    ∙ ap (λ y. put 0 y x.width) (at v below)
-    ∙ over_zero (slice_index x.numbers v) x.width (fit_at x.width x.numbers fit v (subst (λ m. v < m) (sym long) below)))))
-
 -- what holds of what is given
 pub if_ok : {X E : Type 0} {r : Result X E} {x : X} (P : X → Type 0) → r ≡ Ok x → IfOk r P → P x
 if_ok P e h = subst (λ z. IfOk z P) e h

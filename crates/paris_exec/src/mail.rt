@@ -12,12 +12,11 @@ ghost use Rattle.paris_exec.specs.Combined.{by_field, delivered_values, mail_len
 ghost use Rattle.paris_exec.specs.Tasks.{left_values, seen_at};
 
 use crate::orders::Order;
-use crate::planes::{flag_plane, put_field, put_where};
+use crate::planes::{flag_plane, put_field, put_where, widened};
 use paris_combine::send_with;
 use paris_field::FieldValue;
 use paris_model::{Action, Combiner, Mail, Operand, Refusal};
 use paris_names::{FieldNo, FlagName, Key};
-use paris_plane::Plane;
 use paris_router::{Delivery, get, send};
 use std::alloc::{AllocError, Global};
 
@@ -233,13 +232,12 @@ pub(crate) fn mail_answer(
     ensures values { IfOk result (λ answer. IfOk answer (λ values. values.items ≡ left_values order.now)) }
 {
     let bits = length_of(i);
-    let vps = order.plan().geometry().vps();
     let x = order.input(&Key::Field(source_of(i).field));
+    // No set has more processors than a router takes.
+    let _ = order.plan().geometry().vps();
     if bits <= x.width() {
         return answer_from(alloc, order, i, x);
     }
-    let all = Plane::ones(alloc, vps)?;
-    let mut wide = FieldValue::zeros(alloc, bits, vps)?;
-    wide.merge_in(&all, x.planes(), x.width());
+    let wide = widened(alloc, x, bits)?;
     answer_from(alloc, order, i, &wide)
 }
