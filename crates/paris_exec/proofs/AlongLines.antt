@@ -1,13 +1,11 @@
 -- What an instruction along the lines of an axis reads and leaves.
-use Rattle.std.proofs.Common.{◌≡◌, ℕ, zero, suc, ◌+◌, ◌^◌, ◌<◌, ◌≤◌, ◌==◌, Bool, false, true, cond, List, [], ◌∷◌, length, map, replicate, slice_index, slice_index_or, Option, Some, None, refl, sym, ap, ◌∙◌, subst, arith}
+use Rattle.std.proofs.Common.{◌≡◌, ℕ, zero, suc, ◌^◌, ◌<◌, ◌≤◌, ◌==◌, Bool, false, true, cond, List, [], ◌∷◌, length, map, replicate, slice_index, Option, Some, None, refl, sym, ap, ◌∙◌, subst, arith}
 use Rattle.std.specs.Prelude.{◌||◌, ◌&&◌, nat_le, nat_lt, sum, is_some, IfSome}
 use Rattle.std.specs.List.{list_all}
-use Rattle.std.proofs.lemmas.Bool.{eq-eqb, and_parts, ltb-true}
+use Rattle.std.proofs.lemmas.Bool.{and_parts}
 use Rattle.std.proofs.lemmas.Bool.Decides.{nat_tests}
 use Rattle.std.proofs.lemmas.List.{get_or-replicate, length-map}
 use Rattle.std.proofs.Math.Nat.{mod-eq_of_lt}
-use lib.Pow.{pow_pos}
-use Rattle.paris_names.specs.declared.keys.FlagName.{FlagName}
 use Rattle.paris_names.specs.declared.keys.FlagName.TheVariants.{Context, Overflow}
 use Rattle.paris_names.specs.declared.keys.Key.{Key}
 use Rattle.paris_names.specs.declared.keys.Key.TheVariants.{Field, Flag}
@@ -24,13 +22,13 @@ use Rattle.paris_model.specs.declared.actions.Line.{Line}
 use Rattle.paris_model.specs.declared.actions.Line.TheVariants.{Scan, CopyScan, Spread, CopySpread, Reduce}
 use Rattle.paris_model.specs.declared.actions.Action.TheVariants.{AlongLine}
 use Rattle.paris_model.specs.Combine.{combined, unit}
-use Rattle.paris_model.specs.Fits.{IsFit, is_bad_axis, is_bad_length, has_bad_axis, has_bad_length, has_bad_operand, have_field_widths, line_axis, line_bad_length, line_bad_operand}
-use Rattle.paris_model.specs.Frame.{at, is_selected, low_at}
-use Rattle.paris_model.specs.Instructions.{reads, writes, key_width, after_plan, after_in, target_keys, source_keys, flag_keys, field_keys, source_fields, stores_all_bits, operands, width_among}
+use Rattle.paris_model.specs.Fits.{IsFit, is_bad_length, has_bad_axis, has_bad_length, has_bad_operand, have_field_widths, line_axis, line_bad_length, line_bad_operand}
+use Rattle.paris_model.specs.Frame.{is_selected, low_at}
+use Rattle.paris_model.specs.Instructions.{reads, writes, key_width, after_plan, after_in, target_keys, source_keys, flag_keys, field_keys, stores_all_bits, operands, width_among}
 use Rattle.paris_model.specs.Lines.{begins_segment, combined_values, combiner_flags, line_after, line_flags, line_length, line_result, line_sources, line_target, line_values, result_of, scan_values, segment_sources, stores_on_line, sum_overflows}
 use Rattle.paris_model.specs.Store.{low, bit, everywhere}
 use Rattle.paris_model.proofs.Stores.{everywhere-same}
-use Rattle.paris_model.proofs.Widths.{key_width-is, width_first, some_width}
+use Rattle.paris_model.proofs.Widths.{key_width-is, some_width}
 use Rattle.paris_model.proofs.Worlds.{has_key-append, or_false_first, or_false_second, or_true_second, reads_sources, reads_targets}
 use Rattle.paris_alu.specs.Alu.{comparison_plane}
 use Rattle.paris_field.specs.Fields.{AllFit, FieldNumbers, operand}

@@ -1,8 +1,6 @@
 -- What an instruction by mail reads and leaves, and when it is refused.
-use Rattle.std.proofs.Common.{◌≡◌, ℕ, ◌<◌, ◌≤◌, ◌==◌, Bool, false, true, cond, List, [], ◌∷◌, ◌++◌, length, map, slice_index, slice_index_or, Option, Some, None, Result, Ok, Err, refl, sym, ap, ◌∙◌, subst, arith}
-use Rattle.std.specs.Prelude.{◌||◌, nat_lt, nat_le, if◌then◌else◌, IfOk}
-use Rattle.std.specs.List.{list_all}
-use Rattle.std.proofs.Math.Nat.{mod-mod}
+use Rattle.std.proofs.Common.{◌≡◌, ℕ, ◌<◌, ◌≤◌, ◌==◌, Bool, false, true, cond, List, [], ◌∷◌, ◌++◌, length, map, slice_index, Option, Some, None, refl, sym, ap, ◌∙◌, subst, arith}
+use Rattle.std.specs.Prelude.{◌||◌, nat_lt, if◌then◌else◌}
 use Rattle.std.proofs.lemmas.Bool.{eq-eqb, ltb-false}
 use Rattle.std.proofs.lemmas.List.{append-nil}
 use Rattle.paris_names.specs.declared.keys.FlagName.TheVariants.{Context}
@@ -15,30 +13,28 @@ use Rattle.paris_model.specs.declared.operators.Combiner.{Combiner}
 use Rattle.paris_model.specs.declared.actions.Operand.{Operand}
 use Rattle.paris_model.specs.declared.actions.Mail.{Mail}
 use Rattle.paris_model.specs.declared.actions.Mail.TheVariants.{Get, Send, CombiningSend}
-use Rattle.paris_model.specs.declared.actions.Refusal.{Refusal}
 use Rattle.paris_model.specs.declared.actions.Action.TheVariants.{ByMail}
 use Rattle.paris_model.specs.Combine.{combined}
 use Rattle.paris_model.specs.Fits.{IsFit, is_bad_length, is_wide, is_wide_if_given, is_overlap, has_bad_length, has_bad_operand, has_overlap, have_field_widths, mail_bad_length, mail_notify, mail_target}
-use Rattle.paris_model.specs.Frame.{at, field_at, is_selected, low_at, put_where, put_selected}
+use Rattle.paris_model.specs.Frame.{at, field_at, is_selected, low_at, put_where}
 use Rattle.paris_model.specs.Instructions.{reads, writes, key_width, after_plan, after_in, refusal, refusal_in, target_keys, source_keys, flag_keys, field_keys, stores_all_bits, operands, width_among}
 use Rattle.paris_model.specs.Mail.{arrivals, bad_sender, collision_at, delivered, first_cause, gets_mail, mail_after, mail_of, mail_refusal, mail_sources, mail_targets, messages, notified, notify_targets}
-use Rattle.paris_model.specs.Store.{low, put, bit, everywhere, stored}
+use Rattle.paris_model.specs.Store.{low, put, bit, everywhere}
 use Rattle.paris_model.proofs.Stores.{everywhere-at, everywhere-same}
 use Rattle.paris_model.proofs.Widths.{key_width-is, width_first}
 use Rattle.paris_model.proofs.Worlds.{has_key-append, or_false_first, or_true_second, reads_sources, reads_targets}
 use Rattle.paris_field.specs.Fields.{FieldNumbers, operand}
-use Rattle.paris_field.specs.Numbers.{bits_everywhere}
 use Rattle.paris_field.proofs.Places.{get_or-bits_everywhere}
 use Rattle.paris_router.specs.declared.sends.Delivery.{Delivery}
 use Rattle.paris_router.specs.Mail.{bad_sender_of, delivered_field, fetched_field, mail_in, receivers_of}
 use Rattle.paris_combine.specs.Combined.{combined_mail}
 use Rattle.paris_scan.specs.Lines.{has}
-use Rattle.paris_exec.specs.Combined.{by_field, delivered_values, mail_length, mail_source}
+use Rattle.paris_exec.specs.Combined.{by_field, delivered_values, mail_source}
 use Rattle.paris_exec.specs.Planes.{AreRead, flag_value}
 use Rattle.paris_exec.specs.Tasks.{Task, field_of, fields_of, frame_at, seen_at, left_values, put_value, put_value_where}
 use Rattle.paris_exec.proofs.AlongLines.{all_some}
-use Rattle.paris_exec.proofs.Left.{first_key, low_twice, put_numbers_where}
-use Rattle.paris_exec.proofs.Operands.{AllWide, among, good_length, has_field, narrow_length, same_field}
+use Rattle.paris_exec.proofs.Left.{first_key, put_numbers_where}
+use Rattle.paris_exec.proofs.Operands.{AllWide, good_length, narrow_length}
 use Rattle.paris_exec.proofs.Puts.{mask_selects}
 use Rattle.paris_exec.proofs.Stored.{flag_numbers}
 

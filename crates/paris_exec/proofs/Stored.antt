@@ -1,17 +1,11 @@
 -- Bits and small numbers that are stored.
-use Rattle.std.proofs.Common.{◌≡◌, ℕ, ◌^◌, ◌<◌, ◌≤◌, Bool, true, false, List, [], ◌∷◌, length, map, replicate, slice_index, slice_index_or, refl, sym, ap, ◌∙◌, subst, arith, if◌then◌else◌, Result, Ok}
+use Rattle.std.proofs.Common.{◌≡◌, ℕ, ◌^◌, ◌<◌, ◌≤◌, Bool, List, [], ◌∷◌, map, refl, ap, ◌∙◌, subst, arith, Result, Ok}
 use Rattle.std.specs.Prelude.{IfOk}
-use Rattle.std.proofs.Math.Nat.{mod-eq_of_lt}
 use Rattle.std.proofs.Math.Pow.{pow_mono}
-use Rattle.std.proofs.lemmas.List.{get_or-replicate}
-use Rattle.std.proofs.lemmas.List.FromFn.{fill_by_all}
-use lib.Pow.{pow_pos}
 use Rattle.paris_geometry.specs.Geometry.{numbers_below}
-use Rattle.paris_model.specs.Store.{bit, everywhere, put, stored}
-use Rattle.paris_field.specs.Fields.{AllFit, FieldNumbers}
-use Rattle.paris_field.specs.Numbers.{bits_everywhere, number_at}
+use Rattle.paris_model.specs.Store.{bit, everywhere}
+use Rattle.paris_field.specs.Numbers.{bits_everywhere}
 use Rattle.paris_exec.specs.Planes.{flag_value}
-use Rattle.paris_exec.proofs.Puts.{fit_at, put_whole}
 
 map_map : {A B C : Type 0} (f : A → B) (g : B → C) (xs : List A) → map g (map f xs) ≡ map (λ x. g (f x)) xs
 map_map f g [] = refl

@@ -259,6 +259,15 @@ pub(crate) fn line_values(
             axis,
             length,
             coordinate,
-        } => reduce_values(alloc, order, *combiner, to, from, *axis, *length, *coordinate),
+        } => reduce_values(
+            alloc,
+            order,
+            *combiner,
+            to,
+            from,
+            *axis,
+            *length,
+            *coordinate,
+        ),
     }
 }

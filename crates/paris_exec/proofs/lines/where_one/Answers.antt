@@ -1,4 +1,4 @@
-use Rattle.std.proofs.Common.{◌≡◌, ◌∙◌, ◌^◌, ◌<◌, ap, sym, subst, length, replicate}
+use Rattle.std.proofs.Common.{◌∙◌, ◌^◌, ◌<◌, ap, sym, subst, length, replicate}
 use Rattle.paris_model.specs.declared.operators.Comparison.TheVariants.{Equal}
 use Rattle.paris_alu.specs.Alu.{comparison_plane}
 use Rattle.paris_field.proofs.Values.{all_fit}
