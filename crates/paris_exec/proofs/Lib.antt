@@ -1,4 +1,6 @@
+pub mod AlongLines
 pub mod Besides
+pub mod ByMail
 pub mod Executed
 pub mod Frames
 pub mod InEvery
@@ -7,3 +9,4 @@ pub mod Neighbours
 pub mod Operands
 pub mod Puts
 pub mod Addresses
+pub mod Stored

@@ -123,7 +123,7 @@ pub put_whole : (old x L : ℕ) → old < 2 ^ L → put old x L ≡ low L x
 put_whole old x L small = let all : old % 2 ^ L ≡ old = mod-eq_of_lt small in omega (arith, all)
 
 -- a number of a list that fits
-fit_at : (w : ℕ) (numbers : List ℕ) → AllFit w numbers → (v : ℕ) → v < length numbers → slice_index numbers v < 2 ^ w
+pub fit_at : (w : ℕ) (numbers : List ℕ) → AllFit w numbers → (v : ℕ) → v < length numbers → slice_index numbers v < 2 ^ w
 fit_at w numbers fit v below = All-get_or (λ x. x < 2 ^ w) numbers v 0 below fit
 
 not_at : (mask : List Bool) (v : ℕ) → v < length mask → slice_index_or (map not mask) v false ≡ not (slice_index_or mask v false)

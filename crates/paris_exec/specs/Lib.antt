@@ -1,3 +1,4 @@
+pub mod Combined
 pub mod Frames
 pub mod Made
 pub mod Planes
