@@ -1,16 +1,107 @@
 //! Spreads and reduces.
 
-ghost use Rattle.std.specs.Prelude.{◌≡◌, ◌<◌, ◌≤◌, IfOk, IfSome, is_some, length};
+ghost use Rattle.std.specs.Prelude.{◌≡◌, ◌<◌, ◌≤◌, IfOk, IfSome, None, is_some, length, true};
 ghost use Rattle.paris_geometry.specs.Geometry.{axis_length, processor_count};
+ghost use Rattle.paris_model.specs.declared.operators.Combiner.TheVariants.{Sum};
 ghost use Rattle.paris_scan.specs.Lines.{combined_field, is_sum, of_lines, placed_field, stores_at, sums_overflow};
+ghost use Rattle.paris_scan.specs.Shown.{ShowsOne, complement_shown, shown_field};
 
+use crate::bitwise::{Ors, Xors};
+use crate::butterfly::spread_planes;
+use crate::combine::Commute;
+use crate::maxima::Maxima;
+use crate::results::{complement_value, sum_value};
 use crate::scans::Combined;
+use crate::sources::{complement_planes, selected_planes};
+use crate::sums::Sums;
 use paris_field::FieldValue;
 use paris_geometry::Geometry;
 use paris_model::Combiner;
 use paris_news::coordinate_plane;
 use paris_plane::Plane;
 use std::alloc::{AllocError, Global};
+
+/// What the values of each line come to, where the operator's unit is 0.
+fn spread_shown<C: Commute>(
+    alloc: Global,
+    geometry: Geometry,
+    axis: usize,
+    x: &FieldValue,
+    selected: &Plane,
+    bits: u64,
+) -> Result<FieldValue, AllocError>
+    requires axis { axis < length geometry }
+    requires narrow { bits ≤ 128 }
+    requires x_width { bits ≤ x.now.width }
+    requires count { length x.now.numbers ≡ processor_count geometry }
+    requires selected { length selected.now ≡ processor_count geometry }
+    requires plain { C.extra ≡ 0 }
+    requires alone { ShowsOne C.shows }
+    ensures { IfOk result (λ value. value ≡ shown_field C.shows bits (processor_count geometry) (of_lines geometry axis selected.now bits x.now)) }
+{
+    let state = selected_planes(alloc, selected, x.low(bits))?;
+    let planes = spread_planes::<C>(alloc, geometry, axis, state)?;
+    Ok(FieldValue::from_planes(planes, geometry.vps()))
+}
+
+/// The complement of what the complements of the values of each line come to.
+fn spread_complements<C: Commute>(
+    alloc: Global,
+    geometry: Geometry,
+    axis: usize,
+    x: &FieldValue,
+    selected: &Plane,
+    bits: u64,
+) -> Result<FieldValue, AllocError>
+    requires axis { axis < length geometry }
+    requires narrow { bits ≤ 128 }
+    requires x_width { bits ≤ x.now.width }
+    requires count { length x.now.numbers ≡ processor_count geometry }
+    requires selected { length selected.now ≡ processor_count geometry }
+    requires plain { C.extra ≡ 0 }
+    requires alone { ShowsOne C.shows }
+    ensures { IfOk result (λ value. value ≡ shown_field (complement_shown C.shows) bits (processor_count geometry) (of_lines geometry axis selected.now bits x.now)) }
+{
+    let state = complement_planes(alloc, selected, x.low(bits))?;
+    let planes = spread_planes::<C>(alloc, geometry, axis, state)?;
+    Ok(complement_value(planes, geometry.vps()))
+}
+
+/// The sums of the values of each line, and where they need more bits.
+fn spread_sums(
+    alloc: Global,
+    geometry: Geometry,
+    axis: usize,
+    x: &FieldValue,
+    selected: &Plane,
+    bits: u64,
+) -> Result<Combined, AllocError>
+    requires axis { axis < length geometry }
+    requires narrow { bits ≤ 128 }
+    requires x_width { bits ≤ x.now.width }
+    requires count { length x.now.numbers ≡ processor_count geometry }
+    requires selected { length selected.now ≡ processor_count geometry }
+    ensures value { IfOk result (λ combined. combined.value ≡ combined_field Sum bits (processor_count geometry) (of_lines geometry axis selected.now bits x.now)) }
+    ensures overflow { IfOk result (λ combined. IfSome combined.overflow (λ overflow. overflow ≡ sums_overflow bits (processor_count geometry) (of_lines geometry axis selected.now bits x.now))) }
+    ensures sums { IfOk result (λ combined. is_some combined.overflow ≡ true) }
+{
+    let vps = geometry.vps();
+    let mut state = selected_planes(alloc, selected, x.low(bits))?;
+    state.push(Plane::zeros(alloc, vps)?)?;
+    let planes = spread_planes::<Sums>(alloc, geometry, axis, state)?;
+    Ok(sum_value(planes, vps))
+}
+
+/// A value with no overflow.
+fn alone(value: FieldValue) -> Combined
+    ensures value { result.value ≡ value }
+    ensures overflow { result.overflow ≡ None }
+{
+    Combined {
+        value,
+        overflow: None,
+    }
+}
 
 /// In each processor what the low `bits` bits of the selected processors of its line combine to.
 pub fn spread(
@@ -32,7 +123,29 @@ pub fn spread(
     ensures overflow { IfOk result (λ combined. IfSome combined.overflow (λ overflow. overflow ≡ sums_overflow bits (processor_count geometry) (of_lines geometry axis selected.now bits x.now))) }
     ensures sums { IfOk result (λ combined. is_some combined.overflow ≡ is_sum operator) }
 {
-    Err(AllocError)
+    match operator {
+        Combiner::Sum => spread_sums(alloc, geometry, axis, x, selected, bits),
+        Combiner::BitOr => {
+            let value = spread_shown::<Ors>(alloc, geometry, axis, x, selected, bits)?;
+            Ok(alone(value))
+        }
+        Combiner::BitXor => {
+            let value = spread_shown::<Xors>(alloc, geometry, axis, x, selected, bits)?;
+            Ok(alone(value))
+        }
+        Combiner::Maximum => {
+            let value = spread_shown::<Maxima>(alloc, geometry, axis, x, selected, bits)?;
+            Ok(alone(value))
+        }
+        Combiner::BitAnd => {
+            let value = spread_complements::<Ors>(alloc, geometry, axis, x, selected, bits)?;
+            Ok(alone(value))
+        }
+        Combiner::Minimum => {
+            let value = spread_complements::<Maxima>(alloc, geometry, axis, x, selected, bits)?;
+            Ok(alone(value))
+        }
+    }
 }
 
 /// What the values of lines combine to, and which processors store it.
@@ -107,5 +220,8 @@ pub fn copy_spread(
     requires count { length x.now.numbers ≡ processor_count geometry }
     ensures { IfOk result (λ value. value ≡ placed_field geometry axis place bits x.now) }
 {
-    Err(AllocError)
+    let at = coordinate_plane(alloc, geometry, axis, place)?;
+    let state = selected_planes(alloc, &at, x.low(bits))?;
+    let planes = spread_planes::<Ors>(alloc, geometry, axis, state)?;
+    Ok(FieldValue::from_planes(planes, geometry.vps()))
 }
