@@ -6,6 +6,7 @@ use Rattle.std.proofs.lemmas.Bool.{and_parts}
 use Rattle.std.proofs.lemmas.Bool.Decides.{nat_tests}
 use Rattle.std.proofs.lemmas.List.{get_or-replicate, length-map}
 use Rattle.std.proofs.Math.Nat.{mod-eq_of_lt}
+use Rattle.std.proofs.Math.Pow.{pow_mono}
 use Rattle.paris_names.specs.declared.keys.FlagName.TheVariants.{Context, Overflow}
 use Rattle.paris_names.specs.declared.keys.Key.{Key}
 use Rattle.paris_names.specs.declared.keys.Key.TheVariants.{Field, Flag}
@@ -38,10 +39,9 @@ use Rattle.paris_scan.specs.Lines.{combined_field, first_field, has, is_sum, of_
 use Rattle.paris_exec.specs.Combined.{overflow_flags, overflow_values}
 use Rattle.paris_exec.specs.Planes.{flag_value}
 use Rattle.paris_exec.specs.Tasks.{Task, field_of, fields_of, frame_at, seen_at, left_values, put_value_where}
-use Rattle.paris_exec.proofs.Left.{first_key, put_numbers_where}
+use Rattle.paris_exec.proofs.Left.{first_key, flag_numbers, put_numbers_where}
 use Rattle.paris_exec.proofs.Operands.{AllWide, among, bits_count, good_length, has_field, narrow_length, same_field}
 use Rattle.paris_exec.proofs.Puts.{fit_at, mask_selects}
-use Rattle.paris_exec.proofs.Stored.{flag_numbers, one_below}
 
 -- a sum's flags
 pub sum_flags : {X : Type 0} (op : Combiner) (o : Option X) → is_some o ≡ is_sum op → combiner_flags op ≡ overflow_flags o
@@ -189,6 +189,10 @@ pub has_ones : (xs : List ℕ) (plane : List Bool) (v : ℕ) → plane ≡ bits_
 has_ones xs plane v is =
     ap (λ p. has p v) (is ∙ sym (plane_is (map (λ x. x == 1) xs) (length xs) (λ v. slice_index xs v == 1) (length-map xs (λ x. x == 1)) (λ v below. has_where (λ x. x == 1) xs v refl)))
     ∙ has_where (λ x. x == 1) xs v refl
+
+-- 1 fits each width but 0
+pub one_below : (w : ℕ) → 0 < w → 1 < 2 ^ w
+one_below w some = (let least : 2 ^ 1 ≤ 2 ^ w = pow_mono some in omega (arith, least))
 
 -- where a number of some bits equals 1
 pub ones_compared : (x one : FieldNumbers) (plane : List Bool) → 0 < x.width → AllFit x.width x.numbers → one ≡ record { width = x.width; numbers = replicate (length x.numbers) 1 } → plane ≡ comparison_plane Equal x.width x one

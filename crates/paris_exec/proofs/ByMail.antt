@@ -33,10 +33,9 @@ use Rattle.paris_exec.specs.Combined.{by_field, delivered_values, mail_source}
 use Rattle.paris_exec.specs.Planes.{AreRead, flag_value}
 use Rattle.paris_exec.specs.Tasks.{Task, field_of, fields_of, frame_at, seen_at, left_values, put_value, put_value_where}
 use Rattle.paris_exec.proofs.AlongLines.{all_some}
-use Rattle.paris_exec.proofs.Left.{first_key, put_numbers_where}
+use Rattle.paris_exec.proofs.Left.{first_key, flag_numbers, put_numbers_where}
 use Rattle.paris_exec.proofs.Operands.{AllWide, good_length, narrow_length}
 use Rattle.paris_exec.proofs.Puts.{mask_selects}
-use Rattle.paris_exec.proofs.Stored.{flag_numbers}
 
 -- what is read
 

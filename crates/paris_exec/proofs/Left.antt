@@ -158,13 +158,15 @@ map_map : {A B C : Type 0} (f : A → B) (g : B → C) (xs : List A) → map g (
 map_map f g [] = refl
 map_map f g (x ∷ xs) = ap (λ ys. g (f x) ∷ ys) (map_map f g xs)
 
+-- the numbers of a plane of known bits
+pub flag_numbers : (bits : List Bool) (n : ℕ) (b : ℕ → Bool) → bits ≡ bits_everywhere n b → flag_value bits ≡ record { width = 1; numbers = everywhere n (λ v. bit (b v)) }
+flag_numbers bits n b is = ap flag_value is ∙ ap (λ xs. record { width = 1; numbers = xs }) (map_map b bit (numbers_below n))
+
 -- the bits of a plane are put into a flag
 pub put_bits : (t : Task) (k : Key) (bits : List Bool) (b : ℕ → Bool) (g : ℕ → ℕ) → bits ≡ bits_everywhere (processor_count t.plan.axes) b
     → ((v : ℕ) → v < processor_count t.plan.axes → bit (b v) ≡ g v) → put_value t k (flag_value bits) ≡ field_of t.plan k (put_selected (frame_at t) k 1 g)
 put_bits t k bits b g is same =
-    put_numbers t k (flag_value bits) 1 (λ v. bit (b v)) g
-    (ap flag_value is ∙ ap (λ xs. record { width = 1; numbers = xs }) (map_map b bit (numbers_below (processor_count t.plan.axes))))
-    (λ v below. ap (low 1) (same v below))
+    put_numbers t k (flag_value bits) 1 (λ v. bit (b v)) g (flag_numbers bits (processor_count t.plan.axes) b is) (λ v below. ap (low 1) (same v below))
 
 -- operators of two sources
 

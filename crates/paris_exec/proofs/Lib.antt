@@ -9,4 +9,3 @@ pub mod Neighbours
 pub mod Operands
 pub mod Puts
 pub mod Addresses
-pub mod Stored

@@ -2,9 +2,8 @@ use Rattle.std.proofs.Common.{◌∙◌, ◌^◌, ◌<◌, ap, sym, subst, lengt
 use Rattle.paris_model.specs.declared.operators.Comparison.TheVariants.{Equal}
 use Rattle.paris_alu.specs.Alu.{comparison_plane}
 use Rattle.paris_field.proofs.Values.{all_fit}
-use Rattle.paris_exec.proofs.AlongLines.{ones_compared}
+use Rattle.paris_exec.proofs.AlongLines.{one_below, ones_compared}
 use Rattle.paris_exec.proofs.Operands.{ok_then}
-use Rattle.paris_exec.proofs.Stored.{one_below}
 use Rattle.paris_exec.proofs.lines.where_one.Goals as goal
 
 pub constant-requires-clause-fits : goal.constant-requires-clause-fits

@@ -5,8 +5,7 @@ use Rattle.paris_model.specs.Instructions.{key_width}
 use Rattle.paris_field.specs.Fields.{FieldNumbers}
 use Rattle.paris_router.specs.Mail.{refusal_in}
 use Rattle.paris_exec.proofs.ByMail.{mail_addresses_read, mail_context_read, mail_target_read, mail_target_wide, send_left, send_refused}
-use Rattle.paris_exec.proofs.Operands.{bits_count, numbers_count}
-use Rattle.paris_exec.proofs.Stored.{if_ok}
+use Rattle.paris_exec.proofs.Operands.{bits_count, if_ok, numbers_count}
 use Rattle.paris_exec.proofs.mail.send_answer.Goals as goal
 
 pub input-places-requires : goal.input-places-requires
