@@ -1,6 +1,6 @@
 use Rattle.std.proofs.Common.{◌≡◌, ◌∙◌, ap, arith, length, sym}
 use Rattle.paris_plane.specs.Bits.{borrow_bit}
-use Rattle.paris_alu.proofs.Places.{length_triple, read_long}
+use Rattle.paris_field.proofs.Places.{length_triple, read_long}
 use Rattle.paris_bench.proofs.kernels.below_planes.Goals as goal
 
 pub put_triple-requires-clause-second : goal.put_triple-requires-clause-second

@@ -1,6 +1,6 @@
 use Rattle.std.proofs.Common.{◌≡◌, ◌∙◌, ap, arith, length}
 use Rattle.paris_plane.specs.Bits.{borrow_bit}
-use Rattle.paris_alu.proofs.Places.{length_triple, read_long}
+use Rattle.paris_field.proofs.Places.{length_triple, read_long}
 use Rattle.paris_bench.proofs.kernels.less_planes.Goals as goal
 
 pub returns : goal.returns

@@ -3,7 +3,7 @@ use Rattle.std.proofs.lemmas.List.{get_or_read}
 use Rattle.paris_field.specs.Numbers.{plane_at}
 use Rattle.paris_field.proofs.Numbers.{all_written}
 use Rattle.paris_plane.specs.Bits.{borrow_bit, sum_bit}
-use Rattle.paris_alu.proofs.Places.{length_triple, read_long}
+use Rattle.paris_field.proofs.Places.{length_triple, read_long}
 use Rattle.paris_bench.proofs.kernels.subtract_planes.Goals as goal
 
 pub subtract_step-requires-clause-second : goal.subtract_step-requires-clause-second

@@ -4,7 +4,7 @@ use Rattle.std.proofs.lemmas.Simd.{length-zip2}
 use Rattle.paris_plane.specs.Bits.{differ}
 use Rattle.paris_field.specs.Numbers.{plane_at}
 use Rattle.paris_field.proofs.Numbers.{all_written}
-use Rattle.paris_alu.proofs.Places.{read_long}
+use Rattle.paris_field.proofs.Places.{read_long}
 use Rattle.paris_bench.proofs.kernels.xor_planes.Goals as goal
 
 pub loop-k-preserved : goal.loop-k-preserved
