@@ -12,7 +12,7 @@ use Rattle.paris_geometry.specs.declared.direction.Direction.{Direction}
 use Rattle.paris_geometry.specs.declared.direction.Direction.TheVariants.{Upward, Downward}
 use Rattle.paris_geometry.specs.Geometry.{stride, axis_length, processor_count, is_geometry, coordinate, at_coordinate, line, line_until, neighbour, neighbour_coordinate, opposite}
 use Rattle.paris_geometry.proofs.Strides.{stride_positive, geometry_powers}
-use Rattle.paris_scan.proofs.Steps.{up_inside, down_inside}
+use Rattle.paris_news.proofs.Steps.{up_inside, down_inside}
 use Rattle.paris_model.specs.declared.operators.Inclusion.TheVariants.{Inclusive}
 use Rattle.paris_geometry.proofs.Neighbours.{coordinate_below, at_coordinate_again, at_own_coordinate, ring_below}
 use Rattle.paris_model.specs.Lines.{from_last, values_where, scan_values}

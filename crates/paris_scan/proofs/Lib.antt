@@ -1,4 +1,3 @@
-pub mod Steps
 pub mod Tops
 pub mod Twice
 pub mod Reach
@@ -8,7 +7,5 @@ pub mod Turns
 pub mod Added
 pub mod Defined
 pub mod Gathered
-pub mod Placed
 pub mod Excluded
-pub mod Units
 pub mod Masked

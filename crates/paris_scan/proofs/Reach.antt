@@ -8,7 +8,7 @@ use Rattle.paris_geometry.specs.declared.direction.Direction.TheVariants.{Upward
 use Rattle.paris_geometry.specs.Geometry.{stride, axis_length, processor_count, is_geometry, coordinate, neighbour, neighbour_coordinate}
 use Rattle.paris_geometry.proofs.Strides.{stride_positive, geometry_powers}
 use Rattle.paris_geometry.proofs.Neighbours.{coordinate_below, coordinate_given, ring_below}
-use Rattle.paris_scan.proofs.Steps.{up_inside, down_inside, neighbour_below}
+use Rattle.paris_news.proofs.Steps.{up_inside, down_inside, neighbour_below}
 use Rattle.paris_scan.specs.Runs.{before, begun_within, StartsLines, Reaches, first_coordinate}
 
 -- a processor that begins no line has one before it, whose coordinate is the one before
