@@ -15,7 +15,7 @@ use Rattle.paris_field.specs.Numbers.{bit_in, number_at, plane_at}
 use Rattle.paris_field.proofs.Numbers.{sum_mod, carry_is, one_more, zero_bit_in}
 use Rattle.paris_scan.proofs.Tops.{top_split, low_lt}
 use Rattle.paris_scan.specs.Sums.{sum_shown}
-use Rattle.paris_scan.specs.Laws.{none_sum, sum_append}
+use Rattle.paris_scan.specs.Laws.{none_sum, one_sum, sum_append}
 
 -- a number's low bits and the bit above them
 parts : (p a b : ℕ) (x y : Bool) → a < p → b < p → a + p * bit x ≡ b + p * bit y → (a ≡ b) × (x ≡ y)
@@ -112,12 +112,7 @@ zero_on_top n v ps qs z e pushed =
 
 -- what one processor shows
 one_value : (b : Bool) (L x : ℕ) → x < 2 ^ L → cond b x 0 ≡ sum_shown L (cond b (x ∷ []) [])
-unfolding sum_shown
-one_value true L x h =
-    let s : sum (x ∷ []) ≡ x = omega arith in
-    let low_is : x % 2 ^ L ≡ x = mod-eq_of_lt h in
-    let over : leb (2 ^ L) x ≡ false = grind (arith, nat_tests) in
-    sym (ap (λ t. t % 2 ^ L + 2 ^ L * bit (leb (2 ^ L) t)) s ∙ ap (λ t. t + 2 ^ L * bit (leb (2 ^ L) x)) low_is ∙ ap (λ b. x + 2 ^ L * bit b) over ∙ (let e : x + 2 ^ L * bit false ≡ x = omega arith in e))
+one_value true L x h = sym (one_sum L x h)
 one_value false L x h = sym (none_sum L)
 
 map_cond : (b : Bool) (g : ℕ → ℕ) (v : ℕ) → map g (cond b (v ∷ []) []) ≡ cond b (g v ∷ []) []

@@ -9,3 +9,5 @@ pub mod Defined
 pub mod Gathered
 pub mod Excluded
 pub mod Masked
+pub mod Units
+pub mod Placed

@@ -56,6 +56,23 @@ xor_zero L x = xor_zero_l x
 pub maximum_zero : (L x : ℕ) → combine Maximum L 0 x ≡ x
 maximum_zero L x = omega arith
 
+pub one_sum : (L x : ℕ) → x < 2 ^ L → sum_shown L (x ∷ []) ≡ x
+unfolding sum_shown
+one_sum L x h =
+    let s : sum (x ∷ []) ≡ x = omega arith in
+    let low_is : x % 2 ^ L ≡ x = mod-eq_of_lt h in
+    let over : nat_le (2 ^ L) x ≡ false = grind (arith, nat_tests) in
+    ap (λ t. t % 2 ^ L + 2 ^ L * bit (nat_le (2 ^ L) t)) s ∙ ap (λ t. t + 2 ^ L * bit (nat_le (2 ^ L) x)) low_is ∙ ap (λ b. x + 2 ^ L * bit b) over ∙ (let e : x + 2 ^ L * bit false ≡ x = omega arith in e)
+
+pub one_or : (L x : ℕ) → x < 2 ^ L → combined BitOr L 0 (x ∷ []) ≡ x
+one_or L x h = or_zero L x
+
+pub one_xor : (L x : ℕ) → x < 2 ^ L → combined BitXor L 0 (x ∷ []) ≡ x
+one_xor L x h = xor_zero L x
+
+pub one_maximum : (L x : ℕ) → x < 2 ^ L → combined Maximum L 0 (x ∷ []) ≡ x
+one_maximum L x h = maximum_zero L x
+
 pub none_or : (L : ℕ) → combined BitOr L 0 [] ≡ 0
 none_or L = refl
 

@@ -5,7 +5,7 @@ ghost use Rattle.std.specs.Simd.Lanes.{zip2};
 ghost use Rattle.paris_model.specs.Combine.{combined};
 ghost use Rattle.paris_model.specs.declared.operators.Combiner.TheVariants.{BitOr, BitXor};
 ghost use Rattle.paris_field.specs.Numbers.{plane_at};
-ghost use Rattle.paris_scan.specs.Laws.{none_or, none_xor, ors_swapped, xors_swapped};
+ghost use Rattle.paris_scan.specs.Laws.{none_or, none_xor, one_or, one_xor, ors_swapped, xors_swapped};
 
 use crate::combine::{Combine, Commute};
 use paris_plane::{Or, Plane, WordOp, Xor};
@@ -37,6 +37,8 @@ impl Combine for Ors {
 }
 
 impl Commute for Ors {
+    ghost one = { one_or };
+
     ghost swapped = { ors_swapped };
 }
 
@@ -56,5 +58,7 @@ impl Combine for Xors {
 }
 
 impl Commute for Xors {
+    ghost one = { one_xor };
+
     ghost swapped = { xors_swapped };
 }

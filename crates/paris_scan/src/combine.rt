@@ -1,6 +1,6 @@
 //! What lists of values come to on planes.
 
-ghost use Rattle.std.specs.Prelude.{◌≡◌, ℕ, ◌+◌, ◌^◌, ◌<◌, ◌≤◌, ◌++◌, All, List, [], length};
+ghost use Rattle.std.specs.Prelude.{◌≡◌, ℕ, ◌+◌, ◌^◌, ◌<◌, ◌≤◌, ◌++◌, All, List, [], ◌∷◌, length};
 ghost use Rattle.paris_field.specs.Numbers.{AllOf, number_at};
 
 use paris_plane::Plane;
@@ -26,7 +26,9 @@ pub trait Combine {
     ghost none: { (L : ℕ) → shows L [] ≡ 0 };
 }
 
-/// Where the order of two lists doesn't matter.
+/// Where the order of two lists doesn't matter, and a value alone comes to itself.
 pub trait Commute: Combine {
+    ghost one: { (L x : ℕ) → x < 2 ^ L → Self.shows L (x ∷ []) ≡ x };
+
     ghost swapped: { (L : ℕ) (xs ys : List ℕ) → Self.shows L (xs ++ ys) ≡ Self.shows L (ys ++ xs) };
 }

@@ -4,7 +4,7 @@ ghost use Rattle.std.specs.Prelude.{◌≡◌, ℕ, ◌<◌, false, length, nat_
 ghost use Rattle.paris_model.specs.Combine.{combined};
 ghost use Rattle.paris_model.specs.declared.operators.Combiner.TheVariants.{Maximum};
 ghost use Rattle.paris_field.specs.Numbers.{AllOf, number_at};
-ghost use Rattle.paris_scan.specs.Laws.{maxima_swapped, none_maximum};
+ghost use Rattle.paris_scan.specs.Laws.{maxima_swapped, none_maximum, one_maximum};
 
 use crate::combine::{Combine, Commute};
 use paris_field::merge_planes;
@@ -41,5 +41,7 @@ impl Combine for Maxima {
 }
 
 impl Commute for Maxima {
+    ghost one = { one_maximum };
+
     ghost swapped = { maxima_swapped };
 }

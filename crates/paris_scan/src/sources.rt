@@ -1,6 +1,6 @@
 //! What processors bring to a line: their numbers where they are selected, and 0 elsewhere.
 
-ghost use Rattle.std.specs.Prelude.{◌≡◌, ℕ, ◌<◌, IfOk, cond, false, length, map, not, slice_index_or};
+ghost use Rattle.std.specs.Prelude.{◌≡◌, ℕ, ◌+◌, ◌<◌, IfOk, cond, false, length, map, not, slice_index_or};
 ghost use Rattle.std.specs.Simd.Lanes.{zip2};
 ghost use Rattle.paris_field.specs.Numbers.{AllOf, number_at, plane_at};
 ghost use Rattle.paris_scan.specs.Shown.{complement};
@@ -40,6 +40,22 @@ pub fn selected_planes(
     ensures at { IfOk result (λ planes. (v : ℕ) → v < length selected.now → number_at planes.items v ≡ cond (slice_index_or selected.now v false) (number_at x.now v) 0) }
 {
     let planes = masked_planes::<And>(alloc, selected, x)?;
+    Ok(planes)
+}
+
+/// The numbers of the selected processors, and 0 in the others, with a plane of zeros on top.
+pub(crate) fn summed_planes(
+    alloc: Global,
+    selected: &Plane,
+    x: &[Plane],
+) -> Result<Vec<Plane>, AllocError>
+    requires { AllOf (length selected.now) x.now }
+    ensures count { IfOk result (λ planes. length planes.items ≡ length x.now + 1) }
+    ensures long { IfOk result (λ planes. AllOf (length selected.now) planes.items) }
+    ensures at { IfOk result (λ planes. (v : ℕ) → v < length selected.now → number_at planes.items v ≡ cond (slice_index_or selected.now v false) (number_at x.now v) 0) }
+{
+    let mut planes = selected_planes(alloc, selected, x)?;
+    planes.push(Plane::zeros(alloc, selected.len())?)?;
     Ok(planes)
 }
 

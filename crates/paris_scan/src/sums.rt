@@ -2,7 +2,7 @@
 
 ghost use Rattle.std.specs.Prelude.{◌≡◌, ℕ, ◌+◌, ◌*◌, ◌^◌, ◌<◌, ◌≤◌, ◌||◌, drop, false, length, slice_index_or, take};
 ghost use Rattle.paris_field.specs.Numbers.{AllOf, bit_in, number_at};
-ghost use Rattle.paris_scan.specs.Laws.{none_sum, sums_swapped};
+ghost use Rattle.paris_scan.specs.Laws.{none_sum, one_sum, sums_swapped};
 ghost use Rattle.paris_scan.specs.Sums.{sum_shown};
 
 use crate::combine::{Combine, Commute};
@@ -54,5 +54,7 @@ impl Combine for Sums {
 }
 
 impl Commute for Sums {
+    ghost one = { one_sum };
+
     ghost swapped = { sums_swapped };
 }
