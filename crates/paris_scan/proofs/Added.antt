@@ -18,7 +18,7 @@ use Rattle.paris_scan.specs.Sums.{sum_shown}
 use Rattle.paris_scan.specs.Laws.{none_sum, one_sum, sum_append}
 
 -- a number's low bits and the bit above them
-parts : (p a b : ℕ) (x y : Bool) → a < p → b < p → a + p * bit x ≡ b + p * bit y → (a ≡ b) × (x ≡ y)
+pub parts : (p a b : ℕ) (x y : Bool) → a < p → b < p → a + p * bit x ≡ b + p * bit y → (a ≡ b) × (x ≡ y)
 parts p a b true true ha hb e = (omega (arith, mul-one p), refl)
 parts p a b false false ha hb e = (omega arith, refl)
 parts p a b true false ha hb e = absurd (omega (arith, mul-one p, e))
@@ -52,7 +52,7 @@ overflow_of p x y s c some hs e =
     ]
 
 -- what planes that show a sum hold
-shown_parts : (L v x : ℕ) (ps : List (List Bool)) → length ps ≡ L + 1 → number_at ps v ≡ x % 2 ^ L + 2 ^ L * bit (leb (2 ^ L) x) → (number_at (take L ps) v ≡ x % 2 ^ L) × (get_or (plane_at ps L) v false ≡ leb (2 ^ L) x)
+pub shown_parts : (L v x : ℕ) (ps : List (List Bool)) → length ps ≡ L + 1 → number_at ps v ≡ x % 2 ^ L + 2 ^ L * bit (leb (2 ^ L) x) → (number_at (take L ps) v ≡ x % 2 ^ L) × (get_or (plane_at ps L) v false ≡ leb (2 ^ L) x)
 shown_parts L v x ps long e =
     let same : L + 1 - 1 ≡ L = omega arith in
     let split : number_at ps v ≡ number_at (take L ps) v + 2 ^ L * bit_in (plane_at ps L) v =
@@ -115,7 +115,7 @@ one_value : (b : Bool) (L x : ℕ) → x < 2 ^ L → cond b x 0 ≡ sum_shown L 
 one_value true L x h = sym (one_sum L x h)
 one_value false L x h = sym (none_sum L)
 
-map_cond : (b : Bool) (g : ℕ → ℕ) (v : ℕ) → map g (cond b (v ∷ []) []) ≡ cond b (g v ∷ []) []
+pub map_cond : (b : Bool) (g : ℕ → ℕ) (v : ℕ) → map g (cond b (v ∷ []) []) ≡ cond b (g v ∷ []) []
 map_cond true g v = refl
 map_cond false g v = refl
 

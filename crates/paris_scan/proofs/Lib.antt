@@ -11,3 +11,6 @@ pub mod Excluded
 pub mod Masked
 pub mod Units
 pub mod Placed
+pub mod Own
+pub mod Summed
+pub mod Copied

@@ -12,7 +12,10 @@ use Rattle.paris_model.specs.Store.{low}
 use Rattle.paris_model.specs.Combine.{combine, combined, unit}
 use Rattle.paris_model.proofs.Combining.{combined_fit}
 use Rattle.paris_scan.specs.Laws.{sum_append}
-use Rattle.paris_scan.specs.Shown.{complement, complement_shown}
+use Rattle.paris_field.specs.Fields.{FieldNumbers}
+use Rattle.paris_field.proofs.Places.{everywhere_same}
+use Rattle.paris_scan.specs.Lines.{combined_field}
+use Rattle.paris_scan.specs.Shown.{complement, complement_shown, shown_field}
 
 -- the first combines complements as the second combines numbers
 Dual : Combiner → Combiner → ℕ → Type 0
@@ -77,3 +80,14 @@ combined_sum L ys =
     let some : 0 < 2 ^ L = pow_pos L in
     let none : 0 ≡ low L 0 = omega arith in
     ap (λ z. combined Sum L z ys) none ∙ sum_from L 0 ys ∙ ap (low L) (let e : 0 + sum ys ≡ sum ys = omega arith in e)
+
+-- and so in every processor
+pub and_field : (n L : ℕ) (values : ℕ → List ℕ) → ((v : ℕ) → All (λ x. x < 2 ^ L) (values v)) → shown_field (complement_shown (λ k xs. combined BitOr k 0 xs)) L n values ≡ combined_field BitAnd L n values
+and_field n L values fits =
+    let field : List ℕ → FieldNumbers = λ xs. record { width = L; numbers = xs } in
+    ap field (everywhere_same n (λ v. complement_shown (λ k xs. combined BitOr k 0 xs) L (values v)) (λ v. combined BitAnd L (unit BitAnd L) (values v)) (λ v h. and_by_complements L (values v) (fits v)))
+
+pub minimum_field : (n L : ℕ) (values : ℕ → List ℕ) → ((v : ℕ) → All (λ x. x < 2 ^ L) (values v)) → shown_field (complement_shown (λ k xs. combined Maximum k 0 xs)) L n values ≡ combined_field Minimum L n values
+minimum_field n L values fits =
+    let field : List ℕ → FieldNumbers = λ xs. record { width = L; numbers = xs } in
+    ap field (everywhere_same n (λ v. complement_shown (λ k xs. combined Maximum k 0 xs) L (values v)) (λ v. combined Minimum L (unit Minimum L) (values v)) (λ v h. minimum_by_complements L (values v) (fits v)))
