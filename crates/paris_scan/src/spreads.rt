@@ -203,8 +203,9 @@ pub fn copy_spread(
     requires count { length x.now.numbers ≡ processor_count geometry }
     ensures { IfOk result (λ value. value ≡ placed_field geometry axis place bits x.now) }
 {
+    let vps = geometry.vps();
     let at = coordinate_plane(alloc, geometry, axis, place)?;
     let state = selected_planes(alloc, &at, x.low(bits))?;
     let planes = spread_planes::<Ors>(alloc, geometry, axis, state)?;
-    Ok(FieldValue::from_planes(planes, x.len()))
+    Ok(FieldValue::from_planes(planes, vps))
 }
