@@ -1,5 +1,5 @@
 -- Sums that are added, with their overflow.
-use Rattle.std.proofs.Common.{◌≡◌, ℕ, zero, suc, ◌+◌, ◌-◌, ◌*◌, ◌%◌, ◌^◌, ◌<◌, Bool, true, false, ◌||◌, List, [], ◌∷◌, ◌++◌, length, get_or, take, arith, ap, ◌∙◌, sym, refl, leb, mul-one, set, inl, inr, subst, replicate, map, cond, ◌&&◌}
+use Rattle.std.proofs.Common.{◌≡◌, ℕ, zero, suc, ◌+◌, ◌*◌, ◌%◌, ◌^◌, ◌<◌, Bool, true, false, ◌||◌, List, [], ◌∷◌, ◌++◌, length, get_or, take, arith, ap, ◌∙◌, sym, refl, leb, mul-one, set, inl, inr, subst, replicate, map, cond}
 use Rattle.std.specs.Prelude.{sum, All}
 use Rattle.std.proofs.lemmas.List.Elements.{All-nil, All-cons}
 use Rattle.paris_model.specs.Lines.{values_where}
@@ -12,10 +12,10 @@ use Rattle.std.proofs.lemmas.Simd.{get_or-zip2}
 use Rattle.std.specs.Simd.Lanes.{zip2}
 use Rattle.paris_model.specs.Store.{bit}
 use Rattle.paris_field.specs.Numbers.{bit_in, number_at, plane_at}
-use Rattle.paris_field.proofs.Numbers.{sum_mod, carry_is, one_more, zero_bit_in}
-use Rattle.paris_scan.proofs.Tops.{top_split, low_lt}
+use Rattle.paris_field.proofs.Numbers.{sum_mod, carry_is, zero_bit_in}
+use Rattle.paris_scan.proofs.Tops.{low_lt, split_at}
 use Rattle.paris_scan.specs.Sums.{sum_shown}
-use Rattle.paris_scan.specs.Laws.{none_sum, one_sum, sum_append}
+use Rattle.paris_scan.specs.Laws.{sum_append}
 
 -- a number's low bits and the bit above them
 pub parts : (p a b : ℕ) (x y : Bool) → a < p → b < p → a + p * bit x ≡ b + p * bit y → (a ≡ b) × (x ≡ y)
@@ -54,10 +54,7 @@ overflow_of p x y s c some hs e =
 -- what planes that show a sum hold
 pub shown_parts : (L v x : ℕ) (ps : List (List Bool)) → length ps ≡ L + 1 → number_at ps v ≡ x % 2 ^ L + 2 ^ L * bit (leb (2 ^ L) x) → (number_at (take L ps) v ≡ x % 2 ^ L) × (get_or (plane_at ps L) v false ≡ leb (2 ^ L) x)
 shown_parts L v x ps long e =
-    let same : L + 1 - 1 ≡ L = omega arith in
-    let split : number_at ps v ≡ number_at (take L ps) v + 2 ^ L * bit_in (plane_at ps L) v =
-    top_split ps (L + 1) v (omega arith) long ∙ ap (λ k. number_at (take k ps) v + 2 ^ k * bit_in (plane_at ps k) v) same in
-    parts (2 ^ L) (number_at (take L ps) v) (x % 2 ^ L) (get_or (plane_at ps L) v false) (leb (2 ^ L) x) (low_lt ps L v (omega arith)) (mod-lt x (pow_pos L)) (sym split ∙ e)
+    parts (2 ^ L) (number_at (take L ps) v) (x % 2 ^ L) (get_or (plane_at ps L) v false) (leb (2 ^ L) x) (low_lt ps L v (omega arith)) (mod-lt x (pow_pos L)) (sym (split_at L v ps long) ∙ e)
 
 pub sums_joined : (L v : ℕ) (xs ys : List ℕ) (earlier later new : List (List Bool)) (carry : List Bool) → length earlier ≡ L + 1 → length later ≡ L + 1 → length new ≡ L + 1 → number_at earlier v ≡ sum_shown L xs → number_at later v ≡ sum_shown L ys → number_at (take L new) v + 2 ^ L * bit_in carry v ≡ number_at (take L earlier) v + number_at (take L later) v → get_or (plane_at new L) v false ≡ ((get_or (plane_at later L) v false || get_or (plane_at earlier L) v false) || get_or carry v false) → number_at new v ≡ sum_shown L (xs ++ ys)
 unfolding sum_shown
@@ -74,8 +71,7 @@ sums_joined L v xs ys earlier later new carry ne nl nn ex ey exact top =
     let top_is : get_or (plane_at new L) v false ≡ leb p (x + y) =
     top ∙ ap (λ t. (t || get_or (plane_at earlier L) v false) || get_or carry v false) b.1 ∙ ap (λ t. (leb p y || t) || get_or carry v false) a.1
     ∙ overflow_of p x y s (get_or carry v false) (pow_pos L) hs sums in
-    let same : L + 1 - 1 ≡ L = omega arith in
-    top_split new (L + 1) v (omega arith) nn ∙ ap (λ k. number_at (take k new) v + 2 ^ k * bit_in (plane_at new k) v) same
+    split_at L v new nn
     ∙ ap (λ t. t + p * bit_in (plane_at new L) v) low_is ∙ ap (λ t. (x + y) % p + p * bit t) top_is
     ∙ ap (λ t. t % p + p * bit (leb p t)) (sym (sum_append xs ys))
 
@@ -89,41 +85,18 @@ or_both_at n v x y old mid new lo lx ly lm em en h =
     ap (λ l. get_or l v false) en ∙ get_or-zip2 (λ a b. a || b) mid y v false false false (omega arith) (omega arith)
     ∙ ap (λ t. t || get_or y v false) (ap (λ l. get_or l v false) em ∙ get_or-zip2 (λ a b. a || b) old x v false false false (omega arith) (omega arith))
 
--- one plane more of numbers that count where they are selected
-masked_digit : (p n : ℕ) (a b : Bool) → cond b n 0 + p * bit (a && b) ≡ cond b (n + p * bit a) 0
-masked_digit p n true true = refl
-masked_digit p n false true = refl
-masked_digit p n true false = omega arith
-masked_digit p n false false = omega arith
-
-pub masked_more : (k v : ℕ) (source ps qs : List (List Bool)) (x m out : List Bool) → k < length source → x ≡ plane_at source k → length ps ≡ k → qs ≡ ps ++ out ∷ [] → get_or out v false ≡ (get_or x v false && get_or m v false) → number_at ps v ≡ cond (get_or m v false) (number_at (take k source) v) 0 → number_at qs v ≡ cond (get_or m v false) (number_at (take (k + 1) source) v) 0
-masked_more k v source ps qs x m out h ex long pushed bits before =
-    ap (λ l. number_at l v) pushed ∙ number_pushed ps out v
-    ∙ ap (λ t. t + 2 ^ length ps * bit_in out v) before
-    ∙ ap (λ j. cond (get_or m v false) (number_at (take k source) v) 0 + 2 ^ j * bit_in out v) long
-    ∙ ap (λ b. cond (get_or m v false) (number_at (take k source) v) 0 + 2 ^ k * bit b) bits
-    ∙ masked_digit (2 ^ k) (number_at (take k source) v) (get_or x v false) (get_or m v false)
-    ∙ ap (λ t. cond (get_or m v false) t 0) (sym (one_more source k v x h ex))
-
 pub zero_on_top : (n v : ℕ) (ps qs : List (List Bool)) (z : List Bool) → z ≡ replicate n false → qs ≡ ps ++ z ∷ [] → number_at qs v ≡ number_at ps v
 zero_on_top n v ps qs z e pushed =
     let none : bit_in z v ≡ 0 = ap (λ l. bit_in l v) e ∙ zero_bit_in n v in
     ap (λ l. number_at l v) pushed ∙ number_pushed ps z v ∙ (let f : number_at ps v + 2 ^ length ps * bit_in z v ≡ number_at ps v = omega (arith, ap (λ t. 2 ^ length ps * t) none) in f)
 
--- what one processor shows
-one_value : (b : Bool) (L x : ℕ) → x < 2 ^ L → cond b x 0 ≡ sum_shown L (cond b (x ∷ []) [])
-one_value true L x h = sym (one_sum L x h)
-one_value false L x h = sym (none_sum L)
-
+-- what one processor brings
 pub map_cond : (b : Bool) (g : ℕ → ℕ) (v : ℕ) → map g (cond b (v ∷ []) []) ≡ cond b (g v ∷ []) []
 map_cond true g v = refl
 map_cond false g v = refl
 
 values_one : (p : ℕ → Bool) (g : ℕ → ℕ) (v : ℕ) → values_where p g (v ∷ []) ≡ cond (p v) (g v ∷ []) []
 values_one p g v = map_cond (p v) g v
-
-pub own_shown : (p : ℕ → Bool) (g : ℕ → ℕ) (L v : ℕ) → g v < 2 ^ L → cond (p v) (g v) 0 ≡ sum_shown L (values_where p g (v ∷ []))
-own_shown p g L v h = one_value (p v) L (g v) h ∙ ap (sum_shown L) (sym (values_one p g v))
 
 all_one : (P : ℕ → Type 0) (b : Bool) (x : ℕ) → P x → All P (cond b (x ∷ []) [])
 all_one P true x h = All-cons P x [] h (All-nil P)

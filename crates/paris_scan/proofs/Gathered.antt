@@ -1,5 +1,5 @@
 -- Two neighbouring blocks make one of twice the length, and the block of a whole axis is the line.
-use Rattle.std.proofs.Common.{◌≡◌, ℕ, zero, suc, ◌+◌, ◌-◌, ◌*◌, ◌/◌, ◌%◌, ◌<◌, ◌≤◌, Bool, true, false, cond, List, [], ◌∷◌, ◌++◌, append_assoc, length, map, arith, ap, ◌∙◌, sym, subst, refl, inl, inr}
+use Rattle.std.proofs.Common.{◌≡◌, ℕ, zero, suc, ◌+◌, ◌-◌, ◌*◌, ◌/◌, ◌%◌, ◌<◌, ◌≤◌, Bool, true, false, cond, List, [], ◌∷◌, ◌++◌, append_assoc, map, arith, ap, ◌∙◌, sym, refl, inl, inr}
 use Rattle.std.specs.Prelude.{All, filter}
 use Rattle.std.specs.List.{range_with_len}
 use Rattle.std.proofs.Math.Nat.{add-mul-div_left, add-mod_right, div-div-eq-div-mul, mul-pos}
@@ -10,7 +10,7 @@ use Rattle.paris_plane.specs.Digits.{digit}
 use Rattle.paris_plane.proofs.Digits.{digit-add, digit_cases}
 use Rattle.paris_plane.proofs.Exchanged.{pair_before}
 use Rattle.paris_field.proofs.Turn.{one_at_least}
-use Rattle.paris_geometry.specs.Geometry.{stride, axis_length, coordinate, at_coordinate}
+use Rattle.paris_geometry.specs.Geometry.{stride, axis_length}
 use Rattle.paris_model.specs.Lines.{values_where, line_values}
 use Rattle.paris_scan.specs.Blocks.{row, block_start, block}
 

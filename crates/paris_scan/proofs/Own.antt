@@ -1,5 +1,5 @@
 -- What processors bring to a line, and values that are turned.
-use Rattle.std.proofs.Common.{◌≡◌, ℕ, ◌-◌, ◌^◌, ◌<◌, Bool, true, false, ◌&&◌, ◌||◌, not, eqb, cond, List, [], ◌∷◌, length, map, arith, ap, ◌∙◌, sym, refl}
+use Rattle.std.proofs.Common.{◌≡◌, ℕ, ◌^◌, ◌<◌, Bool, true, false, ◌&&◌, ◌||◌, not, eqb, cond, List, [], ◌∷◌, length, map, arith, ap, ◌∙◌, sym, refl}
 use Rattle.std.specs.Prelude.{All, filter}
 use Rattle.std.proofs.Math.Nat.{mod-lt}
 use Rattle.std.proofs.lemmas.List.Elements.{All-nil, All-cons}

@@ -1,5 +1,5 @@
 -- Planes that show sums, as a field and as the plane on top.
-use Rattle.std.proofs.Common.{◌≡◌, ℕ, ◌+◌, ◌-◌, ◌<◌, Bool, Some, List, [], length, get_or, take, leb, arith, ap, ◌∙◌, sym}
+use Rattle.std.proofs.Common.{◌≡◌, ℕ, ◌+◌, ◌<◌, Bool, Some, List, length, take, arith, ap, ◌∙◌, sym}
 use Rattle.std.specs.Prelude.{Option, sum, nat_le, ◌^◌}
 use Rattle.std.proofs.lemmas.List.{length-take-le}
 use Rattle.paris_model.specs.declared.operators.Combiner.TheVariants.{Sum}

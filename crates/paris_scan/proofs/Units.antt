@@ -1,13 +1,13 @@
 -- Operators with another unit than 0, by complements, and sums.
-use Rattle.std.proofs.Common.{◌≡◌, ℕ, ◌+◌, ◌-◌, ◌*◌, ◌%◌, ◌^◌, ◌<◌, ◌≤◌, List, [], ◌∷◌, map, max, min, bit_and, arith, ap, ◌∙◌, sym, refl}
+use Rattle.std.proofs.Common.{◌≡◌, ℕ, ◌+◌, ◌-◌, ◌^◌, ◌<◌, List, [], ◌∷◌, map, bit_and, arith, ap, ◌∙◌, sym, refl}
 use Rattle.std.specs.Prelude.{All, sum}
-use Rattle.std.specs.Int.Bits.{bit_or, or_add_and, and_lt}
+use Rattle.std.specs.Int.Bits.{bit_or, or_add_and}
 use Rattle.std.proofs.Math.Nat.{mod-add-mod}
 use Rattle.std.proofs.lemmas.Nat.{and_comm, and-not}
 use Rattle.std.proofs.lemmas.List.Elements.{All-head, All-tail}
 use lib.Pow.{pow_pos}
 use Rattle.paris_model.specs.declared.operators.Combiner.{Combiner}
-use Rattle.paris_model.specs.declared.operators.Combiner.TheVariants.{Sum, BitOr, BitAnd, BitXor, Maximum, Minimum}
+use Rattle.paris_model.specs.declared.operators.Combiner.TheVariants.{Sum, BitOr, BitAnd, Maximum, Minimum}
 use Rattle.paris_model.specs.Store.{low}
 use Rattle.paris_model.specs.Combine.{combine, combined, unit}
 use Rattle.paris_model.proofs.Combining.{combined_fit}

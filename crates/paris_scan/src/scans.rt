@@ -82,8 +82,10 @@ fn scan_sums(
     requires count { length x.now.numbers ≡ processor_count along.now.geometry }
     requires selected { length selected.now ≡ processor_count along.now.geometry }
     requires segments { length segments.now ≡ processor_count along.now.geometry }
-    ensures { IfOk result (λ combined. combined ≡ record { value = combined_field Sum bits (processor_count along.now.geometry) (scanned along.now.geometry along.now.axis along.now.direction along.now.inclusion segments.now selected.now bits x.now);
-        overflow = Some (sums_overflow bits (processor_count along.now.geometry) (scanned along.now.geometry along.now.axis along.now.direction along.now.inclusion segments.now selected.now bits x.now)) }) }
+    ensures { IfOk result (λ combined. combined ≡ record {
+      value = combined_field Sum bits (processor_count along.now.geometry) (scanned along.now.geometry along.now.axis along.now.direction along.now.inclusion segments.now selected.now bits x.now);
+      overflow = Some (sums_overflow bits (processor_count along.now.geometry) (scanned along.now.geometry along.now.axis along.now.direction along.now.inclusion segments.now selected.now bits x.now));
+    }) }
 {
     let state = summed_planes(alloc, selected, x.low(bits))?;
     let planes = scan_planes::<Sums>(alloc, along, state, segments)?;

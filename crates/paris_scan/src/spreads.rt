@@ -78,8 +78,10 @@ fn spread_sums(
     requires x_width { bits ≤ x.now.width }
     requires count { length x.now.numbers ≡ processor_count geometry }
     requires selected { length selected.now ≡ processor_count geometry }
-    ensures { IfOk result (λ combined. combined ≡ record { value = combined_field Sum bits (processor_count geometry) (of_lines geometry axis selected.now bits x.now);
-        overflow = Some (sums_overflow bits (processor_count geometry) (of_lines geometry axis selected.now bits x.now)) }) }
+    ensures { IfOk result (λ combined. combined ≡ record {
+      value = combined_field Sum bits (processor_count geometry) (of_lines geometry axis selected.now bits x.now);
+      overflow = Some (sums_overflow bits (processor_count geometry) (of_lines geometry axis selected.now bits x.now));
+    }) }
 {
     let state = summed_planes(alloc, selected, x.low(bits))?;
     let planes = spread_planes::<Sums>(alloc, geometry, axis, state)?;

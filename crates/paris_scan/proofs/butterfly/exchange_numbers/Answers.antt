@@ -1,5 +1,4 @@
-use Rattle.std.proofs.Common.{◌≡◌, ◌∙◌, ◌+◌, ◌<◌, arith, length, ℕ}
-use Rattle.paris_field.specs.Numbers.{plane_at}
+use Rattle.std.proofs.Common.{◌+◌, ◌<◌, arith, length}
 use Rattle.paris_scan.proofs.Carried.{same_number}
 use Rattle.paris_scan.proofs.butterfly.exchange_numbers.Goals as goal
 

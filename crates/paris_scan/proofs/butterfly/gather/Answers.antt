@@ -1,10 +1,10 @@
-use Rattle.std.proofs.Common.{◌≡◌, ◌∙◌, ◌+◌, ◌*◌, ◌^◌, ◌<◌, ◌≤◌, ap, sym, arith, length, refl, List, ℕ, subst}
+use Rattle.std.proofs.Common.{◌≡◌, ◌∙◌, ◌+◌, ◌*◌, ◌^◌, ◌<◌, ap, sym, arith, length, refl, List, ℕ, subst}
 use Rattle.std.specs.Int.{IsPowerOfTwo}
 use Rattle.paris_plane.specs.Digits.{digit}
 use Rattle.paris_geometry.specs.Geometry.{axis_length, processor_count, stride}
 use Rattle.paris_geometry.proofs.Powers.{block_doubles, power_times, stride_power}
 use Rattle.paris_geometry.proofs.Strides.{length_positive, geometry_powers}
-use Rattle.paris_field.specs.Numbers.{AllOf, number_at}
+use Rattle.paris_field.specs.Numbers.{number_at}
 use Rattle.paris_scan.specs.Blocks.{block}
 use Rattle.paris_scan.proofs.Gathered.{Turn, block_one, gathered_twice}
 use Rattle.paris_scan.proofs.butterfly.gather.Goals as goal

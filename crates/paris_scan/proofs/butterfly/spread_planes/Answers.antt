@@ -1,5 +1,4 @@
-use Rattle.std.proofs.Common.{◌≡◌, ◌∙◌, ℕ, ◌∷◌, [], ap, length, List, Bool}
-use Rattle.paris_geometry.specs.Geometry.{axis_length, stride}
+use Rattle.std.proofs.Common.{◌∙◌, ℕ, ◌∷◌, [], ap, length, List, Bool}
 use Rattle.paris_model.specs.Lines.{values_where}
 use Rattle.paris_field.specs.Numbers.{number_at}
 use Rattle.paris_plane.proofs.Bits.{written}

@@ -1,4 +1,4 @@
-use Rattle.std.proofs.Common.{◌≡◌, ◌∙◌, ℕ, ◌||◌, ap, sym, length, eqb, get_or, false}
+use Rattle.std.proofs.Common.{◌∙◌, ℕ, ◌||◌, ap, sym, length, eqb, get_or, false}
 use Rattle.paris_geometry.specs.Geometry.{coordinate, processor_count}
 use Rattle.paris_field.proofs.Places.{length-bits_everywhere, plane_is}
 use Rattle.paris_scan.specs.Lines.{has}

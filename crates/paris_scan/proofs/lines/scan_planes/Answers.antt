@@ -1,5 +1,4 @@
-use Rattle.std.proofs.Common.{◌≡◌, ◌∙◌, ℕ, ◌+◌, ◌<◌, ◌^◌, ◌||◌, ◌++◌, cond, ap, sym, arith, length, List, Bool, true, subst, get_or, false, eqb, refl, [], ◌∷◌, take, drop}
-use Rattle.std.specs.Prelude.{All}
+use Rattle.std.proofs.Common.{◌≡◌, ◌∙◌, ℕ, ◌<◌, ap, sym, arith, length, List, Bool, subst, get_or, false, [], ◌∷◌}
 use Rattle.paris_geometry.specs.declared.direction.Direction.{Direction}
 use Rattle.paris_geometry.specs.Geometry.{axis_length, processor_count, stride}
 use Rattle.paris_model.specs.declared.operators.Inclusion.{Inclusion}
@@ -8,7 +7,7 @@ use Rattle.paris_field.specs.Numbers.{AllOf, number_at}
 use Rattle.paris_field.proofs.Places.{get_or-bits_everywhere, length-bits_everywhere}
 use Rattle.paris_plane.proofs.Bits.{written}
 use Rattle.paris_scan.specs.Lines.{has}
-use Rattle.paris_scan.specs.Runs.{Reaches, before, begins_run, run}
+use Rattle.paris_scan.specs.Runs.{Reaches, begins_run, run}
 use Rattle.paris_scan.proofs.Turns.{Walk, run_before, run_same, starts_line}
 use Rattle.paris_scan.proofs.Defined.{inclusive_run}
 use Rattle.paris_scan.proofs.Excluded.{exclusive_run}

@@ -1,4 +1,4 @@
-use Rattle.std.proofs.Common.{◌≡◌, ◌∙◌, ap, arith, length, take, ◌-◌, Some, ℕ, List, Bool, []}
+use Rattle.std.proofs.Common.{◌≡◌, ◌∙◌, ap, arith, take, ◌-◌, Some, ℕ, List, Bool, []}
 use Rattle.std.specs.Prelude.{Option}
 use Rattle.paris_model.specs.declared.operators.Combiner.TheVariants.{Sum}
 use Rattle.paris_field.specs.Numbers.{plane_at}

@@ -1,4 +1,4 @@
-use Rattle.std.proofs.Common.{◌≡◌, ◌∙◌, ◌+◌, ◌^◌, ◌<◌, ap, arith, cond, length, ℕ, List, [], ◌∷◌, Bool}
+use Rattle.std.proofs.Common.{◌≡◌, ◌∙◌, ◌+◌, ap, arith, cond, length, ℕ, List, [], ◌∷◌, Bool}
 use Rattle.std.proofs.lemmas.List.{length-append}
 use Rattle.paris_geometry.specs.Geometry.{processor_count}
 use Rattle.paris_model.specs.declared.operators.Inclusion.TheVariants.{Inclusive}

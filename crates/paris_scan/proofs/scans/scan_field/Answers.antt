@@ -1,4 +1,4 @@
-use Rattle.std.proofs.Common.{◌≡◌, ◌∙◌, ◌+◌, ap, arith, length, ℕ, List, Bool}
+use Rattle.std.proofs.Common.{◌≡◌, ◌∙◌, ap, arith, length, ℕ, List, Bool}
 use Rattle.paris_geometry.specs.Geometry.{processor_count}
 use Rattle.paris_field.specs.Fields.{operand}
 use Rattle.paris_field.specs.Numbers.{value_of_planes}

@@ -1,4 +1,4 @@
-use Rattle.std.proofs.Common.{◌≡◌, ℕ, ◌<◌, ◌≤◌, length, map, not}
+use Rattle.std.proofs.Common.{◌≡◌, ℕ, ◌<◌, ◌≤◌, map, not}
 use Rattle.paris_field.specs.Numbers.{plane_at}
 use Rattle.paris_scan.proofs.sources.invert_planes.Given as goal
 

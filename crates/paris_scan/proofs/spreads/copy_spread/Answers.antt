@@ -1,7 +1,6 @@
-use Rattle.std.proofs.Common.{◌≡◌, ◌∙◌, ◌<◌, ap, arith, cond, eqb, false, get_or, length, sym, ℕ, List, [], ◌∷◌, Bool}
+use Rattle.std.proofs.Common.{◌≡◌, ◌∙◌, ap, arith, cond, eqb, false, get_or, length, sym, ℕ, List, Bool}
 use Rattle.paris_geometry.specs.Geometry.{at_coordinate, coordinate, processor_count}
 use Rattle.paris_model.specs.Combine.{combined}
-use Rattle.paris_model.specs.Lines.{line_values}
 use Rattle.paris_model.specs.declared.operators.Combiner.TheVariants.{BitOr}
 use Rattle.paris_field.specs.Fields.{operand}
 use Rattle.paris_field.specs.Numbers.{number_at, value_of_planes}

@@ -1,12 +1,8 @@
-use Rattle.std.proofs.Common.{◌≡◌, ◌∙◌, ◌+◌, ap, arith, length, ℕ, List, Bool}
+use Rattle.std.proofs.Common.{◌≡◌, ◌∙◌, ap, arith, length, ℕ, List, Bool}
 use Rattle.paris_geometry.specs.Geometry.{processor_count}
-use Rattle.paris_model.specs.Lines.{scan_values}
-use Rattle.paris_model.specs.Store.{everywhere}
 use Rattle.paris_field.specs.Fields.{operand}
-use Rattle.paris_field.specs.Numbers.{number_at}
-use Rattle.paris_field.proofs.Places.{everywhere_same}
 use Rattle.paris_scan.specs.Lines.{has, of_lines}
-use Rattle.paris_scan.specs.Shown.{complement, complement_shown}
+use Rattle.paris_scan.specs.Shown.{complement}
 use Rattle.paris_scan.proofs.Own.{complement_fits, complement_brought, complements_are, line_mapped}
 use Rattle.paris_scan.proofs.spreads.spread_complements.Goals as goal
 

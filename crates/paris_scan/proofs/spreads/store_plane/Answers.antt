@@ -1,4 +1,4 @@
-use Rattle.std.proofs.Common.{arith, ◌<◌, ◌≡◌, ◌∙◌, ◌&&◌, ℕ, Bool, List, ap, sym, length, eqb, get_or, false}
+use Rattle.std.proofs.Common.{arith, ◌≡◌, ◌∙◌, ◌&&◌, ℕ, Bool, List, ap, sym, length, eqb, get_or, false}
 use Rattle.std.proofs.lemmas.Simd.{get_or-zip2, length-zip2}
 use Rattle.paris_geometry.specs.Geometry.{coordinate, processor_count}
 use Rattle.paris_field.proofs.Places.{length-bits_everywhere, get_or-bits_everywhere, plane_is}
