@@ -3,6 +3,7 @@
 
 mod blocks;
 mod numbers;
+mod planes;
 mod products;
 mod quotients;
 
