@@ -1,7 +1,7 @@
 -- What an elementwise instruction leaves at the keys that it writes is what is put there.
-use Rattle.std.proofs.Common.{◌≡◌, ℕ, ◌+◌, ◌-◌, ◌^◌, ◌<◌, Bool, true, false, cond, List, [], ◌∷◌, length, map, replicate, slice_index, refl, sym, ap, ◌∙◌, subst}
-use Rattle.std.specs.Prelude.{◌||◌}
-use Rattle.std.proofs.Math.Nat.{mod-mod}
+use Rattle.std.proofs.Common.{◌≡◌, ℕ, ◌+◌, ◌-◌, ◌/◌, ◌%◌, ◌^◌, ◌<◌, ◌≤◌, ◌==◌, arith, slice_index_or, Bool, true, false, cond, List, [], ◌∷◌, length, map, replicate, slice_index, refl, sym, ap, ◌∙◌, subst}
+use Rattle.std.specs.Prelude.{◌||◌, ◌&&◌, not}
+use Rattle.std.proofs.Math.Nat.{mod-mod, mod-le}
 use Rattle.std.proofs.lemmas.List.{get_or-replicate}
 use Rattle.std.proofs.lemmas.Bool.{eq-eqb}
 use Rattle.paris_names.specs.declared.keys.FlagName.{FlagName}
@@ -20,20 +20,22 @@ use Rattle.paris_model.specs.declared.actions.Operand.{Operand}
 use Rattle.paris_model.specs.declared.actions.Conditional.{Conditional}
 use Rattle.paris_model.specs.declared.actions.Conditional.TheVariants.{Binary, Unary, MoveConstant, Resize, Compare, MyCoordinate, MyAddress, SetTest, ClearTest, LoadTest, StoreTest}
 use Rattle.paris_model.specs.declared.actions.Action.TheVariants.{OnSelected}
-use Rattle.paris_model.specs.Store.{low, bit, everywhere, stored}
+use Rattle.paris_model.specs.Store.{low, put, bit, everywhere, stored}
 use Rattle.paris_model.specs.Elementwise.{binary_result, binary_flags, binary_carry, binary_overflow, unary_result, unary_flags, unary_overflow, resize_result, resize_overflow, compares}
-use Rattle.paris_model.specs.Frame.{at, low_at, field_at, flag_at, is_selected, put_selected}
+use Rattle.paris_model.specs.Frame.{at, low_at, field_at, flag_at, is_selected, put_where, put_selected}
 use Rattle.paris_model.specs.Conditional.{conditional_after, conditional_source_flags}
 use Rattle.paris_model.specs.Instructions.{reads, writes, after_plan, after_in, target_keys, source_keys, source_fields, source_flags, field_keys, flag_keys, stores_all_bits}
 use Rattle.paris_model.proofs.Stores.{everywhere-same, everywhere-at}
 use Rattle.paris_model.proofs.Worlds.{has_key-append, or_true_second, reads_sources, reads_targets}
 use Rattle.paris_field.specs.Fields.{FieldNumbers, operand}
 use Rattle.paris_field.specs.Numbers.{bits_everywhere}
+use Rattle.paris_field.proofs.Places.{get_or-bits_everywhere}
 use Rattle.paris_alu.specs.Alu.{binary_field, carry_plane, overflow_plane, unary_field, unary_overflow_plane, resized_field, resize_overflow_plane, comparison_plane}
 use Rattle.paris_exec.proofs.Executed.{flag_width}
 use Rattle.paris_exec.proofs.Puts.{flag_bit}
-use Rattle.paris_exec.specs.Planes.{flag_value}
-use Rattle.paris_exec.specs.Tasks.{Task, field_of, fields_of, frame_at, seen_at, left_values, put_value}
+use Rattle.paris_exec.specs.Made.{is_quotient}
+use Rattle.paris_exec.specs.Planes.{flag_value, is_selected_without}
+use Rattle.paris_exec.specs.Tasks.{Task, field_of, fields_of, frame_at, seen_at, left_values, put_value, put_value_where}
 
 pub or_true_first : (a b : Bool) → a ≡ true → (a || b) ≡ true
 or_true_first true b h = refl
@@ -111,11 +113,11 @@ in_order_three d s = rw (eq-eqb s s refl) refl
 
 module _ (t : Task) (i : Conditional Operand ℕ) (acts : t.plan.action ≡ OnSelected i) (d : ℕ) where
   pub left_two : (x y : FieldNumbers) → target_keys t.plan.set_no (OnSelected i) ≡ Field d ∷ Flag t.plan.set_no Overflow ∷ []
-      → put_value t (Field d) x ≡ field_of t.plan (Field d) (conditional_after (frame_at t) i (Field d))
-      → put_value t (Flag t.plan.set_no Overflow) y ≡ field_of t.plan (Flag t.plan.set_no Overflow) (conditional_after (frame_at t) i (Flag t.plan.set_no Overflow))
-      → put_value t (Field d) x ∷ put_value t (Flag t.plan.set_no Overflow) y ∷ [] ≡ left_values t
+      → x ≡ field_of t.plan (Field d) (conditional_after (frame_at t) i (Field d))
+      → y ≡ field_of t.plan (Flag t.plan.set_no Overflow) (conditional_after (frame_at t) i (Flag t.plan.set_no Overflow))
+      → x ∷ y ∷ [] ≡ left_values t
   left_two x y targets first second =
-      ap (λ z. z ∷ put_value t (Flag t.plan.set_no Overflow) y ∷ []) (first ∙ ap (field_of t.plan (Field d)) (sym (after_selected t i acts (Field d))))
+      ap (λ z. z ∷ y ∷ []) (first ∙ ap (field_of t.plan (Field d)) (sym (after_selected t i acts (Field d))))
       ∙ ap (λ z. field_of t.plan (Field d) (after_plan t.plan (seen_at t) (Field d)) ∷ z ∷ []) (second ∙ ap (field_of t.plan (Flag t.plan.set_no Overflow)) (sym (after_selected t i acts (Flag t.plan.set_no Overflow))))
       ∙ sym (left_at t i acts (Field d ∷ Flag t.plan.set_no Overflow ∷ []) (ap in_order targets ∙ in_order_two d t.plan.set_no Overflow))
 
@@ -132,36 +134,44 @@ module _ (t : Task) (i : Conditional Operand ℕ) (acts : t.plan.action ≡ OnSe
 
 -- what is put
 
--- a store looks at the low bits of the new numbers alone
-stored_low : (n : ℕ) (who : ℕ → Bool) (old : ℕ → ℕ) (L : ℕ) (f g : ℕ → ℕ) → ((v : ℕ) → v < n → low L (f v) ≡ low L (g v)) → stored n who old L f ≡ stored n who old L g
-stored_low n who old L f g same = everywhere-same n _ _ (λ v below. ap (λ x. cond (who v) (old v - low L (old v) + x) (old v)) (same v below))
+-- a store looks at its test in the processors alone, and at the low bits of the new numbers
+stored_low : (n : ℕ) (who other : ℕ → Bool) (old : ℕ → ℕ) (L : ℕ) (f g : ℕ → ℕ) → ((v : ℕ) → v < n → who v ≡ other v) → ((v : ℕ) → v < n → low L (f v) ≡ low L (g v)) → stored n who old L f ≡ stored n other old L g
+stored_low n who other old L f g tests same =
+    everywhere-same n _ _ (λ v below. ap (λ b. cond b (put (old v) (f v) L) (old v)) (tests v below) ∙ ap (λ x. cond (other v) (old v - low L (old v) + x) (old v)) (same v below))
 
 pub low_twice : (L x : ℕ) → low L (low L x) ≡ low L x
 low_twice L x = mod-mod x (2 ^ L)
 
--- the numbers of a new value are put
+-- the numbers of a new value are put where a test passes
+pub put_numbers_where : (t : Task) (who other : ℕ → Bool) (k : Key) (x : FieldNumbers) (L : ℕ) (f g : ℕ → ℕ) → x ≡ record { width = L; numbers = everywhere (processor_count t.plan.axes) f }
+    → ((v : ℕ) → v < processor_count t.plan.axes → who v ≡ other v) → ((v : ℕ) → v < processor_count t.plan.axes → low L (f v) ≡ low L (g v)) → put_value_where t who k x ≡ field_of t.plan k (put_where (frame_at t) other k L g)
+put_numbers_where t who other k x L f g is tests same =
+    ap (put_value_where t who k) is
+    ∙ ap (field_of t.plan k) (stored_low (processor_count t.plan.axes) who other (at (frame_at t) k) L _ g tests (λ v below. ap (low L) (everywhere-at (processor_count t.plan.axes) f v below) ∙ same v below))
+
+-- and by the selected processors
 pub put_numbers : (t : Task) (k : Key) (x : FieldNumbers) (L : ℕ) (f g : ℕ → ℕ) → x ≡ record { width = L; numbers = everywhere (processor_count t.plan.axes) f }
     → ((v : ℕ) → v < processor_count t.plan.axes → low L (f v) ≡ low L (g v)) → put_value t k x ≡ field_of t.plan k (put_selected (frame_at t) k L g)
-put_numbers t k x L f g is same =
-    ap (put_value t k) is
-    ∙ ap (field_of t.plan k) (stored_low (processor_count t.plan.axes) (is_selected (frame_at t)) (at (frame_at t) k) L _ g (λ v below. ap (low L) (everywhere-at (processor_count t.plan.axes) f v below) ∙ same v below))
+put_numbers t k x L f g is same = put_numbers_where t (is_selected (frame_at t)) (is_selected (frame_at t)) k x L f g is (λ v below. refl) same
 
 map_map : {A B C : Type 0} (f : A → B) (g : B → C) (xs : List A) → map g (map f xs) ≡ map (λ x. g (f x)) xs
 map_map f g [] = refl
 map_map f g (x ∷ xs) = ap (λ ys. g (f x) ∷ ys) (map_map f g xs)
 
+-- the numbers of a plane of known bits
+pub flag_numbers : (bits : List Bool) (n : ℕ) (b : ℕ → Bool) → bits ≡ bits_everywhere n b → flag_value bits ≡ record { width = 1; numbers = everywhere n (λ v. bit (b v)) }
+flag_numbers bits n b is = ap flag_value is ∙ ap (λ xs. record { width = 1; numbers = xs }) (map_map b bit (numbers_below n))
+
 -- the bits of a plane are put into a flag
 pub put_bits : (t : Task) (k : Key) (bits : List Bool) (b : ℕ → Bool) (g : ℕ → ℕ) → bits ≡ bits_everywhere (processor_count t.plan.axes) b
     → ((v : ℕ) → v < processor_count t.plan.axes → bit (b v) ≡ g v) → put_value t k (flag_value bits) ≡ field_of t.plan k (put_selected (frame_at t) k 1 g)
 put_bits t k bits b g is same =
-    put_numbers t k (flag_value bits) 1 (λ v. bit (b v)) g
-    (ap flag_value is ∙ ap (λ xs. record { width = 1; numbers = xs }) (map_map b bit (numbers_below (processor_count t.plan.axes))))
-    (λ v below. ap (low 1) (same v below))
+    put_numbers t k (flag_value bits) 1 (λ v. bit (b v)) g (flag_numbers bits (processor_count t.plan.axes) b is) (λ v below. ap (low 1) (same v below))
 
 -- operators of two sources
 
--- no operator that sets carry and overflow looks at the destination
-old_ignored : (op : BinaryOperator) (L x y c o : ℕ) → binary_flags op ≡ Carry ∷ Overflow ∷ [] → binary_result op L x y c 0 ≡ binary_result op L x y c o
+-- no operator but a quotient looks at the destination
+old_ignored : (op : BinaryOperator) (L x y c o : ℕ) → is_quotient op ≡ false → binary_result op L x y c 0 ≡ binary_result op L x y c o
 old_ignored UnsignedAdd L x y c o e = refl
 old_ignored UnsignedAddCarry L x y c o e = refl
 old_ignored UnsignedSubtract L x y c o e = refl
@@ -169,30 +179,45 @@ old_ignored SignedAdd L x y c o e = refl
 old_ignored SignedSubtract L x y c o e = refl
 old_ignored UnsignedMultiply L x y c o e = refl
 old_ignored SignedMultiply L x y c o e = refl
-old_ignored Truncate L x y c o e = absurd (let f : Overflow ∷ [] ≡ Carry ∷ Overflow ∷ [] = e in cc)
-old_ignored Remainder L x y c o e = absurd (let f : Overflow ∷ [] ≡ Carry ∷ Overflow ∷ [] = e in cc)
+old_ignored Truncate L x y c o e = absurd (let f : true ≡ false = e in cc)
+old_ignored Remainder L x y c o e = absurd (let f : true ≡ false = e in cc)
 old_ignored (Maximum sign) L x y c o e = refl
 old_ignored (Minimum sign) L x y c o e = refl
 old_ignored BitAnd L x y c o e = refl
 old_ignored BitOr L x y c o e = refl
 old_ignored BitXor L x y c o e = refl
 
--- and none that sets no flag looks at the carry flag
-flags_ignored : (op : BinaryOperator) (L x y c o : ℕ) → binary_flags op ≡ [] → binary_result op L x y 0 0 ≡ binary_result op L x y c o
-flags_ignored (Maximum sign) L x y c o e = refl
-flags_ignored (Minimum sign) L x y c o e = refl
-flags_ignored BitAnd L x y c o e = refl
-flags_ignored BitOr L x y c o e = refl
-flags_ignored BitXor L x y c o e = refl
-flags_ignored UnsignedMultiply L x y c o e = refl
-flags_ignored SignedMultiply L x y c o e = refl
-flags_ignored UnsignedAdd L x y c o e = refl
-flags_ignored UnsignedAddCarry L x y c o e = absurd (let f : Carry ∷ Overflow ∷ [] ≡ [] = e in cc)
-flags_ignored UnsignedSubtract L x y c o e = refl
-flags_ignored SignedAdd L x y c o e = refl
-flags_ignored SignedSubtract L x y c o e = refl
-flags_ignored Truncate L x y c o e = absurd (let f : Overflow ∷ [] ≡ [] = e in cc)
-flags_ignored Remainder L x y c o e = absurd (let f : Overflow ∷ [] ≡ [] = e in cc)
+kept_where : (b : Bool) (o q : ℕ) → cond b o q ≡ cond b o (cond b 0 q)
+kept_where true o q = refl
+kept_where false o q = refl
+
+-- a quotient keeps it where it overflows
+old_kept : (op : BinaryOperator) (L x y c o : ℕ) → is_quotient op ≡ true → binary_result op L x y c o ≡ cond (binary_overflow op L x y c) o (binary_result op L x y c 0)
+old_kept UnsignedAdd L x y c o e = absurd (let f : false ≡ true = e in cc)
+old_kept UnsignedAddCarry L x y c o e = absurd (let f : false ≡ true = e in cc)
+old_kept UnsignedSubtract L x y c o e = absurd (let f : false ≡ true = e in cc)
+old_kept SignedAdd L x y c o e = absurd (let f : false ≡ true = e in cc)
+old_kept SignedSubtract L x y c o e = absurd (let f : false ≡ true = e in cc)
+old_kept UnsignedMultiply L x y c o e = absurd (let f : false ≡ true = e in cc)
+old_kept SignedMultiply L x y c o e = absurd (let f : false ≡ true = e in cc)
+old_kept Truncate L x y c o e = kept_where (y == 0) o (x / y)
+old_kept Remainder L x y c o e = kept_where (y == 0) o (x % y)
+old_kept (Maximum sign) L x y c o e = absurd (let f : false ≡ true = e in cc)
+old_kept (Minimum sign) L x y c o e = absurd (let f : false ≡ true = e in cc)
+old_kept BitAnd L x y c o e = absurd (let f : false ≡ true = e in cc)
+old_kept BitOr L x y c o e = absurd (let f : false ≡ true = e in cc)
+old_kept BitXor L x y c o e = absurd (let f : false ≡ true = e in cc)
+
+-- a number put over itself
+put_same : (old L : ℕ) → put old old L ≡ old
+put_same old L = (let part : low L old ≤ old = mod-le old (2 ^ L) in omega (arith, part))
+
+-- so storing the quotient where there is one is storing it or what was there
+kept_put : (overflows selected : Bool) (old q L : ℕ) → cond (not overflows && selected) (put old (low L q) L) old ≡ cond selected (put old (cond overflows old q) L) old
+kept_put true true old q L = sym (put_same old L)
+kept_put true false old q L = refl
+kept_put false true old q L = ap (λ x. old - low L old + x) (low_twice L q)
+kept_put false false old q L = refl
 
 -- the low bits of a source are those that the definitions see
 pub operand_is : (t : Task) (A : Operand) (x : FieldNumbers) (L v : ℕ) → x ≡ field_of t.plan (Field A.field) (seen_at t (Field A.field)) → operand L x v ≡ low_at (frame_at t) A L v
@@ -206,32 +231,75 @@ module _ (t : Task) (op : BinaryOperator) (D A B : Operand) (L : ℕ) (acts : t.
   abbrev carry_seen : ℕ → ℕ
   carry_seen = slice_index (seen_at t (Flag t.plan.set_no Carry))
 
-  abbrev made : (ℕ → ℕ) → ℕ → ℕ
-  made carry v = low L (binary_result op L (operand L x v) (operand L y v) (carry v) 0)
+  abbrev made : ℕ → ℕ
+  made v = low L (binary_result op L (operand L x v) (operand L y v) (carry_seen v) 0)
 
-  pub sum_left : (value : FieldNumbers) (carry overflow : List Bool) → binary_flags op ≡ Carry ∷ Overflow ∷ []
+  abbrev overflows : ℕ → Bool
+  overflows v = binary_overflow op L (operand L x v) (operand L y v) (carry_seen v)
+
+  made_numbers : (value : FieldNumbers) → value ≡ binary_field op L x y (slice_index (seen_at t (Flag t.plan.set_no Carry))) → value ≡ record { width = L; numbers = everywhere (processor_count t.plan.axes) made }
+  made_numbers value is = subst (λ n. value ≡ record { width = L; numbers = everywhere n made }) count is
+
+  overflow_bits : (overflow : List Bool) → overflow ≡ overflow_plane op L x y (slice_index (seen_at t (Flag t.plan.set_no Carry))) → overflow ≡ bits_everywhere (processor_count t.plan.axes) overflows
+  overflow_bits overflow is = subst (λ n. overflow ≡ bits_everywhere n overflows) count is
+
+  result_put : (value : FieldNumbers) → is_quotient op ≡ false → value ≡ binary_field op L x y (slice_index (seen_at t (Flag t.plan.set_no Carry)))
+      → put_value t (Field D.field) value ≡ field_of t.plan (Field D.field) (conditional_after (frame_at t) (Binary op D A B L) (Field D.field))
+  result_put value exact is =
+      put_numbers t (Field D.field) value L made (λ v. binary_result op L (low_at (frame_at t) A L v) (low_at (frame_at t) B L v) (flag_at (frame_at t) Carry v) (field_at (frame_at t) D v)) (made_numbers value is)
+      (λ v below. low_twice L _ ∙ ap (low L) (old_ignored op L _ _ _ (field_at (frame_at t) D v) exact ∙ rw (operand_is t A x L v x_is, operand_is t B y L v y_is) refl))
+
+  overflow_put : (overflow : List Bool) → overflow ≡ overflow_plane op L x y (slice_index (seen_at t (Flag t.plan.set_no Carry)))
+      → put_value t (Flag t.plan.set_no Overflow) (flag_value overflow) ≡ field_of t.plan (Flag t.plan.set_no Overflow) (conditional_after (frame_at t) (Binary op D A B L) (Flag t.plan.set_no Overflow))
+  overflow_put overflow is =
+      put_bits t (Flag t.plan.set_no Overflow) overflow overflows (λ v. bit (binary_overflow op L (low_at (frame_at t) A L v) (low_at (frame_at t) B L v) (flag_at (frame_at t) Carry v))) (overflow_bits overflow is)
+      (λ v below. rw (operand_is t A x L v x_is, operand_is t B y L v y_is) refl)
+
+  pub sum_left : (value : FieldNumbers) (carry overflow : List Bool) → binary_flags op ≡ Carry ∷ Overflow ∷ [] → is_quotient op ≡ false
       → value ≡ binary_field op L x y (slice_index (seen_at t (Flag t.plan.set_no Carry)))
       → carry ≡ carry_plane op L x y (slice_index (seen_at t (Flag t.plan.set_no Carry)))
       → overflow ≡ overflow_plane op L x y (slice_index (seen_at t (Flag t.plan.set_no Carry)))
       → put_value t (Field D.field) value ∷ put_value t (Flag t.plan.set_no Carry) (flag_value carry) ∷ put_value t (Flag t.plan.set_no Overflow) (flag_value overflow) ∷ [] ≡ left_values t
-  sum_left value carry overflow flags value_is carry_is overflow_is =
+  sum_left value carry overflow flags exact value_is carry_is overflow_is =
       left_three t (Binary op D A B L) acts D.field value (flag_value carry) (flag_value overflow) (targets_of (Carry ∷ Overflow ∷ []) flags)
-      (put_numbers t (Field D.field) value L (made carry_seen) (λ v. binary_result op L (low_at (frame_at t) A L v) (low_at (frame_at t) B L v) (flag_at (frame_at t) Carry v) (field_at (frame_at t) D v))
-      (subst (λ n. value ≡ record { width = L; numbers = everywhere n (made carry_seen) }) count value_is)
-      (λ v below. low_twice L _ ∙ ap (low L) (old_ignored op L _ _ _ (field_at (frame_at t) D v) flags ∙ rw (operand_is t A x L v x_is, operand_is t B y L v y_is) refl)))
+      (result_put value exact value_is)
       (put_bits t (Flag t.plan.set_no Carry) carry (λ v. binary_carry op L (operand L x v) (operand L y v) (carry_seen v)) (λ v. bit (binary_carry op L (low_at (frame_at t) A L v) (low_at (frame_at t) B L v) (flag_at (frame_at t) Carry v)))
       (subst (λ n. carry ≡ bits_everywhere n (λ v. binary_carry op L (operand L x v) (operand L y v) (carry_seen v))) count carry_is)
       (λ v below. rw (operand_is t A x L v x_is, operand_is t B y L v y_is) refl))
-      (put_bits t (Flag t.plan.set_no Overflow) overflow (λ v. binary_overflow op L (operand L x v) (operand L y v) (carry_seen v)) (λ v. bit (binary_overflow op L (low_at (frame_at t) A L v) (low_at (frame_at t) B L v) (flag_at (frame_at t) Carry v)))
-      (subst (λ n. overflow ≡ bits_everywhere n (λ v. binary_overflow op L (operand L x v) (operand L y v) (carry_seen v))) count overflow_is)
-      (λ v below. rw (operand_is t A x L v x_is, operand_is t B y L v y_is) refl))
+      (overflow_put overflow overflow_is)
 
-  pub flagless_left : (value : FieldNumbers) → binary_flags op ≡ [] → value ≡ binary_field op L x y (λ _. 0) → put_value t (Field D.field) value ∷ [] ≡ left_values t
-  flagless_left value flags value_is =
-      left_one t (Binary op D A B L) acts (Field D.field) value (targets_of [] flags)
-      (put_numbers t (Field D.field) value L (made (λ _. 0)) (λ v. binary_result op L (low_at (frame_at t) A L v) (low_at (frame_at t) B L v) (flag_at (frame_at t) Carry v) (field_at (frame_at t) D v))
-      (subst (λ n. value ≡ record { width = L; numbers = everywhere n (made (λ _. 0)) }) count value_is)
-      (λ v below. low_twice L _ ∙ ap (low L) (flags_ignored op L _ _ (flag_at (frame_at t) Carry v) (field_at (frame_at t) D v) flags ∙ rw (operand_is t A x L v x_is, operand_is t B y L v y_is) refl)))
+  pub product_left : (value : FieldNumbers) (overflow : List Bool) → binary_flags op ≡ Overflow ∷ [] → is_quotient op ≡ false
+      → value ≡ binary_field op L x y (slice_index (seen_at t (Flag t.plan.set_no Carry)))
+      → overflow ≡ overflow_plane op L x y (slice_index (seen_at t (Flag t.plan.set_no Carry)))
+      → put_value t (Field D.field) value ∷ put_value t (Flag t.plan.set_no Overflow) (flag_value overflow) ∷ [] ≡ left_values t
+  product_left value overflow flags exact value_is overflow_is =
+      left_two t (Binary op D A B L) acts D.field (put_value t (Field D.field) value) (put_value t (Flag t.plan.set_no Overflow) (flag_value overflow)) (targets_of (Overflow ∷ []) flags)
+      (result_put value exact value_is) (overflow_put overflow overflow_is)
+
+  quotient_put : (value : FieldNumbers) (overflow : List Bool) → is_quotient op ≡ true
+      → value ≡ binary_field op L x y (slice_index (seen_at t (Flag t.plan.set_no Carry)))
+      → overflow ≡ overflow_plane op L x y (slice_index (seen_at t (Flag t.plan.set_no Carry)))
+      → put_value_where t (is_selected_without t overflow) (Field D.field) value ≡ field_of t.plan (Field D.field) (conditional_after (frame_at t) (Binary op D A B L) (Field D.field))
+  quotient_put value overflow divides value_is overflow_is =
+      ap (put_value_where t (is_selected_without t overflow) (Field D.field)) (made_numbers value value_is)
+      ∙ ap (field_of t.plan (Field D.field)) (everywhere-same (processor_count t.plan.axes) _ _ (λ v below.
+      ap (λ b. cond (not b && is_selected (frame_at t) v) (put (field_at (frame_at t) D v) (slice_index (everywhere (processor_count t.plan.axes) made) v) L) (field_at (frame_at t) D v))
+      (ap (λ bs. slice_index_or bs v false) (overflow_bits overflow overflow_is) ∙ get_or-bits_everywhere (processor_count t.plan.axes) overflows v below)
+      ∙ ap (λ z. cond (not (overflows v) && is_selected (frame_at t) v) (put (field_at (frame_at t) D v) z L) (field_at (frame_at t) D v)) (everywhere-at (processor_count t.plan.axes) made v below)
+      ∙ kept_put (overflows v) (is_selected (frame_at t) v) (field_at (frame_at t) D v) (binary_result op L (operand L x v) (operand L y v) (carry_seen v) 0) L
+      ∙ ap (λ z. cond (is_selected (frame_at t) v) (put (field_at (frame_at t) D v) z L) (field_at (frame_at t) D v))
+      (sym (old_kept op L (operand L x v) (operand L y v) (carry_seen v) (field_at (frame_at t) D v) divides) ∙ rw (operand_is t A x L v x_is, operand_is t B y L v y_is) refl)))
+
+  pub quotient_left : (value : FieldNumbers) (overflow : List Bool) → binary_flags op ≡ Overflow ∷ [] → is_quotient op ≡ true
+      → value ≡ binary_field op L x y (slice_index (seen_at t (Flag t.plan.set_no Carry)))
+      → overflow ≡ overflow_plane op L x y (slice_index (seen_at t (Flag t.plan.set_no Carry)))
+      → put_value_where t (is_selected_without t overflow) (Field D.field) value ∷ put_value t (Flag t.plan.set_no Overflow) (flag_value overflow) ∷ [] ≡ left_values t
+  quotient_left value overflow flags divides value_is overflow_is =
+      left_two t (Binary op D A B L) acts D.field (put_value_where t (is_selected_without t overflow) (Field D.field) value) (put_value t (Flag t.plan.set_no Overflow) (flag_value overflow)) (targets_of (Overflow ∷ []) flags)
+      (quotient_put value overflow divides value_is overflow_is) (overflow_put overflow overflow_is)
+
+  pub flagless_left : (value : FieldNumbers) → binary_flags op ≡ [] → is_quotient op ≡ false → value ≡ binary_field op L x y (slice_index (seen_at t (Flag t.plan.set_no Carry))) → put_value t (Field D.field) value ∷ [] ≡ left_values t
+  flagless_left value flags exact value_is = left_one t (Binary op D A B L) acts (Field D.field) value (targets_of [] flags) (result_put value exact value_is)
 
 -- operators of one source
 module _ (t : Task) (op : UnaryOperator) (D A : Operand) (L : ℕ) (acts : t.plan.action ≡ OnSelected (Unary op D A L)) (x : FieldNumbers) (x_is : x ≡ field_of t.plan (Field A.field) (seen_at t (Field A.field)))
@@ -248,7 +316,7 @@ module _ (t : Task) (op : UnaryOperator) (D A : Operand) (L : ℕ) (acts : t.pla
   pub unary_overflow_left : (overflow : List Bool) → unary_flags op ≡ Overflow ∷ [] → overflow ≡ unary_overflow_plane op L x
       → put_value t (Field D.field) value ∷ put_value t (Flag t.plan.set_no Overflow) (flag_value overflow) ∷ [] ≡ left_values t
   unary_overflow_left overflow flags overflow_is =
-      left_two t (Unary op D A L) acts D.field value (flag_value overflow) (ap (λ fs. Field D.field ∷ flag_keys t.plan.set_no fs) flags) unary_put
+      left_two t (Unary op D A L) acts D.field (put_value t (Field D.field) value) (put_value t (Flag t.plan.set_no Overflow) (flag_value overflow)) (ap (λ fs. Field D.field ∷ flag_keys t.plan.set_no fs) flags) unary_put
       (put_bits t (Flag t.plan.set_no Overflow) overflow (λ v. unary_overflow op L (operand L x v)) (λ v. bit (unary_overflow op L (low_at (frame_at t) A L v)))
       (subst (λ n. overflow ≡ bits_everywhere n (λ v. unary_overflow op L (operand L x v))) count overflow_is)
       (λ v below. rw (operand_is t A x L v x_is) refl))
@@ -258,7 +326,7 @@ pub resize_left : (t : Task) (sign : Sign) (D A : Operand) (L M : ℕ) (acts : t
     (count : length x.numbers ≡ processor_count t.plan.axes) (value : FieldNumbers) (overflow : List Bool) → value ≡ resized_field sign L M x → overflow ≡ resize_overflow_plane sign L M x
     → put_value t (Field D.field) value ∷ put_value t (Flag t.plan.set_no Overflow) (flag_value overflow) ∷ [] ≡ left_values t
 resize_left t sign D A L M acts x x_is count value overflow value_is overflow_is =
-    left_two t (Resize sign D A L M) acts D.field value (flag_value overflow) refl
+    left_two t (Resize sign D A L M) acts D.field (put_value t (Field D.field) value) (put_value t (Flag t.plan.set_no Overflow) (flag_value overflow)) refl
     (put_numbers t (Field D.field) value L (λ v. resize_result sign L M (operand M x v)) (λ v. resize_result sign L M (low_at (frame_at t) A M v))
     (subst (λ n. value ≡ record { width = L; numbers = everywhere n (λ v. resize_result sign L M (operand M x v)) }) count value_is)
     (λ v below. rw (operand_is t A x M v x_is) refl))
@@ -281,7 +349,7 @@ compare_left_is t op A B L acts x y x_is y_is count bits bits_are =
 -- a list of numbers is put
 put_list : (t : Task) (k : Key) (L : ℕ) (xs : List ℕ) (g : ℕ → ℕ) → ((v : ℕ) → v < processor_count t.plan.axes → slice_index xs v ≡ g v)
     → put_value t k (record { width = L; numbers = xs }) ≡ field_of t.plan k (put_selected (frame_at t) k L g)
-put_list t k L xs g same = ap (field_of t.plan k) (stored_low (processor_count t.plan.axes) (is_selected (frame_at t)) (at (frame_at t) k) L (slice_index xs) g (λ v below. ap (low L) (same v below)))
+put_list t k L xs g same = ap (field_of t.plan k) (stored_low (processor_count t.plan.axes) (is_selected (frame_at t)) (is_selected (frame_at t)) (at (frame_at t) k) L (slice_index xs) g (λ v below. refl) (λ v below. ap (low L) (same v below)))
 
 pub constant_left : (t : Task) (D : Operand) (K L : ℕ) (acts : t.plan.action ≡ OnSelected (MoveConstant D K L)) (x : FieldNumbers) → x ≡ record { width = L; numbers = replicate (processor_count t.plan.axes) K }
     → put_value t (Field D.field) x ∷ [] ≡ left_values t

@@ -1,8 +1,11 @@
+pub mod AlongLines
 pub mod Besides
+pub mod ByMail
 pub mod Executed
 pub mod Frames
 pub mod InEvery
 pub mod Left
+pub mod Neighbours
 pub mod Operands
 pub mod Puts
 pub mod Addresses

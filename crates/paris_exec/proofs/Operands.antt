@@ -1,8 +1,8 @@
 -- The operands of an elementwise instruction are read, and are as wide as its lengths say.
-use Rattle.std.proofs.Common.{◌≡◌, ℕ, ◌<◌, ◌≤◌, ◌==◌, Bool, true, false, cond, List, [], ◌∷◌, length, refl, sym, ap, ◌∙◌, subst, arith, Option, Some, Result, Ok, Err}
-use Rattle.std.specs.Prelude.{IfSome, IfOk, ◌||◌, ◌&&◌, nat_lt, nat_le}
+use Rattle.std.proofs.Common.{◌≡◌, ℕ, ◌<◌, ◌≤◌, ◌==◌, Bool, true, false, cond, List, [], ◌∷◌, length, refl, sym, ap, ◌∙◌, subst, arith, Result, Ok, Err}
+use Rattle.std.specs.Prelude.{IfOk, ◌||◌, ◌&&◌, nat_lt, nat_le}
 use Rattle.std.specs.List.{list_all}
-use Rattle.std.proofs.lemmas.Bool.{eq-eqb, ltb-false}
+use Rattle.std.proofs.lemmas.Bool.{eq-eqb, ltb-false, and_parts}
 use Rattle.std.proofs.lemmas.Bool.Decides.{nat_tests}
 use Rattle.std.proofs.lemmas.List.FromFn.{length-map-range_with_len}
 use Rattle.paris_names.specs.declared.keys.FlagName.{FlagName}
@@ -34,8 +34,8 @@ use Rattle.paris_exec.proofs.Executed.{key_narrow}
 use Rattle.paris_exec.proofs.Left.{first_key, or_true_first, read_source, read_target, read_context}
 
 -- what holds of a value that is there
-pub if_some : {X : Type 0} {o : Option X} {x : X} (P : X → Type 0) → o ≡ Some x → IfSome o P → P x
-if_some P e h = subst (λ z. IfSome z P) e h
+pub if_ok : {X E : Type 0} {r : Result X E} {x : X} (P : X → Type 0) → r ≡ Ok x → IfOk r P → P x
+if_ok P e h = subst (λ z. IfOk z P) e h
 
 pub ok_then : {X E : Type 0} (P Q : X → Type 0) (r : Result X E) → ((x : X) → P x → Q x) → IfOk r P → IfOk r Q
 ok_then P Q (Ok x) f h = f x h
@@ -140,6 +140,9 @@ module _ (t : Task) (op : BinaryOperator) (D A B : Operand) (L : ℕ) (acts : t.
     (carry_read e, (read_target t (Binary op D A B L) acts (Flag t.plan.set_no Overflow) (overflow_target e), (read_context t (Binary op D A B L) acts, tt))),
   )
 
+  pub product_read : binary_flags op ≡ Overflow ∷ [] → AreRead t (Field D.field ∷ Flag t.plan.set_no Overflow ∷ Flag t.plan.set_no Context ∷ [])
+  product_read e = overflow_read t (Binary op D A B L) acts D.field (ap (λ fs. Field D.field ∷ flag_keys t.plan.set_no fs) e)
+
   pub flagless_read : AreRead t (Field D.field ∷ Flag t.plan.set_no Context ∷ [])
   flagless_read = field_read t (Binary op D A B L) acts D.field (flag_keys t.plan.set_no (binary_flags op)) refl
 
@@ -199,6 +202,13 @@ module _ (t : Task) (op : UnaryOperator) (D A : Operand) (L : ℕ) (acts : t.pla
         let from = (good_length L A (or_false_second (is_bad_length L D) (is_bad_length L A) unary_bad)).1 in
         key_wide t (Unary op D A L) acts A.field L (among (D ∷ A ∷ []) A.field L (to, (from, tt)) (or_true_second (D.field == A.field) (has_field (A ∷ []) A.field) (same_field A false)))
 
+narrow_second : (D A : Operand) → list_all (λ (o : Operand). nat_lt 0 o.width && nat_le o.width 64) (D ∷ A ∷ []) ≡ true → A.width ≤ 64
+narrow_second D A h =
+    let second = (and_parts (nat_lt 0 D.width && nat_le D.width 64) (list_all (λ (o : Operand). nat_lt 0 o.width && nat_le o.width 64) (A ∷ [])) h).1 in
+    let own = (and_parts (nat_lt 0 A.width && nat_le A.width 64) true second).0 in
+    let most : nat_le A.width 64 ≡ true = (and_parts (nat_lt 0 A.width) (nat_le A.width 64) own).1 in
+    grind (arith, nat_tests)
+
 module _ (t : Task) (sign : Sign) (D A : Operand) (L M : ℕ) (acts : t.plan.action ≡ OnSelected (Resize sign D A L M)) where
   pub resize_source : has_key (reads t.plan) (Field A.field) ≡ true
   resize_source = read_source t (Resize sign D A L M) acts (Field A.field) (first_key (Field A.field) (Flag t.plan.set_no Context ∷ []))
@@ -210,6 +220,16 @@ module _ (t : Task) (sign : Sign) (D A : Operand) (L M : ℕ) (acts : t.plan.act
   resize_to fit =
       let bad : (is_bad_length L D || is_bad_length M A) ≡ false = lengths_fit t (Resize sign D A L M) acts fit in
       key_wide t (Resize sign D A L M) acts D.field L (first_wide D (A ∷ []) L (good_length L D (or_false_first (is_bad_length L D) (is_bad_length M A) bad)).1)
+
+  -- the source's length is that of a field at most
+  pub resize_lengths : IsFit t.plan.axes t.plan.action → (0 < L) × (0 < M) × (M ≤ 128)
+  resize_lengths fit =
+      let bad : (is_bad_length L D || is_bad_length M A) ≡ false = lengths_fit t (Resize sign D A L M) acts fit in
+      let from = good_length M A (or_false_second (is_bad_length L D) (is_bad_length M A) bad) in
+      let widths : list_all (λ (o : Operand). nat_lt 0 o.width && nat_le o.width 64) (D ∷ A ∷ []) ≡ true = sym (ap have_field_widths acts) ∙ fit.widths in
+      let most : A.width ≤ 64 = narrow_second D A widths in
+      let longest : M ≤ A.width = from.1 in
+      ((good_length L D (or_false_first (is_bad_length L D) (is_bad_length M A) bad)).0, from.0, (let m : M ≤ 128 = omega (arith, longest, most) in m))
 
 module _ (t : Task) (op : Comparison) (A B : Operand) (L : ℕ) (acts : t.plan.action ≡ OnSelected (Compare op A B L)) where
   pub compare_left_read : has_key (reads t.plan) (Field A.field) ≡ true

@@ -1,9 +1,11 @@
 -- What is put into a key by planes is what the definitions put there.
-use Rattle.std.proofs.Common.{◌≡◌, ℕ, zero, suc, ◌<◌, ◌==◌, Bool, true, false, cond, List, [], ◌∷◌, length, map, slice_index, slice_index_or, refl, sym, ap, ◌∙◌, subst, if◌then◌else◌, arith, ◌^◌, ◌%◌}
-use Rattle.std.specs.Prelude.{not}
+use Rattle.std.proofs.Common.{◌≡◌, ℕ, zero, suc, ◌<◌, ◌==◌, Bool, true, false, cond, List, [], ◌∷◌, length, map, replicate, slice_index, slice_index_or, refl, sym, ap, ◌∙◌, subst, if◌then◌else◌, arith, ◌^◌, ◌%◌}
+use Rattle.std.specs.Prelude.{not, ◌&&◌}
+use Rattle.std.specs.Simd.Lanes.{zip2}
 use Rattle.std.proofs.Math.Nat.{mod-eq_of_lt}
 use Rattle.std.proofs.lemmas.List.Elements.{All-get_or}
-use Rattle.std.proofs.lemmas.List.{length-map}
+use Rattle.std.proofs.lemmas.List.{length-map, length-replicate, get_or-replicate}
+use lib.Pow.{pow_pos}
 use Rattle.std.proofs.lemmas.List.FromFn.{fill_by_all}
 use Rattle.paris_names.specs.declared.keys.FlagName.TheVariants.{Context}
 use Rattle.paris_names.specs.declared.keys.Key.{Key}
@@ -18,8 +20,9 @@ use Rattle.paris_field.specs.Fields.{FieldNumbers, AllFit}
 use Rattle.paris_field.specs.Numbers.{bit_in, number_at}
 use Rattle.paris_flags.specs.declared.steps.TestStep.TheVariants.{Load}
 use Rattle.paris_flags.specs.Steps.{test_bit}
-use Rattle.paris_exec.specs.Planes.{flag_value}
-use Rattle.paris_exec.specs.Tasks.{Task, field_of, seen_at, put_value}
+use Rattle.paris_model.specs.Frame.{is_selected}
+use Rattle.paris_exec.specs.Planes.{flag_value, is_selected_without}
+use Rattle.paris_exec.specs.Tasks.{Task, field_of, frame_at, seen_at, put_value, put_value_where}
 
 -- a flag's number is 1 where its bit is
 pub selected_bit : (mask : List Bool) (v : ℕ) → (slice_index (map bit mask) v == 1) ≡ slice_index_or mask v false
@@ -33,17 +36,46 @@ flag_bit [] v = refl
 flag_bit (b ∷ bs) zero = refl
 flag_bit (b ∷ bs) (suc v) = flag_bit bs v
 
--- a store under the context's plane is a store by the selected processors
-pub put_is : (t : Task) (k : Key) (x new value : FieldNumbers) (mask : List Bool) (f : ℕ → ℕ) → x ≡ field_of t.plan k (seen_at t k) → length x.numbers ≡ processor_count t.plan.axes
-    → map bit mask ≡ seen_at t (Flag t.plan.set_no Context) → ((v : ℕ) → v < processor_count t.plan.axes → f v ≡ slice_index new.numbers v) → value.width ≡ x.width
-    → value.numbers ≡ stored (length x.numbers) (λ v. slice_index_or mask v false) (slice_index x.numbers) new.width f → value ≡ put_value t k new
-put_is t k x new value mask f x_is count mask_is f_is width_is numbers_are =
-    let wide : value.width ≡ (put_value t k new).width = width_is ∙ ap (λ (y : FieldNumbers). y.width) x_is in
-    let same : value.numbers ≡ (put_value t k new).numbers =
+-- the processors of the context's plane are the selected ones
+pub mask_selects : (t : Task) (mask : List Bool) → map bit mask ≡ seen_at t (Flag t.plan.set_no Context) → (λ v. slice_index_or mask v false) ≡ is_selected (frame_at t)
+mask_selects t mask e = (λ i v. sym (selected_bit mask v) i) ∙ ap {B = ℕ → Bool} (λ xs v. slice_index xs v == 1) e
+
+-- numbers that are stored where a test passes
+pub put_is : (t : Task) (k : Key) (x new value : FieldNumbers) (who : ℕ → Bool) (f : ℕ → ℕ) → x ≡ field_of t.plan k (seen_at t k) → length x.numbers ≡ processor_count t.plan.axes
+    → ((v : ℕ) → v < processor_count t.plan.axes → f v ≡ slice_index new.numbers v) → value.width ≡ x.width
+    → value.numbers ≡ stored (length x.numbers) who (slice_index x.numbers) new.width f → value ≡ put_value_where t who k new
+put_is t k x new value who f x_is count f_is width_is numbers_are =
+    let wide : value.width ≡ (put_value_where t who k new).width = width_is ∙ ap (λ (y : FieldNumbers). y.width) x_is in
+    let same : value.numbers ≡ (put_value_where t who k new).numbers =
     numbers_are
-    ∙ ap (λ n. stored n (λ v. slice_index_or mask v false) (slice_index x.numbers) new.width f) count
-    ∙ everywhere-same (processor_count t.plan.axes) _ _ (λ v below. rw (← selected_bit mask v, mask_is, f_is v below, x_is) refl) in
+    ∙ ap (λ n. stored n who (slice_index x.numbers) new.width f) count
+    ∙ everywhere-same (processor_count t.plan.axes) _ _ (λ v below. rw (f_is v below, x_is) refl) in
     (λ i. record { width = wide i; numbers = same i })
+
+-- a store hangs on its test in the processors alone
+pub where_same : (t : Task) (k : Key) (new : FieldNumbers) (who other : ℕ → Bool) → ((v : ℕ) → v < processor_count t.plan.axes → who v ≡ other v) → put_value_where t who k new ≡ put_value_where t other k new
+where_same t k new who other same =
+    ap (field_of t.plan k) (everywhere-same (processor_count t.plan.axes) _ _ (λ v below.
+    ap (λ b. if b then put (slice_index (seen_at t k) v) (slice_index new.numbers v) new.width else slice_index (seen_at t k) v) (same v below)))
+
+without_at : (flags mask : List Bool) (v : ℕ) → v < length flags → length flags ≡ length mask → slice_index_or (zip2 (λ a b. a && b) (map not flags) mask) v false ≡ (not (slice_index_or flags v false) && slice_index_or mask v false)
+without_at [] mask v h e = absurd (omega (arith, h))
+without_at (b ∷ bs) [] v h e = absurd (omega (arith, e))
+without_at (b ∷ bs) (m ∷ ms) zero h e = refl
+without_at (b ∷ bs) (m ∷ ms) (suc v) h e = without_at bs ms v (omega (arith, h)) (omega (arith, e))
+
+pub length-without : (flags mask : List Bool) → length flags ≡ length mask → length (zip2 (λ a b. a && b) (map not flags) mask) ≡ length flags
+length-without [] mask e = refl
+length-without (b ∷ bs) [] e = absurd (omega (arith, e))
+length-without (b ∷ bs) (m ∷ ms) e = ap suc (length-without bs ms (omega (arith, e)))
+
+-- a store where flags aren't set, by the selected processors
+pub put_without : (t : Task) (k : Key) (new : FieldNumbers) (flags mask : List Bool) → length flags ≡ processor_count t.plan.axes → length mask ≡ processor_count t.plan.axes → map bit mask ≡ seen_at t (Flag t.plan.set_no Context)
+    → put_value_where t (λ v. slice_index_or (zip2 (λ a b. a && b) (map not flags) mask) v false) k new ≡ put_value_where t (is_selected_without t flags) k new
+put_without t k new flags mask long count mask_is =
+    where_same t k new _ _ (λ v below.
+    without_at flags mask v (subst (λ n. v < n) (sym long) below) (long ∙ sym count)
+    ∙ ap {B = Bool} (λ (who : ℕ → Bool). not (slice_index_or flags v false) && who v) (mask_selects t mask mask_is))
 
 -- the carry flags that a plane holds are those that the definitions see
 pub carry_seen : (mask : List Bool) (seen : List ℕ) → map bit mask ≡ seen → bit_in mask ≡ slice_index seen
@@ -91,7 +123,7 @@ pub put_whole : (old x L : ℕ) → old < 2 ^ L → put old x L ≡ low L x
 put_whole old x L small = let all : old % 2 ^ L ≡ old = mod-eq_of_lt small in omega (arith, all)
 
 -- a number of a list that fits
-fit_at : (w : ℕ) (numbers : List ℕ) → AllFit w numbers → (v : ℕ) → v < length numbers → slice_index numbers v < 2 ^ w
+pub fit_at : (w : ℕ) (numbers : List ℕ) → AllFit w numbers → (v : ℕ) → v < length numbers → slice_index numbers v < 2 ^ w
 fit_at w numbers fit v below = All-get_or (λ x. x < 2 ^ w) numbers v 0 below fit
 
 not_at : (mask : List Bool) (v : ℕ) → v < length mask → slice_index_or (map not mask) v false ≡ not (slice_index_or mask v false)
@@ -120,3 +152,24 @@ kept_is mask others x new value planes mask_count wide count fit_x fit_new other
     ∙ kept_at (slice_index_or mask v false) (slice_index x.numbers v) (slice_index new.numbers v) x.width (fit_at x.width x.numbers fit_x v below)
     (subst (λ w. slice_index new.numbers v < 2 ^ w) wide (fit_at new.width new.numbers fit_new v (subst (λ n. v < n) (sym count) below)))) in
     (λ i. record { width = (width_is ∙ wide) i; numbers = same i })
+
+-- numbers of a value put over zeros in every processor
+pub widened_is : (x none value : FieldNumbers) (all : List Bool) (planes : List (List Bool)) (w : ℕ) → none ≡ record { width = w; numbers = replicate (length x.numbers) 0 } → all ≡ replicate (length x.numbers) true → AllFit x.width x.numbers
+    → ((v : ℕ) → v < length x.numbers → number_at planes v ≡ slice_index x.numbers v) → value.width ≡ none.width
+    → value.numbers ≡ stored (length none.numbers) (λ v. slice_index_or all v false) (slice_index none.numbers) x.width (number_at planes) → value ≡ record { width = w; numbers = x.numbers }
+widened_is x none value all planes w none_is all_is fit planes_are width_is numbers_are =
+    let count : length none.numbers ≡ length x.numbers = ap (λ (y : FieldNumbers). length y.numbers) none_is ∙ length-replicate (length x.numbers) 0 in
+    let same : value.numbers ≡ x.numbers =
+    numbers_are
+    ∙ ap (λ m. stored m (λ v. slice_index_or all v false) (slice_index none.numbers) x.width (number_at planes)) count
+    ∙ sym (fill_by_all _ x.numbers (length x.numbers) 0 refl (λ v below.
+    sym (
+    ap (λ bs. if slice_index_or bs v false then put (slice_index none.numbers v) (number_at planes v) x.width else slice_index none.numbers v) all_is
+    ∙ ap (λ b. if b then put (slice_index none.numbers v) (number_at planes v) x.width else slice_index none.numbers v) (get_or-replicate (length x.numbers) v true false below)
+    ∙ ap (λ (y : FieldNumbers). put (slice_index y.numbers v) (number_at planes v) x.width) none_is
+    ∙ ap (λ o. put o (number_at planes v) x.width) (get_or-replicate (length x.numbers) v 0 0 below)
+    ∙ ap (λ y. put 0 y x.width) (planes_are v below)
+    ∙ put_whole 0 (slice_index x.numbers v) x.width (pow_pos x.width)
+    ∙ mod-eq_of_lt (fit_at x.width x.numbers fit v below)
+    ))) in
+    (λ i. record { width = (width_is ∙ ap (λ (y : FieldNumbers). y.width) none_is) i; numbers = same i })

@@ -1,4 +1,5 @@
+pub mod Combined
 pub mod Frames
+pub mod Made
 pub mod Planes
-pub mod Seen
 pub mod Tasks

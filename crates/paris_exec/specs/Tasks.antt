@@ -6,7 +6,7 @@ use Rattle.paris_names.specs.declared.keys.Key.{Key}
 use Rattle.paris_names.specs.Keys.{key_eq}
 use Rattle.paris_geometry.specs.Geometry.{processor_count}
 use Rattle.paris_model.specs.declared.actions.Refusal.{Refusal}
-use Rattle.paris_model.specs.Frame.{Frame, World, put_selected}
+use Rattle.paris_model.specs.Frame.{Frame, World, is_selected, put_where}
 use Rattle.paris_model.specs.Instructions.{Plan, reads, writes, key_width, value_at, frame_of, after_plan, outcome, given}
 use Rattle.paris_field.specs.Fields.{FieldNumbers}
 use Rattle.paris_exec.specs.declared.orders.Outcome.{Outcome}
@@ -77,6 +77,10 @@ frame_at t = frame_of t.plan (seen_at t)
 abbrev pub left_values : Task → List FieldNumbers
 left_values t = fields_of t.plan (writes t.plan) (map (after_plan t.plan (seen_at t)) (writes t.plan))
 
--- the value at a key after the selected processors have put new numbers into its low bits
+-- the value at a key after the processors that pass a test have put new numbers into its low bits
+abbrev pub put_value_where : Task → (ℕ → Bool) → Key → FieldNumbers → FieldNumbers
+put_value_where t who k new = field_of t.plan k (put_where (frame_at t) who k new.width (slice_index new.numbers))
+
+-- the same, where the selected processors have
 abbrev pub put_value : Task → Key → FieldNumbers → FieldNumbers
-put_value t k new = field_of t.plan k (put_selected (frame_at t) k new.width (slice_index new.numbers))
+put_value t k new = put_value_where t (is_selected (frame_at t)) k new

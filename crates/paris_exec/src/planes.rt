@@ -7,8 +7,8 @@ ghost use Rattle.paris_names.specs.declared.keys.Key.TheVariants.{Field, Flag};
 ghost use Rattle.paris_geometry.specs.Geometry.{processor_count};
 ghost use Rattle.paris_model.specs.Store.{bit, stored};
 ghost use Rattle.paris_model.specs.Instructions.{reads, key_width};
-ghost use Rattle.paris_exec.specs.Tasks.{put_value, seen_at};
-ghost use Rattle.paris_exec.specs.Planes.{flag_value, AreRead};
+ghost use Rattle.paris_exec.specs.Tasks.{put_value, put_value_where, seen_at};
+ghost use Rattle.paris_exec.specs.Planes.{flag_value, is_selected_without, AreRead};
 
 use crate::orders::Order;
 use paris_alu::{Overflowing, Sum};
@@ -26,6 +26,19 @@ pub(crate) fn flag_plane<'a>(order: &'a Order, flag: &FlagName) -> &'a Plane
     ensures count { length result.now ≡ processor_count order.now.plan.axes }
 {
     order.input(&Key::Flag(order.plan().set(), *flag)).mask()
+}
+
+/// The same numbers at a width that isn't less.
+pub(crate) fn widened(alloc: Global, x: &FieldValue, width: u64) -> Result<FieldValue, AllocError>
+    requires wide { x.now.width ≤ width }
+    requires narrow { width ≤ 128 }
+    ensures { IfOk result (λ value. value ≡ record { width = width; numbers = x.now.numbers }) }
+{
+    let vps = x.len();
+    let all = Plane::ones(alloc, vps)?;
+    let mut value = FieldValue::zeros(alloc, width, vps)?;
+    value.merge_in(&all, x.planes(), x.width());
+    Ok(value)
 }
 
 /// New numbers in the selected processors, and the old ones in the others.
@@ -47,8 +60,30 @@ fn keep_others(
     Ok(value)
 }
 
-/// The value at a key after the selected processors have put new numbers into its low bits, as many as the new value is wide. Where that
+/// The value at a key after the processors of a mask have put new numbers into its low bits, as many as the new value is wide. Where that
 /// is all of them, no copy is made: the new value takes the others' old numbers.
+pub(crate) fn put_where(
+    order: &Order,
+    mask: &Plane,
+    key: &Key,
+    new: FieldValue,
+) -> Result<FieldValue, AllocError>
+    requires mask { length mask.now ≡ processor_count order.now.plan.axes }
+    requires read { has_key (reads order.now.plan) key.now ≡ true }
+    requires fits_key { new.width ≤ key_width order.now.plan key.now }
+    requires count { length new.numbers ≡ processor_count order.now.plan.axes }
+    ensures { IfOk result (λ value. value ≡ put_value_where order.now (λ v. slice_index_or mask.now v false) key.now new) }
+{
+    let old = order.input(key);
+    if new.width() == old.width() {
+        return keep_others(mask, old, new);
+    }
+    let mut value = old.copy()?;
+    value.merge_in(mask, new.planes(), new.width());
+    Ok(value)
+}
+
+/// The same, where the selected processors have.
 fn put(order: &Order, key: &Key, new: FieldValue) -> Result<FieldValue, AllocError>
     requires context { has_key (reads order.now.plan) (Flag order.now.plan.set_no Context) ≡ true }
     requires read { has_key (reads order.now.plan) key.now ≡ true }
@@ -56,14 +91,7 @@ fn put(order: &Order, key: &Key, new: FieldValue) -> Result<FieldValue, AllocErr
     requires count { length new.numbers ≡ processor_count order.now.plan.axes }
     ensures { IfOk result (λ value. value ≡ put_value order.now key.now new) }
 {
-    let selected = flag_plane(order, &FlagName::Context);
-    let old = order.input(key);
-    if new.width() == old.width() {
-        return keep_others(selected, old, new);
-    }
-    let mut value = old.copy()?;
-    value.merge_in(selected, new.planes(), new.width());
-    Ok(value)
+    put_where(order, flag_plane(order, &FlagName::Context), key, new)
 }
 
 /// The same for a flag of the set.
@@ -132,6 +160,31 @@ pub(crate) fn put_overflowing(
 {
     let Overflowing { value, overflow } = new;
     let mut values = put_field(alloc, order, to, value)?;
+    values.push(put_flag(alloc, order, &FlagName::Overflow, &overflow)?)?;
+    Ok(values)
+}
+
+/// The values of a quotient or a remainder: where the divisor is 0, which the overflow flag tells, a selected processor keeps the
+/// destination.
+pub(crate) fn put_quotient(
+    alloc: Global,
+    order: &Order,
+    to: &Operand,
+    new: Overflowing,
+) -> Result<Vec<FieldValue>, AllocError>
+    requires read { AreRead order.now (Field to.now.field ∷ Flag order.now.plan.set_no Overflow ∷ Flag order.now.plan.set_no Context ∷ []) }
+    requires fits_key { new.value.width ≤ key_width order.now.plan (Field to.now.field) }
+    requires count { length new.value.numbers ≡ processor_count order.now.plan.axes }
+    requires flags { length new.overflow ≡ processor_count order.now.plan.axes }
+    ensures { IfOk result (λ values. values.items ≡ put_value_where order.now (is_selected_without order.now new.overflow) (Field to.now.field) new.value ∷ put_value order.now (Flag order.now.plan.set_no Overflow) (flag_value new.overflow) ∷ []) }
+{
+    let Overflowing { value, overflow } = new;
+    let selected = flag_plane(order, &FlagName::Context);
+    let mut divided = overflow.copy()?;
+    divided.not_in();
+    divided.and_in(selected);
+    let mut values = Vec::with_capacity(alloc, 2)?;
+    values.push(put_where(order, &divided, &Key::Field(to.field), value)?)?;
     values.push(put_flag(alloc, order, &FlagName::Overflow, &overflow)?)?;
     Ok(values)
 }

@@ -1,21 +1,11 @@
-use Rattle.std.proofs.Common.{◌≡◌, ◌∙◌, ◌<◌, ap, sym, subst, refl, length, slice_index, slice_index_or, false}
-use Rattle.paris_model.specs.Store.{stored}
-use Rattle.paris_field.specs.Fields.{FieldNumbers}
-use Rattle.paris_field.specs.Numbers.{number_at}
+use Rattle.std.proofs.Common.{◌∙◌, ap, ℕ, Bool}
+use Rattle.paris_exec.specs.Tasks.{put_value_where}
 use Rattle.paris_exec.proofs.Operands.{ok_then}
-use Rattle.paris_exec.proofs.Puts.{put_is}
+use Rattle.paris_exec.proofs.Puts.{mask_selects}
 use Rattle.paris_exec.proofs.planes.put.Goals as goal
-
-pub returns-then-width : goal.returns-then-width
-returns-then-width c =
-    let wide : c.args.new.width ≡ c.input-old.result.now.width = sym c.width.ensures.value ∙ c.if-width.true ∙ c.width-2.ensures.value in
-    ok_then _ _ c.keep_others.result (λ value is. put_is c.args.order.now c.args.key.now c.input-old.result.now c.args.new value c.flag_plane-selected.result.now (slice_index c.args.new.numbers) c.input-old.ensures.value c.input-old.ensures.count c.flag_plane-selected.ensures.bits (λ v below. refl)
-    (ap (λ (y : FieldNumbers). y.width) is)
-    (ap (λ (y : FieldNumbers). y.numbers) is ∙ ap (λ w. stored (length c.input-old.result.now.numbers) (λ v. slice_index_or c.flag_plane-selected.result.now v false) (slice_index c.input-old.result.now.numbers) w (slice_index c.args.new.numbers)) (sym wide))) c.keep_others.ensures
 
 pub returns : goal.returns
 returns c =
-    put_is c.args.order.now c.args.key.now c.in_ok-value.value c.args.new c.merge_in.new.self c.flag_plane-selected.result.now (number_at c.planes.result.now) (c.in_ok-value.ensures ∙ c.input-old.ensures.value) (ap (λ (y : FieldNumbers). length y.numbers) c.in_ok-value.ensures ∙ c.input-old.ensures.count) c.flag_plane-selected.ensures.bits
-    (λ v below. c.planes.ensures.at v (subst (λ n. v < n) (sym c.requires.count) below))
-    c.merge_in.ensures.width
-    (c.merge_in.ensures.numbers ∙ ap (λ w. stored (length c.in_ok-value.value.numbers) (λ v. slice_index_or c.flag_plane-selected.result.now v false) (slice_index c.in_ok-value.value.numbers) w (number_at c.planes.result.now)) c.width-3.ensures.value)
+    ok_then _ _ c.put_where.result (λ value is.
+    is ∙ ap (λ (who : ℕ → Bool). put_value_where c.args.order.now who c.args.key.now c.args.new) (mask_selects c.args.order.now c.flag_plane.result.now c.flag_plane.ensures.bits))
+    c.put_where.ensures
