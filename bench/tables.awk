@@ -72,6 +72,40 @@ function operations() {
     compared_rows("`FieldValue::from_numbers`", "from-numbers")
 }
 
+function between() {
+    print ""
+    print "| Rattle / rustc | processors | 8 bits | 32 bits | 64 bits |"
+    print "|---|---|---|---|---|"
+    compared_rows("`scan-with-u-add` (`scan`)", "scan")
+    compared_rows("`spread-with-u-add` (`spread`)", "spread")
+    compared_rows("`get-from-news` (`shift`)", "shift")
+    compared_rows("`get` (`get`)", "get")
+    compared_rows("`send` (`send`)", "send")
+    compared_rows("`u-multiply` (`multiply`)", "multiply")
+    compared_rows("`u-truncate` (`truncate`)", "truncate")
+}
+
+function scan_row(width, vps) {
+    printf "| %d | %s | %s | %s | %s |\n", width, grouped(vps), shown(least_of("rattle", "scan", width, vps)), \
+        shown(least_of("rustc", "scan", width, vps)), shown(least_of("numpy", "cumsum", width, vps))
+}
+
+function scan_rows(vps) {
+    scan_row(8, vps)
+    scan_row(32, vps)
+    scan_row(64, vps)
+}
+
+# The scan beside numpy's, where that was measured.
+function scans() {
+    if (!(("numpy", "cumsum 8 1024") in least)) return
+    print ""
+    print "| bits | numbers | Rattle, with overflow | rustc, with overflow | `numpy.cumsum` |"
+    print "|---|---|---|---|---|"
+    scan_rows(1024)
+    scan_rows(65536)
+}
+
 function execution() {
     print ""
     print "| `u-add` of 32 bits | 1,024 processors | 65,536 processors |"
@@ -91,18 +125,22 @@ function execution() {
     part("not in it: a copy of a whole value", "value-copy", 1)
 }
 
-function scripts() {
-    print ""
-    print "| 1,000 rows, 1,024 processors, by `paris_front` | the whole run |"
-    print "|---|---|"
-    printf "| 1 worker | %s |\n", shown(least["script", "workers-1 1000 1024"])
-    printf "| 2 workers | %s |\n", shown(least["script", "workers-2 1000 1024"])
+function script_rows(label, script, size) {
+    printf "| %s | %s | %s |\n", label, shown(least[script, "workers-1 " size]), shown(least[script, "workers-2 " size])
 }
 
-# A result is the same on all sides, and a transcript for all numbers of workers.
+function scripts() {
+    print ""
+    print "| the whole run of a script by `paris_front` | 1 worker | 2 workers |"
+    print "|---|---|---|"
+    script_rows("1,000 rows, 1,024 processors", "script-rows", "1000 1024")
+    script_rows("a product, a scan and a send in 7 rows, 65,536 processors", "script-between", "7 65536")
+}
+
+# A result is the same on all sides, and a transcript for all numbers of workers, and what is expected where that is known.
 {
     key = $2 " " $3 " " $4
-    kind = $1 == "script" ? $1 : key
+    kind = $1 ~ /^script-/ ? $1 : key
     if (!(($1, key) in least) || $5 + 0 < least[$1, key]) least[$1, key] = $5 + 0
     if ((kind in checksum) && checksum[kind] != $6) {
         print "bench/run: two results of " kind > "/dev/stderr"
@@ -114,6 +152,8 @@ function scripts() {
 END {
     if (failed) exit 1
     operations()
+    between()
+    scans()
     execution()
     scripts()
 }

@@ -1,6 +1,7 @@
-//! Measures what the kernels, the values and the execution of orders take. Without words it says only what it measures.
+//! Measures what the kernels, what goes on between processors, the values and the execution of orders take. Without words it says only what it measures.
 #![tactic(auto)]
 
+mod between;
 mod kernels;
 mod numbers;
 mod orders;
@@ -18,6 +19,7 @@ const HELP: &str =
   results  the same with their results in new planes
   numbers  numbers out of planes and into planes
   orders   the execution of u-add, and the parts of it
+  between  scan, spread, shift, get and send on one axis, product and quotient
 Each line has a name, a width in bits, a count of processors, picoseconds and a checksum of the result.
 ";
 
@@ -36,6 +38,7 @@ fn measure(rt: &HostRuntime, word: &str, size: Size) -> io::Result<()> {
         "kernels" => kernels::measure(rt, size),
         "results" => results::measure(rt, size),
         "numbers" => numbers::measure(rt, size),
+        "between" => between::measure(rt, size),
         "orders" if size.width == ORDER_WIDTH => orders::measure(rt, size),
         _ => Ok(()),
     }

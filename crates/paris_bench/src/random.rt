@@ -24,6 +24,24 @@ impl Generator {
     }
 }
 
+/// For each number below two to the `width` another one.
+fn scattered(number: u64, width: u32) -> u64 {
+    let last = (1u64 << (width % 64)).wrapping_sub(1);
+    let spread = number.wrapping_mul(FACTOR) & last;
+    (spread ^ (spread >> (width / 2 % 64))).wrapping_mul(FACTOR) & last
+}
+
+/// Bit `k` of the scattered numbers of the 64 processors of a block.
+fn scattered_word(block: usize, k: u32, width: u32) -> u64 {
+    let first = (block as u64).wrapping_mul(64);
+    let mut word = 0;
+    for i in 0..64u32 {
+        let bit = scattered(first.wrapping_add(u64::from(i)), width) >> (k % 64) & 1;
+        word |= bit << i;
+    }
+    word
+}
+
 /// A plane of random bits.
 fn random_plane(alloc: Global, generator: &mut Generator, vps: usize) -> Result<Plane, AllocError>
     ensures { IfOk result (λ plane. length plane ≡ vps) }
@@ -51,6 +69,27 @@ pub fn random_planes(
         planes.push(random_plane(alloc, &mut generator, vps)?)?;
     }
     Ok(planes)
+}
+
+/// Bit `k` of the scattered numbers of `vps` processors.
+fn scattered_plane(alloc: Global, k: u32, width: u32, vps: usize) -> Result<Plane, AllocError>
+    ensures { IfOk result (λ plane. length plane ≡ vps) }
+{
+    let mut plane = Plane::zeros(alloc, vps)?;
+    for block in 0..vps.div_ceil(64) {
+        plane.set_word(block, scattered_word(block, k, width));
+    }
+    Ok(plane)
+}
+
+/// An address of each processor, no two of them the same, where there are two to the `width` processors. At most 63 bits.
+pub fn scattered_value(alloc: Global, width: u32, vps: usize) -> Result<FieldValue, AllocError> {
+    let width = width.min(63);
+    let mut planes = Vec::new(alloc);
+    for k in 0..width {
+        planes.push(scattered_plane(alloc, k, width, vps)?)?;
+    }
+    Ok(FieldValue::from_planes(planes, vps))
 }
 
 /// A value of random numbers, of at most 128 bits.
