@@ -1,6 +1,8 @@
 -- From each place to whole lists of numbers.
-use Rattle.std.proofs.Common.{◌≡◌, ◌≤◌, ℕ, ◌+◌, ◌<◌, ◌*◌, ◌^◌, List, [], ◌∷◌, ◌++◌, Bool, length, get_or, arith, ◌∙◌, sym, ap, false, true, subst, cond, drop, take}
+use Rattle.std.proofs.Common.{◌≡◌, ◌≤◌, ℕ, zero, suc, ◌+◌, ◌<◌, ◌*◌, ◌^◌, List, [], ◌∷◌, ◌++◌, Bool, length, get_or, arith, ◌∙◌, sym, ap, false, true, subst, cond, drop, take}
 use Rattle.std.proofs.lemmas.List.FromFn.{length-map-range_with_len, get_or-map-range_with_len, map-range_with_len_more, fill_by_all}
+use Rattle.std.proofs.lemmas.List.{append-nil, append_assoc}
+use Rattle.std.proofs.Math.Seq.{take-suc}
 use Rattle.paris_model.specs.Store.{put, stored}
 use Rattle.paris_field.specs.Numbers.{number_at, numbers}
 use Rattle.paris_field.proofs.Numbers.{number_at_lt, number_at_put, number_at_split}
@@ -29,6 +31,17 @@ below_of ps v w long = subst (λ k. number_at ps v < 2 ^ k) long (number_at_lt p
 pub numbers_more : (k : ℕ) (ps : List (List Bool)) → numbers (k + 1) ps ≡ numbers k ps ++ number_at ps k ∷ []
 unfolding numbers
 numbers_more k ps = map-range_with_len_more (number_at ps) 0 k k (omega arith)
+
+-- a list of as many numbers as are wanted behind the first ones
+pub numbers_append : (k m : ℕ) (ps : List (List Bool)) (xs : List ℕ) → m ≤ length xs → ((i : ℕ) → i < m → get_or xs i 0 ≡ number_at ps (k + i)) → numbers k ps ++ take m xs ≡ numbers (k + m) ps
+numbers_append k zero ps xs room each = append-nil (numbers k ps) ∙ ap (λ n. numbers n ps) (omega arith)
+numbers_append k (suc m) ps xs room each =
+    ap (λ l. numbers k ps ++ l) (take-suc xs m 0 (omega (arith, room)))
+    ∙ sym (append_assoc (numbers k ps) (take m xs) (get_or xs m 0 ∷ []))
+    ∙ ap (λ l. l ++ get_or xs m 0 ∷ []) (numbers_append k m ps xs (omega (arith, room)) (λ i h. each i (omega (arith, h))))
+    ∙ ap (λ x. numbers (k + m) ps ++ x ∷ []) (each m (omega arith))
+    ∙ sym (numbers_more (k + m) ps)
+    ∙ ap (λ n. numbers n ps) (omega arith)
 
 -- a merge at one place
 merged_at : (b : Bool) (old new other : List (List Bool)) (bits v : ℕ) → bits ≤ length old → bits ≤ length other → number_at (take bits new) v ≡ cond b (number_at (take bits other) v) (number_at (take bits old) v) → drop bits new ≡ drop bits old → number_at new v ≡ cond b (put (number_at old v) (number_at other v) bits) (number_at old v)

@@ -1,7 +1,7 @@
 -- What the exchange of two rows of a square of bits does to each bit, and six exchanges together.
 use Rattle.std.proofs.Common.{◌≡◌, ℕ, zero, suc, ◌+◌, ◌-◌, ◌*◌, ◌/◌, ◌%◌, ◌^◌, ◌<◌, ◌≤◌, ◌≢◌, Bool, false, cond, List, get_or, set, length, arith, ap, ◌∙◌, sym, eqb, bit_and, bit_xor, add-zero, inl, inr, refl}
 use Rattle.std.specs.Int.{bit_at}
-use Rattle.std.proofs.Math.Nat.{div-div-eq-div-mul, pow-succ'}
+use Rattle.std.proofs.Math.Nat.{div-div-eq-div-mul, mul-add, mul-suc, pow-succ'}
 use Rattle.std.proofs.lemmas.Bool.{cases_lt}
 use Rattle.std.proofs.lemmas.Grind.{get_or-set_at}
 use Rattle.std.proofs.lemmas.List.{get_or-set_other, length-set}
@@ -143,62 +143,101 @@ lower_placed old s j i pos e =
           ∙ placed old s (j + s) i 1 1 (j + s) i one z (omega arith) (omega arith)
     ]
 
--- the rows as far as the loop has come: those whose first row is below j are done, the others are as they were
-pub record Halfway (s j : ℕ) (rows old : List ℕ) : Type 0 where
-  pub done : (x i : ℕ) → x < 64 → i < 64 → first s x < j → word_bit (get_or rows x 0) i ≡ word_bit (get_or old (crossed s x i) 0) (crossed s i x)
-  pub left : (x : ℕ) → j ≤ first s x → get_or rows x 0 ≡ get_or old x 0
+-- the digit is 0 in the first half of each block of 2 * s
+pub digit_block : (s b r : ℕ) → 0 < s → r < s → digit s (2 * s * b + r) ≡ 0
+digit_block s zero r pos h = ap (digit s) (omega arith) ∙ digit_below s r h
+digit_block s (suc b) r pos h =
+    let more : 2 * s * suc b + r ≡ 2 * s * b + r + s + s = omega (arith, mul-suc (2 * s) b) in
+    ap (digit s) more ∙ digit-add s (2 * s * b + r + s) pos
+    ∙ ap (λ t. (t + 1) % 2) (digit-add s (2 * s * b + r) pos ∙ ap (λ t. (t + 1) % 2) (digit_block s b r pos h))
 
--- a row with the digit 1 has been done with its first row
-pub halfway_passes : (s j : ℕ) (rows old : List ℕ) → 0 < s → digit s j ≢ 0 → Halfway s j rows old → Halfway s (j + 1) rows old
-halfway_passes s j rows old pos one h =
+-- the rows as far as the exchanges have come: those below start are done, the others are as they were
+pub record Halfway (s start : ℕ) (rows old : List ℕ) : Type 0 where
+  pub done : (j i : ℕ) → j < start → i < 64 → word_bit (get_or rows j 0) i ≡ word_bit (get_or old (crossed s j i) 0) (crossed s i j)
+  pub left : (j : ℕ) → start ≤ j → get_or rows j 0 ≡ get_or old j 0
+
+-- a block of rows as far as its loop has come: each row from start to end has been exchanged with the row s rows above it
+pub record Exchanged (s start end : ℕ) (rows old : List ℕ) : Type 0 where
+  pub upper : (j i : ℕ) → start ≤ j → j < end → i < 64 → word_bit (get_or rows j 0) i ≡ cond (eqb (digit s i) 0) (word_bit (get_or old j 0) i) (word_bit (get_or old (j + s) 0) (i - s))
+  pub lower : (j i : ℕ) → start ≤ j → j < end → i < 64 → word_bit (get_or rows (j + s) 0) i ≡ cond (eqb (digit s i) 0) (word_bit (get_or old j 0) (i + s)) (word_bit (get_or old (j + s) 0) i)
+  pub others : (j : ℕ) → (start ≤ j → end ≤ j) → (start + s ≤ j → end + s ≤ j) → get_or rows j 0 ≡ get_or old j 0
+
+pub exchanged_none : (s start : ℕ) (rows : List ℕ) → Exchanged s start start rows rows
+exchanged_none s start rows =
     record {
-      done = λ x i hx hi below.
-          let other : first s x ≢ j = λ e. one (ap (digit s) (sym e) ∙ digit_first s x pos) in
-          h.done x i hx hi (omega arith);
-      left = λ x above. h.left x (omega arith);
+      upper = λ j i from below hi. absurd (omega (arith, from, below));
+      lower = λ j i from below hi. absurd (omega (arith, from, below));
+      others = λ j _ _. refl;
     }
 
-pub halfway_exchanges : (s j a b : ℕ) (rows old : List ℕ) → length rows ≡ 64 → 0 < s → j + s < 64 → digit s j ≡ 0
+pub exchanged_more : (s start j a b : ℕ) (rows old : List ℕ) → length rows ≡ 64 → 0 < s → j + s < 64 → start ≤ j → j < start + s
     → ((i : ℕ) → i < 64 → word_bit a i ≡ cond (eqb (digit s i) 0) (word_bit (get_or rows j 0) i) (word_bit (get_or rows (j + s) 0) (i - s)))
     → ((i : ℕ) → i < 64 → word_bit b i ≡ cond (eqb (digit s i) 0) (word_bit (get_or rows j 0) (i + s)) (word_bit (get_or rows (j + s) 0) i))
-    → Halfway s j rows old → Halfway s (j + 1) (set (set rows j a) (j + s) b) old
-halfway_exchanges s j a b rows old long pos room zero_j upper lower h =
-    let one : digit s (j + s) ≡ 1 = digit-add s j pos ∙ ap (λ t. (t + 1) % 2) zero_j in
-    let first_j : first s j ≡ j = first_zero s j zero_j in
-    let first_js : first s (j + s) ≡ j = first_one s (j + s) one ∙ omega arith in
-    let old_j : get_or rows j 0 ≡ get_or old j 0 = h.left j (omega arith) in
-    let old_js : get_or rows (j + s) 0 ≡ get_or old (j + s) 0 = h.left (j + s) (omega arith) in
+    → Exchanged s start j rows old → Exchanged s start (j + 1) (set (set rows j a) (j + s) b) old
+exchanged_more s start j a b rows old long pos room from below upper lower h =
+    let old_j : get_or rows j 0 ≡ get_or old j 0 = h.others j (λ _. omega arith) (λ above. absurd (omega (arith, above, below))) in
+    let old_js : get_or rows (j + s) 0 ≡ get_or old (j + s) 0 = h.others (j + s) (λ _. omega arith) (λ _. omega arith) in
     let apart : j ≢ j + s = omega arith in
     let at_j : get_or (set (set rows j a) (j + s) b) j 0 ≡ a = get_or-set_other (set rows j a) (j + s) j b 0 apart ∙ get_or-set_at rows j j a 0 refl (omega arith) in
     let at_js : get_or (set (set rows j a) (j + s) b) (j + s) 0 ≡ b = get_or-set_at (set rows j a) (j + s) (j + s) b 0 refl (omega (arith, length-set rows j a)) in
     let others : (x : ℕ) → x ≢ j → x ≢ j + s → get_or (set (set rows j a) (j + s) b) x 0 ≡ get_or rows x 0 = λ x n m. get_or-set_other (set rows j a) (j + s) x b 0 m ∙ get_or-set_other rows j x a 0 n in
     record {
-      done = λ x i hx hi below.
-          elim (cases_lt (first s x) j) [
+      upper = λ x i hx hb hi.
+          elim (cases_lt x j) [
             | inl under ↦
-                ap (λ w. word_bit w i) (others x (λ e. absurd (omega (arith, under, ap (first s) e, first_j))) (λ e. absurd (omega (arith, under, ap (first s) e, first_js))))
-                ∙ h.done x i hx hi under
+                ap (λ w. word_bit w i) (others x (λ e. absurd (omega (arith, under, e))) (λ e. absurd (omega (arith, under, e)))) ∙ h.upper x i hx under hi
             | inr over ↦
-                let here : first s x ≡ j = omega arith in
-                elim (digit_cases s x) [
-                  | inl z ↦
-                      let e : x ≡ j = sym (first_zero s x z) ∙ here in
-                      ap (λ y. word_bit (get_or (set (set rows j a) (j + s) b) y 0) i) e ∙ ap (λ w. word_bit w i) at_j ∙ upper i hi
-                      ∙ ap (λ w. cond (eqb (digit s i) 0) (word_bit w i) (word_bit (get_or rows (j + s) 0) (i - s))) old_j
-                      ∙ ap (λ w. cond (eqb (digit s i) 0) (word_bit (get_or old j 0) i) (word_bit w (i - s))) old_js
-                      ∙ upper_placed old s j i zero_j
-                      ∙ ap (λ y. word_bit (get_or old (crossed s y i) 0) (crossed s i y)) (sym e)
-                  | inr z ↦
-                      let above : s ≤ x = one_at_least s x z in
-                      let e : x ≡ j + s = omega (arith, first_one s x z, here, above) in
-                      ap (λ y. word_bit (get_or (set (set rows j a) (j + s) b) y 0) i) e ∙ ap (λ w. word_bit w i) at_js ∙ lower i hi
-                      ∙ ap (λ w. cond (eqb (digit s i) 0) (word_bit w (i + s)) (word_bit (get_or rows (j + s) 0) i)) old_j
-                      ∙ ap (λ w. cond (eqb (digit s i) 0) (word_bit (get_or old j 0) (i + s)) (word_bit w i)) old_js
-                      ∙ lower_placed old s j i pos zero_j
-                      ∙ ap (λ y. word_bit (get_or old (crossed s y i) 0) (crossed s i y)) (sym e)
+                let e : x ≡ j = omega arith in
+                ap (λ y. word_bit (get_or (set (set rows j a) (j + s) b) y 0) i) e ∙ ap (λ w. word_bit w i) at_j ∙ upper i hi
+                ∙ ap (λ w. cond (eqb (digit s i) 0) (word_bit w i) (word_bit (get_or rows (j + s) 0) (i - s))) old_j
+                ∙ ap (λ w. cond (eqb (digit s i) 0) (word_bit (get_or old j 0) i) (word_bit w (i - s))) old_js
+                ∙ ap (λ y. cond (eqb (digit s i) 0) (word_bit (get_or old y 0) i) (word_bit (get_or old (y + s) 0) (i - s))) (sym e)
+          ];
+      lower = λ x i hx hb hi.
+          elim (cases_lt x j) [
+            | inl under ↦
+                ap (λ w. word_bit w i) (others (x + s) (λ e. absurd (omega (arith, hx, below, e))) (λ e. absurd (omega (arith, under, e)))) ∙ h.lower x i hx under hi
+            | inr over ↦
+                let e : x ≡ j = omega arith in
+                ap (λ y. word_bit (get_or (set (set rows j a) (j + s) b) (y + s) 0) i) e ∙ ap (λ w. word_bit w i) at_js ∙ lower i hi
+                ∙ ap (λ w. cond (eqb (digit s i) 0) (word_bit w (i + s)) (word_bit (get_or rows (j + s) 0) i)) old_j
+                ∙ ap (λ w. cond (eqb (digit s i) 0) (word_bit (get_or old j 0) (i + s)) (word_bit w i)) old_js
+                ∙ ap (λ y. cond (eqb (digit s i) 0) (word_bit (get_or old y 0) (i + s)) (word_bit (get_or old (y + s) 0) i)) (sym e)
+          ];
+      others = λ x first second.
+          others x (λ e. absurd (omega (arith, first (omega (arith, from, e)), e))) (λ e. absurd (omega (arith, second (omega (arith, from, e)), e)))
+          ∙ h.others x (λ above. omega (arith, first above)) (λ above. omega (arith, second above));
+    }
+
+-- a block of which each row has been exchanged is done
+pub halfway_block : (s b : ℕ) (new rows old : List ℕ) → 0 < s → Exchanged s (2 * s * b) (2 * s * b + s) new rows → Halfway s (2 * s * b) rows old → Halfway s (2 * s * (b + 1)) new old
+halfway_block s b new rows old pos block h =
+    let start : ℕ = 2 * s * b in
+    let next : 2 * s * (b + 1) ≡ 2 * s * b + 2 * s = omega (arith, mul-add (2 * s) b 1) in
+    let zero_at : (j : ℕ) → start ≤ j → j < start + s → digit s j ≡ 0 = λ j from below. ap (digit s) (omega (arith, from)) ∙ digit_block s b (j - start) pos (omega (arith, from, below)) in
+    record {
+      done = λ j i hj hi.
+          elim (cases_lt j start) [
+            | inl under ↦
+                ap (λ w. word_bit w i) (block.others j (λ above. absurd (omega (arith, under, above))) (λ above. absurd (omega (arith, under, above)))) ∙ h.done j i under hi
+            | inr over ↦
+                elim (cases_lt j (start + s)) [
+                  | inl first ↦
+                      block.upper j i over first hi
+                      ∙ ap (λ w. cond (eqb (digit s i) 0) (word_bit w i) (word_bit (get_or rows (j + s) 0) (i - s))) (h.left j over)
+                      ∙ ap (λ w. cond (eqb (digit s i) 0) (word_bit (get_or old j 0) i) (word_bit w (i - s))) (h.left (j + s) (omega (arith, over)))
+                      ∙ upper_placed old s j i (zero_at j over first)
+                  | inr second ↦
+                      let k : ℕ = j - s in
+                      let e : k + s ≡ j = omega (arith, second) in
+                      let from : start ≤ k = omega (arith, second) in
+                      let below : k < start + s = omega (arith, second, hj, next, e) in
+                      ap (λ y. word_bit (get_or new y 0) i) (sym e) ∙ block.lower k i from below hi
+                      ∙ ap (λ w. cond (eqb (digit s i) 0) (word_bit w (i + s)) (word_bit (get_or rows (k + s) 0) i)) (h.left k from)
+                      ∙ ap (λ w. cond (eqb (digit s i) 0) (word_bit (get_or old k 0) (i + s)) (word_bit w i)) (h.left (k + s) (omega (arith, from)))
+                      ∙ lower_placed old s k i pos (zero_at k from below)
+                      ∙ ap (λ y. word_bit (get_or old (crossed s y i) 0) (crossed s i y)) e
                 ]
           ];
-      left = λ x above.
-          others x (λ e. absurd (omega (arith, above, ap (first s) e, first_j))) (λ e. absurd (omega (arith, above, ap (first s) e, first_js)))
-          ∙ h.left x (omega arith);
+      left = λ j above. block.others j (λ _. omega (arith, above, next)) (λ _. omega (arith, above, next)) ∙ h.left j (omega (arith, above, next));
     }

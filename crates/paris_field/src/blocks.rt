@@ -72,9 +72,8 @@ fn push_block(
     ensures { OnOk result (list.new.items ≡ numbers (min (64 * block + 64) vps) planes.now) }
 {
     let block_numbers = block_numbers(planes, block, vps);
-    for i in 0..(vps - 64 * block).min(64) {
-        list.push(block_numbers[i])?;
-    }
+    let count = (vps - 64 * block).min(64);
+    list.extend_from_slice(&block_numbers[..count])?;
     Ok(())
 }
 

@@ -1,6 +1,6 @@
 //! A square of 64 by 64 bits, turned about its diagonal.
 
-ghost use Rattle.std.specs.Prelude.{◌≡◌, ℕ, ◌+◌, ◌-◌, ◌<◌, ◌==◌, cond, slice_index};
+ghost use Rattle.std.specs.Prelude.{◌≡◌, ℕ, ◌+◌, ◌-◌, ◌*◌, ◌/◌, ◌<◌, ◌≤◌, ◌==◌, cond, slice_index};
 ghost use Rattle.paris_plane.specs.Bits.{word_bit};
 ghost use Rattle.paris_plane.specs.Digits.{MarksZeros, digit};
 ghost use Rattle.paris_field.specs.Square.{crossed};
@@ -20,16 +20,28 @@ pub fn transpose64(rows: &mut [u64; 64])
 /// Moves each bit to where the binary digits of weight `S` of its row and of its place are exchanged.
 fn exchange_digits<const S: usize>(rows: &mut [u64; 64], mask: u64)
     requires shift { (0 < S) × (S < 64) }
-    requires pairs { (j : ℕ) → j < 64 → digit S j ≡ 0 → j + S < 64 }
+    requires blocks { 32 / S * S ≡ 32 }
     requires mask { MarksZeros S mask }
     ensures { (j i : ℕ) → j < 64 → i < 64 → word_bit (slice_index rows.new j) i ≡ word_bit (slice_index rows.old (crossed S j i)) (crossed S i j) }
 {
-    for j in 0..64usize {
-        if j / S % 2 == 0 {
-            let (upper, lower) = exchange_words::<S>(rows[j], rows[j + S], mask);
-            rows[j] = upper;
-            rows[j + S] = lower;
-        }
+    for block in 0..32 / S {
+        exchange_block::<S>(rows, 2 * S * block, mask);
+    }
+}
+
+/// Exchanges the bits of each of the `S` rows from `start` on with those of the row `S` rows above it.
+fn exchange_block<const S: usize>(rows: &mut [u64; 64], start: usize, mask: u64)
+    requires shift { (0 < S) × (S < 64) }
+    requires within { start + 2 * S ≤ 64 }
+    requires mask { MarksZeros S mask }
+    ensures upper { (j i : ℕ) → start ≤ j → j < start + S → i < 64 → word_bit (slice_index rows.new j) i ≡ cond (digit S i == 0) (word_bit (slice_index rows.old j) i) (word_bit (slice_index rows.old (j + S)) (i - S)) }
+    ensures lower { (j i : ℕ) → start ≤ j → j < start + S → i < 64 → word_bit (slice_index rows.new (j + S)) i ≡ cond (digit S i == 0) (word_bit (slice_index rows.old j) (i + S)) (word_bit (slice_index rows.old (j + S)) i) }
+    ensures others { (j : ℕ) → (start ≤ j → start + 2 * S ≤ j) → slice_index rows.new j ≡ slice_index rows.old j }
+{
+    for row in start..start + S {
+        let (upper, lower) = exchange_words::<S>(rows[row], rows[row + S], mask);
+        rows[row] = upper;
+        rows[row + S] = lower;
     }
 }
 

@@ -1,5 +1,6 @@
+use Rattle.std.proofs.Common.{◌*◌}
 use Rattle.paris_field.proofs.Turn.{Halfway}
 use Rattle.paris_field.proofs.transpose.exchange_digits.Given as goal
 
-abbrev pub invariant-loop-j : goal.invariant-loop-j
-invariant-loop-j g l = Halfway g.row.S l.j l.rows l.fn.rows
+abbrev pub invariant-loop-block : goal.invariant-loop-block
+invariant-loop-block g l = Halfway g.row.S (2 * g.row.S * l.block) l.rows l.fn.rows
