@@ -33,9 +33,9 @@ use Rattle.paris_model.proofs.Widths.{key_width-is, some_width}
 use Rattle.paris_model.proofs.Worlds.{has_key-append, or_false_first, or_false_second, or_true_second, reads_sources, reads_targets}
 use Rattle.paris_alu.specs.Alu.{comparison_plane}
 use Rattle.paris_field.specs.Fields.{AllFit, FieldNumbers, operand}
-use Rattle.paris_field.specs.Numbers.{bits_everywhere}
+use Rattle.paris_field.specs.Numbers.{bits_everywhere, has}
 use Rattle.paris_field.proofs.Places.{bits_same, get_or-bits_everywhere, plane_is}
-use Rattle.paris_scan.specs.Lines.{combined_field, first_field, has, is_sum, of_lines, placed_field, scanned, stores_at, sums_overflow}
+use Rattle.paris_scan.specs.Lines.{combined_field, first_field, is_sum, of_lines, placed_field, scanned, stores_at, sums_overflow}
 use Rattle.paris_exec.specs.Combined.{overflow_flags, overflow_values}
 use Rattle.paris_exec.specs.Planes.{flag_value}
 use Rattle.paris_exec.specs.Tasks.{Task, field_of, fields_of, frame_at, seen_at, left_values, put_value_where}

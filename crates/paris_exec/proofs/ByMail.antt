@@ -25,10 +25,10 @@ use Rattle.paris_model.proofs.Widths.{key_width-is, width_first}
 use Rattle.paris_model.proofs.Worlds.{has_key-append, or_false_first, or_true_second, reads_sources, reads_targets}
 use Rattle.paris_field.specs.Fields.{FieldNumbers, operand}
 use Rattle.paris_field.proofs.Places.{get_or-bits_everywhere}
+use Rattle.paris_field.specs.Numbers.{has}
 use Rattle.paris_router.specs.declared.sends.Delivery.{Delivery}
 use Rattle.paris_router.specs.Mail.{bad_sender_of, delivered_field, fetched_field, mail_in, receivers_of}
 use Rattle.paris_combine.specs.Combined.{combined_mail}
-use Rattle.paris_scan.specs.Lines.{has}
 use Rattle.paris_exec.specs.Combined.{by_field, delivered_values, mail_source}
 use Rattle.paris_exec.specs.Planes.{AreRead, flag_value}
 use Rattle.paris_exec.specs.Tasks.{Task, field_of, fields_of, frame_at, seen_at, left_values, put_value, put_value_where}

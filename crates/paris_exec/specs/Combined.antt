@@ -7,8 +7,8 @@ use Rattle.paris_model.specs.declared.actions.Operand.{Operand}
 use Rattle.paris_model.specs.declared.actions.Mail.{Mail}
 use Rattle.paris_model.specs.declared.actions.Mail.TheVariants.{Get, Send, CombiningSend}
 use Rattle.paris_field.specs.Fields.{FieldNumbers}
+use Rattle.paris_field.specs.Numbers.{has}
 use Rattle.paris_router.specs.declared.sends.Delivery.{Delivery}
-use Rattle.paris_scan.specs.Lines.{has}
 use Rattle.paris_exec.specs.Planes.{flag_value}
 use Rattle.paris_exec.specs.Tasks.{Task, put_value_where}
 

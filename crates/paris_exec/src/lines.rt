@@ -8,8 +8,7 @@ ghost use Rattle.paris_geometry.specs.Geometry.{processor_count};
 ghost use Rattle.paris_model.specs.Fits.{IsFit};
 ghost use Rattle.paris_model.specs.Instructions.{reads, key_width};
 ghost use Rattle.paris_model.specs.Lines.{begins_segment};
-ghost use Rattle.paris_field.specs.Numbers.{bits_everywhere};
-ghost use Rattle.paris_scan.specs.Lines.{has};
+ghost use Rattle.paris_field.specs.Numbers.{bits_everywhere, has};
 ghost use Rattle.paris_exec.specs.Combined.{overflow_values};
 ghost use Rattle.paris_exec.specs.Tasks.{frame_at, left_values, put_value_where};
 

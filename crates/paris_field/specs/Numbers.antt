@@ -8,6 +8,10 @@ use Rattle.paris_field.specs.Fields.{FieldNumbers}
 abbrev pub bit_in : List Bool → ℕ → ℕ
 bit_in plane v = bit (slice_index_or plane v false)
 
+-- whether a processor's bit is 1
+abbrev pub has : List Bool → ℕ → Bool
+has plane v = slice_index_or plane v false
+
 -- one bit for each of n processors
 abbrev pub bits_everywhere : ℕ → (ℕ → Bool) → List Bool
 bits_everywhere n f = map f (numbers_below n)

@@ -10,7 +10,8 @@ use lib.Pow.{pow_pos}
 use Rattle.paris_model.specs.Store.{everywhere, low}
 use Rattle.paris_field.specs.Fields.{FieldNumbers, operand}
 use Rattle.paris_field.proofs.Places.{everywhere_same}
-use Rattle.paris_router.specs.Mail.{has, selected_addresses}
+use Rattle.paris_field.specs.Numbers.{has}
+use Rattle.paris_router.specs.Mail.{selected_addresses}
 
 pub length-everywhere : (n : ℕ) (f : ℕ → ℕ) → length (everywhere n f) ≡ n
 length-everywhere n f = length-map-range_with_len f 0 n

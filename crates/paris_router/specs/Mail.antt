@@ -1,14 +1,10 @@
 -- Messages between processors whose addresses and values lie in fields.
-use Rattle.std.specs.Prelude.{ℕ, Bool, false, nat_lt, List, length, slice_index, slice_index_or, Option, Some, None, Result, Ok, Err, if◌then◌else◌}
+use Rattle.std.specs.Prelude.{ℕ, Bool, nat_lt, List, length, slice_index, Option, Some, None, Result, Ok, Err, if◌then◌else◌}
 use Rattle.paris_model.specs.declared.actions.Refusal.{Refusal}
 use Rattle.paris_model.specs.Mail.{arrivals, bad_sender, gets_mail, messages}
 use Rattle.paris_model.specs.Store.{everywhere}
 use Rattle.paris_field.specs.Fields.{FieldNumbers, operand}
-use Rattle.paris_field.specs.Numbers.{bits_everywhere}
-
--- whether a processor's bit is 1
-abbrev pub has : List Bool → ℕ → Bool
-has selected v = slice_index_or selected v false
+use Rattle.paris_field.specs.Numbers.{bits_everywhere, has}
 
 -- why something is refused, if it is
 abbrev pub refusal_in : {X : Type 0} → Result X Refusal → Option Refusal

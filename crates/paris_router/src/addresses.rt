@@ -3,7 +3,8 @@
 ghost use Rattle.std.specs.Prelude.{◌≡◌, ◌<◌, ◌≤◌, All, IfOk, None, if◌then◌else◌, length, slice_index};
 ghost use Rattle.paris_model.specs.Mail.{first_cause};
 ghost use Rattle.paris_names.specs.declared.limits.TheConstants.{MAX_PROCESSORS};
-ghost use Rattle.paris_router.specs.Mail.{bad_sender_of, has, refusal_in, selected_addresses};
+ghost use Rattle.paris_field.specs.Numbers.{has};
+ghost use Rattle.paris_router.specs.Mail.{bad_sender_of, refusal_in, selected_addresses};
 
 use paris_field::FieldValue;
 use paris_model::Refusal;

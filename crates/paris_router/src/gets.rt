@@ -4,7 +4,8 @@ ghost use Rattle.std.specs.Prelude.{◌≡◌, ◌<◌, ◌≤◌, All, IfOk, No
 ghost use Rattle.paris_model.specs.Mail.{first_cause};
 ghost use Rattle.paris_model.specs.Store.{everywhere};
 ghost use Rattle.paris_names.specs.declared.limits.TheConstants.{MAX_PROCESSORS};
-ghost use Rattle.paris_router.specs.Mail.{bad_sender_of, fetched_field, has, refusal_in};
+ghost use Rattle.paris_field.specs.Numbers.{has};
+ghost use Rattle.paris_router.specs.Mail.{bad_sender_of, fetched_field, refusal_in};
 
 use crate::addresses::checked_addresses;
 use crate::numbers::low_numbers;

@@ -3,7 +3,8 @@
 ghost use Rattle.std.specs.Prelude.{◌≡◌, ◌<◌, ◌≤◌, ◌^◌, All, IfOk, None, length, slice_index};
 ghost use Rattle.paris_model.specs.Mail.{first_cause, messages};
 ghost use Rattle.paris_names.specs.declared.limits.TheConstants.{MAX_PROCESSORS};
-ghost use Rattle.paris_router.specs.Mail.{bad_sender_of, has, mail_in, receivers_of, refusal_in};
+ghost use Rattle.paris_field.specs.Numbers.{has};
+ghost use Rattle.paris_router.specs.Mail.{bad_sender_of, mail_in, receivers_of, refusal_in};
 
 use crate::addresses::checked_addresses;
 use crate::numbers::low_numbers;

@@ -5,7 +5,8 @@ ghost use Rattle.paris_geometry.specs.Geometry.{numbers_below};
 ghost use Rattle.paris_model.specs.Mail.{arrivals, collision_at, first_cause};
 ghost use Rattle.paris_model.specs.Store.{everywhere};
 ghost use Rattle.paris_names.specs.declared.limits.TheConstants.{MAX_PROCESSORS};
-ghost use Rattle.paris_router.specs.Mail.{bad_sender_of, crowded_in, delivered_field, has, mail_in, receivers_of, refusal_in};
+ghost use Rattle.paris_field.specs.Numbers.{has};
+ghost use Rattle.paris_router.specs.Mail.{bad_sender_of, crowded_in, delivered_field, mail_in, receivers_of, refusal_in};
 
 use crate::messages::checked_mail;
 use paris_field::FieldValue;

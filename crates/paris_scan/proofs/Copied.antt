@@ -6,10 +6,10 @@ use Rattle.std.proofs.lemmas.List.Elements.{All-head}
 use lib.Pow.{pow_pos}
 use Rattle.paris_model.specs.Lines.{values_where}
 use Rattle.paris_model.specs.Store.{bit}
-use Rattle.paris_field.specs.Numbers.{bit_in, number_at, plane_at, value_of_planes}
+use Rattle.paris_field.specs.Numbers.{bit_in, has, number_at, plane_at, value_of_planes}
 use Rattle.paris_field.proofs.Places.{field_is, number_pushed}
 use Rattle.paris_scan.specs.Firsts.{first_shown}
-use Rattle.paris_scan.specs.Lines.{first_field, has}
+use Rattle.paris_scan.specs.Lines.{first_field}
 use Rattle.paris_scan.proofs.Added.{map_cond, parts}
 use Rattle.paris_scan.proofs.Tops.{low_lt, split_at}
 

@@ -10,9 +10,9 @@ use Rattle.paris_model.specs.declared.operators.Inclusion.{Inclusion}
 use Rattle.paris_model.specs.Lines.{from_last, is_inclusive, line_values, scan_values, values_where}
 use Rattle.paris_model.specs.Store.{everywhere}
 use Rattle.paris_field.specs.Fields.{FieldNumbers, operand}
-use Rattle.paris_field.specs.Numbers.{number_at}
+use Rattle.paris_field.specs.Numbers.{has, number_at}
 use Rattle.paris_field.proofs.Places.{everywhere_same}
-use Rattle.paris_scan.specs.Lines.{has, of_lines, scanned}
+use Rattle.paris_scan.specs.Lines.{of_lines, scanned}
 use Rattle.paris_scan.proofs.Added.{map_cond}
 use Rattle.paris_scan.specs.Shown.{complement, complement_shown, shown_field}
 

@@ -1,5 +1,5 @@
 -- What scans, spreads and reduces give in each processor, where values and bits lie in fields and planes.
-use Rattle.std.specs.Prelude.{ℕ, ◌^◌, Bool, true, false, ◌==◌, ◌&&◌, nat_le, List, sum, slice_index, slice_index_or}
+use Rattle.std.specs.Prelude.{ℕ, ◌^◌, Bool, true, false, ◌==◌, ◌&&◌, nat_le, List, sum, slice_index}
 use Rattle.paris_geometry.specs.declared.direction.Direction.{Direction}
 use Rattle.paris_geometry.specs.Geometry.{at_coordinate, coordinate, processor_count}
 use Rattle.paris_model.specs.declared.operators.Combiner.{Combiner}
@@ -9,11 +9,7 @@ use Rattle.paris_model.specs.Combine.{combined, unit}
 use Rattle.paris_model.specs.Lines.{line_values, scan_values}
 use Rattle.paris_model.specs.Store.{everywhere}
 use Rattle.paris_field.specs.Fields.{FieldNumbers, operand}
-use Rattle.paris_field.specs.Numbers.{bits_everywhere}
-
--- whether a processor's bit is 1
-abbrev pub has : List Bool → ℕ → Bool
-has plane v = slice_index_or plane v false
+use Rattle.paris_field.specs.Numbers.{bits_everywhere, has}
 
 -- the values that a scan combines in processor v
 abbrev pub scanned : List ℕ → ℕ → Direction → Inclusion → List Bool → List Bool → ℕ → FieldNumbers → ℕ → List ℕ

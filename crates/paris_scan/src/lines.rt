@@ -3,8 +3,7 @@
 ghost use Rattle.std.specs.Prelude.{◌≡◌, ℕ, ◌+◌, ◌^◌, ◌<◌, ◌≤◌, ◌∷◌, Bool, [], IfOk, length};
 ghost use Rattle.paris_geometry.specs.Geometry.{axis_length, processor_count};
 ghost use Rattle.paris_model.specs.Lines.{scan_values, values_where};
-ghost use Rattle.paris_field.specs.Numbers.{AllOf, bits_everywhere, number_at};
-ghost use Rattle.paris_scan.specs.Lines.{has};
+ghost use Rattle.paris_field.specs.Numbers.{AllOf, bits_everywhere, has, number_at};
 ghost use Rattle.paris_scan.specs.Runs.{begins_run, first_coordinate};
 
 use crate::combine::Combine;

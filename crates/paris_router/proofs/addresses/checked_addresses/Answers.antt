@@ -4,7 +4,7 @@ use Rattle.std.proofs.lemmas.List.Elements.{All-push}
 use Rattle.std.proofs.lemmas.List.FromFn.{map-range_with_len_more}
 use Rattle.paris_geometry.specs.Geometry.{numbers_below}
 use Rattle.paris_model.specs.Mail.{first_cause}
-use Rattle.paris_router.specs.Mail.{has}
+use Rattle.paris_field.specs.Numbers.{has}
 use Rattle.paris_router.proofs.Least.{is_bad, is_good, least_above, least_here}
 use Rattle.paris_router.proofs.addresses.checked_addresses.Goals as goal
 

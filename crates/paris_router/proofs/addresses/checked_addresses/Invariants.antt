@@ -3,7 +3,8 @@ use Rattle.std.proofs.Common.{◌≡◌, ◌-◌, ◌<◌, All, get_or}
 use Rattle.std.specs.Prelude.{◌&&◌, find, if◌then◌else◌, nat_le}
 use Rattle.std.specs.List.{range_with_len}
 use Rattle.paris_model.specs.Store.{everywhere}
-use Rattle.paris_router.specs.Mail.{bad_sender_of, has}
+use Rattle.paris_field.specs.Numbers.{has}
+use Rattle.paris_router.specs.Mail.{bad_sender_of}
 use Rattle.paris_router.proofs.addresses.checked_addresses.Given as goal
 
 abbrev pub invariant-loop-v : goal.invariant-loop-v

@@ -1,7 +1,7 @@
 use Rattle.std.proofs.Common.{◌≡◌, ◌∙◌, ◌++◌, ◌∷◌, [], ℕ, ap, sym, arith, get_or, cond, map}
 use Rattle.std.proofs.lemmas.List.FromFn.{map-range_with_len_more}
 use Rattle.paris_geometry.specs.Geometry.{numbers_below}
-use Rattle.paris_router.specs.Mail.{has}
+use Rattle.paris_field.specs.Numbers.{has}
 use Rattle.paris_router.proofs.gets.fetched_numbers.Goals as goal
 use Rattle.paris_router.proofs.gets.fetched_numbers.Goals.{then-get, else-get}
 

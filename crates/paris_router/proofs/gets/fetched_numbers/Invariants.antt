@@ -2,7 +2,7 @@
 use Rattle.std.proofs.Common.{◌≡◌, get_or}
 use Rattle.std.specs.Prelude.{if◌then◌else◌}
 use Rattle.paris_model.specs.Store.{everywhere}
-use Rattle.paris_router.specs.Mail.{has}
+use Rattle.paris_field.specs.Numbers.{has}
 use Rattle.paris_router.proofs.gets.fetched_numbers.Given as goal
 
 abbrev pub invariant-loop-v : goal.invariant-loop-v

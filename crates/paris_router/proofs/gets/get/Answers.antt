@@ -1,7 +1,8 @@
 use Rattle.std.proofs.Common.{◌≡◌, ◌<◌, ◌^◌, ◌∙◌, ℕ, List, All, ap, cond, get_or, length, subst, sym}
 use Rattle.paris_model.specs.Store.{everywhere}
 use Rattle.paris_field.specs.Fields.{FieldNumbers}
-use Rattle.paris_router.specs.Mail.{has, selected_addresses}
+use Rattle.paris_field.specs.Numbers.{has}
+use Rattle.paris_router.specs.Mail.{selected_addresses}
 use Rattle.paris_router.proofs.Fetched.{fetched_fit, fetched_is, length-everywhere}
 use Rattle.paris_router.proofs.gets.get.Goals as goal
 

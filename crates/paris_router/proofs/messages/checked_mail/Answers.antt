@@ -1,7 +1,7 @@
 use Rattle.std.proofs.Common.{◌≡◌, ◌<◌, ◌^◌, ◌∙◌, ℕ, All, ap, arith, get_or, length, subst, sym}
 use Rattle.paris_model.specs.Mail.{messages}
 use Rattle.paris_field.specs.Fields.{operand}
-use Rattle.paris_router.specs.Mail.{has}
+use Rattle.paris_field.specs.Numbers.{has}
 use Rattle.paris_router.proofs.Fetched.{address_at, get_or-everywhere, length-everywhere, small}
 use Rattle.paris_router.proofs.Sent.{messages_all, same_messages}
 use Rattle.paris_router.proofs.messages.checked_mail.Goals as goal

@@ -1,5 +1,5 @@
 use Rattle.std.proofs.Common.{◌∙◌, ◌∷◌, ◌++◌, [], ℕ, ap, sym, get_or}
-use Rattle.paris_router.specs.Mail.{has}
+use Rattle.paris_field.specs.Numbers.{has}
 use Rattle.paris_router.proofs.Sent.{sent, silent}
 use Rattle.paris_router.proofs.messages.messages.Goals as goal
 use Rattle.paris_router.proofs.messages.messages.Goals.{then-get+in_ok-push, else-get}

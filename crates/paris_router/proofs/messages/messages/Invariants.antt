@@ -2,7 +2,7 @@
 use Rattle.std.proofs.Common.{◌≡◌}
 use Rattle.std.specs.Prelude.{slice_index}
 use Rattle.paris_model.specs.Mail.{messages}
-use Rattle.paris_router.specs.Mail.{has}
+use Rattle.paris_field.specs.Numbers.{has}
 use Rattle.paris_router.proofs.messages.messages.Given as goal
 
 abbrev pub invariant-loop-p : goal.invariant-loop-p

@@ -1,7 +1,7 @@
 use Rattle.std.proofs.Common.{◌∙◌, ℕ, ◌||◌, ap, sym, length, eqb, get_or, false}
 use Rattle.paris_geometry.specs.Geometry.{coordinate, processor_count}
 use Rattle.paris_field.proofs.Places.{length-bits_everywhere, plane_is}
-use Rattle.paris_scan.specs.Lines.{has}
+use Rattle.paris_field.specs.Numbers.{has}
 use Rattle.paris_scan.specs.Runs.{begins_run}
 use Rattle.paris_scan.proofs.Turns.{begun_at, begun_long}
 use Rattle.paris_scan.proofs.lines.begin_plane.Goals as goal

@@ -3,10 +3,9 @@ use Rattle.paris_geometry.specs.declared.direction.Direction.{Direction}
 use Rattle.paris_geometry.specs.Geometry.{axis_length, processor_count, stride}
 use Rattle.paris_model.specs.declared.operators.Inclusion.{Inclusion}
 use Rattle.paris_model.specs.Lines.{values_where, scan_values}
-use Rattle.paris_field.specs.Numbers.{AllOf, number_at}
+use Rattle.paris_field.specs.Numbers.{AllOf, has, number_at}
 use Rattle.paris_field.proofs.Places.{get_or-bits_everywhere, length-bits_everywhere}
 use Rattle.paris_plane.proofs.Bits.{written}
-use Rattle.paris_scan.specs.Lines.{has}
 use Rattle.paris_scan.specs.Runs.{Reaches, begins_run, run}
 use Rattle.paris_scan.proofs.Turns.{Walk, run_before, run_same, starts_line}
 use Rattle.paris_scan.proofs.Defined.{inclusive_run}

@@ -3,8 +3,8 @@ use Rattle.std.proofs.lemmas.List.{length-append}
 use Rattle.paris_geometry.specs.Geometry.{processor_count}
 use Rattle.paris_model.specs.declared.operators.Inclusion.TheVariants.{Inclusive}
 use Rattle.paris_field.specs.Fields.{operand}
-use Rattle.paris_field.specs.Numbers.{value_of_planes}
-use Rattle.paris_scan.specs.Lines.{has, scanned}
+use Rattle.paris_field.specs.Numbers.{has, value_of_planes}
+use Rattle.paris_scan.specs.Lines.{scanned}
 use Rattle.paris_scan.proofs.Copied.{first_brought, first_field_is}
 use Rattle.paris_scan.proofs.Own.{operand_fits, scanned_fit}
 use Rattle.paris_scan.proofs.scans.copy_scan.Goals as goal

@@ -1,9 +1,9 @@
 use Rattle.std.proofs.Common.{◌≡◌, ◌∙◌, ap, arith, length, ℕ, List, Bool}
 use Rattle.paris_geometry.specs.Geometry.{processor_count}
 use Rattle.paris_field.specs.Fields.{operand}
-use Rattle.paris_field.specs.Numbers.{value_of_planes}
+use Rattle.paris_field.specs.Numbers.{has, value_of_planes}
 use Rattle.paris_field.proofs.Places.{field_is}
-use Rattle.paris_scan.specs.Lines.{has, scanned}
+use Rattle.paris_scan.specs.Lines.{scanned}
 use Rattle.paris_scan.proofs.Own.{operand_fits, operand_shown}
 use Rattle.paris_scan.proofs.scans.scan_field.Goals as goal
 

@@ -2,9 +2,10 @@ use Rattle.std.proofs.Common.{◌≡◌, ◌∙◌, ◌+◌, Some, ap, arith, le
 use Rattle.paris_geometry.specs.Geometry.{processor_count}
 use Rattle.paris_model.specs.declared.operators.Combiner.TheVariants.{Sum}
 use Rattle.paris_field.specs.Fields.{operand}
+use Rattle.paris_field.specs.Numbers.{has}
 use Rattle.paris_scan.specs.declared.results.Combined.{Combined}
 use Rattle.paris_scan.specs.Laws.{none_sum, one_sum}
-use Rattle.paris_scan.specs.Lines.{combined_field, has, scanned, sums_overflow}
+use Rattle.paris_scan.specs.Lines.{combined_field, scanned, sums_overflow}
 use Rattle.paris_scan.specs.Sums.{sum_shown}
 use Rattle.paris_scan.proofs.Own.{operand_fits, operand_shown}
 use Rattle.paris_scan.proofs.scans.scan_sums.Goals as goal

@@ -1,7 +1,8 @@
 use Rattle.std.proofs.Common.{◌≡◌, ◌∙◌, ap, arith, length, ℕ, List, Bool}
 use Rattle.paris_geometry.specs.Geometry.{processor_count}
 use Rattle.paris_field.specs.Fields.{operand}
-use Rattle.paris_scan.specs.Lines.{has, of_lines}
+use Rattle.paris_field.specs.Numbers.{has}
+use Rattle.paris_scan.specs.Lines.{of_lines}
 use Rattle.paris_scan.specs.Shown.{complement}
 use Rattle.paris_scan.proofs.Own.{complement_fits, complement_brought, complements_are, line_mapped}
 use Rattle.paris_scan.proofs.spreads.spread_complements.Goals as goal

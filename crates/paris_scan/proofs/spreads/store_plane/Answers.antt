@@ -2,7 +2,7 @@ use Rattle.std.proofs.Common.{arith, ◌≡◌, ◌∙◌, ◌&&◌, ℕ, Bool, 
 use Rattle.std.proofs.lemmas.Simd.{get_or-zip2, length-zip2}
 use Rattle.paris_geometry.specs.Geometry.{coordinate, processor_count}
 use Rattle.paris_field.proofs.Places.{length-bits_everywhere, get_or-bits_everywhere, plane_is}
-use Rattle.paris_scan.specs.Lines.{has}
+use Rattle.paris_field.specs.Numbers.{has}
 use Rattle.paris_scan.proofs.spreads.store_plane.Goals as goal
 
 pub and_in-requires : goal.and_in-requires
