@@ -80,7 +80,7 @@ twice_whole step period whole =
     ap (λ x. x % period) (sym sum) ∙ mul-add-mod_self_right (step / period) period step ∙ whole
 
 -- the place of v in the period of a line
-place_in : (s n v : ℕ) → 0 < s → 0 < n → v % (n * s) ≡ v / s % n * s + v % s
+pub place_in : (s n v : ℕ) → 0 < s → 0 < n → v % (n * s) ≡ v / s % n * s + v % s
 place_in s n v some long =
     let rest : v % s < s = mod-lt v some in
     let digit : v / s % n + 1 ≤ n = (let y : v / s % n < n = mod-lt (v / s) long in omega arith) in

@@ -18,7 +18,7 @@ up_of axes a v some =
     let small : coordinate axes a v ≤ v / stride axes a = omega (arith, div-add-mod' (v / stride axes a) (axis_length axes a)) in
     omega (arith, mul-le-mul_right (stride axes a) small, div-add-mod' v (stride axes a))
 
-one_more : (c s : ℕ) → (c + 1) * s ≡ c * s + s
+pub one_more : (c s : ℕ) → (c + 1) * s ≡ c * s + s
 one_more c s = omega (arith, one-mul s)
 
 -- one step up, within the line and from its end

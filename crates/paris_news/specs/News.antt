@@ -1,17 +1,11 @@
 -- What comes to each processor from its neighbour along an axis.
-use Rattle.std.specs.Prelude.{ℕ, ◌-◌, Bool, false, List, slice_index_or}
+use Rattle.std.specs.Prelude.{ℕ, Bool, false, List, slice_index_or}
 use Rattle.paris_geometry.specs.declared.direction.Direction.{Direction}
-use Rattle.paris_geometry.specs.declared.direction.Direction.TheVariants.{Upward, Downward}
 use Rattle.paris_geometry.specs.Geometry.{neighbour, processor_count}
 use Rattle.paris_model.specs.News.{news_sender}
 use Rattle.paris_model.specs.Store.{everywhere}
 use Rattle.paris_field.specs.Fields.{FieldNumbers, operand}
 use Rattle.paris_field.specs.Numbers.{bits_everywhere}
-
--- the coordinate from which a step in the direction wraps round, on an axis of n processors
-abbrev pub last_coordinate : Direction → ℕ → ℕ
-last_coordinate Upward n = n - 1
-last_coordinate Downward n = 0
 
 -- in each processor the low L bits at its neighbour in the direction
 abbrev pub moved_field : List ℕ → ℕ → Direction → ℕ → FieldNumbers → FieldNumbers

@@ -1,27 +1,14 @@
 //! Values moved by one place along an axis, which wraps round.
 
-ghost use Rattle.std.specs.Prelude.{◌≡◌, ◌==◌, ℕ, ◌<◌, ◌≤◌, IfOk, length, slice_index_or, false, true};
-ghost use Rattle.paris_geometry.specs.Geometry.{axis_length, coordinate, is_geometry, neighbour, opposite, processor_count};
-ghost use Rattle.paris_field.specs.Numbers.{AllOf, bits_everywhere, number_at};
-ghost use Rattle.paris_news.specs.News.{last_coordinate, moved_field, moved_plane, sent_field, sent_plane};
+ghost use Rattle.std.specs.Prelude.{◌≡◌, ℕ, ◌<◌, ◌≤◌, IfOk, length};
+ghost use Rattle.paris_geometry.specs.Geometry.{neighbour, opposite, processor_count};
+ghost use Rattle.paris_field.specs.Numbers.{AllOf, number_at};
+ghost use Rattle.paris_news.specs.News.{moved_field, moved_plane, sent_field, sent_plane};
 
-use crate::coordinates::coordinate_plane;
 use paris_field::FieldValue;
 use paris_geometry::{Direction, Geometry};
 use paris_plane::Plane;
 use std::alloc::{AllocError, Global};
-
-/// The coordinate from which a step in the direction wraps round.
-fn last_coordinate(geometry: Geometry, axis: usize, direction: Direction) -> u64
-    requires { axis < length geometry }
-    ensures value { result ≡ last_coordinate direction (axis_length geometry axis) }
-    ensures small { result < axis_length geometry axis }
-{
-    match direction {
-        Direction::Upward => geometry.len(axis) - 1,
-        Direction::Downward => 0,
-    }
-}
 
 /// The direction in which a step takes another back.
 fn opposite(direction: Direction) -> Direction
@@ -33,38 +20,26 @@ fn opposite(direction: Direction) -> Direction
     }
 }
 
-/// Puts the bit of its neighbour in the direction into each processor of `out`. `last` is where a step wraps round, and
-/// `wrapped` is written over.
+/// Puts the bit of its neighbour in the direction into each processor of `out`. A line along the axis is a period of the plane, which
+/// is turned by the stride.
 fn shift_into(
     geometry: Geometry,
     axis: usize,
     direction: Direction,
     source: &Plane,
-    last: &Plane,
-    wrapped: &mut Plane,
     out: &mut Plane,
 )
     requires axis { axis < length geometry }
     requires source { length source.now ≡ processor_count geometry }
-    requires last { last.now ≡ bits_everywhere (processor_count geometry) (λ v. coordinate geometry axis v == last_coordinate direction (axis_length geometry axis)) }
-    requires wrapped { length wrapped.old ≡ processor_count geometry }
     requires out { length out.old ≡ processor_count geometry }
-    ensures wrapped { length wrapped.new ≡ processor_count geometry }
-    ensures out { out.new ≡ moved_plane geometry axis direction source.now }
+    ensures { out.new ≡ moved_plane geometry axis direction source.now }
 {
     let stride = geometry.stride(axis);
-    let back = (geometry.len(axis) as usize - 1) * stride;
+    let period = geometry.len(axis) as usize * stride;
     match direction {
-        Direction::Upward => {
-            out.lower_from(source, stride);
-            wrapped.raise_from(source, back);
-        }
-        Direction::Downward => {
-            out.raise_from(source, stride);
-            wrapped.lower_from(source, back);
-        }
+        Direction::Upward => out.turn_down_from(source, stride, period),
+        Direction::Downward => out.turn_up_from(source, stride, period),
     }
-    out.select_in(last, wrapped);
 }
 
 /// The planes in which each processor has the number of its neighbour in the direction.
@@ -81,21 +56,10 @@ fn shift_planes(
     ensures long { IfOk result (λ planes. AllOf (processor_count geometry) planes.items) }
     ensures at { IfOk result (λ planes. (v : ℕ) → v < processor_count geometry → number_at planes.items v ≡ number_at source.now (neighbour geometry axis direction v)) }
 {
-    let place = last_coordinate(geometry, axis, direction);
-    let last = coordinate_plane(alloc, geometry, axis, place)?;
-    let mut wrapped = Plane::zeros(alloc, geometry.vps())?;
     let mut planes = Vec::with_capacity(alloc, source.len())?;
     for k in 0..source.len() {
         let mut out = Plane::zeros(alloc, geometry.vps())?;
-        shift_into(
-            geometry,
-            axis,
-            direction,
-            &source[k],
-            &last,
-            &mut wrapped,
-            &mut out,
-        );
+        shift_into(geometry, axis, direction, &source[k], &mut out);
         planes.push(out)?;
     }
     Ok(planes)
@@ -132,11 +96,8 @@ pub fn shift_plane(
     requires count { length x.now ≡ processor_count geometry }
     ensures { IfOk result (λ plane. plane ≡ moved_plane geometry axis direction x.now) }
 {
-    let place = last_coordinate(geometry, axis, direction);
-    let last = coordinate_plane(alloc, geometry, axis, place)?;
-    let mut wrapped = Plane::zeros(alloc, geometry.vps())?;
     let mut out = Plane::zeros(alloc, geometry.vps())?;
-    shift_into(geometry, axis, direction, x, &last, &mut wrapped, &mut out);
+    shift_into(geometry, axis, direction, x, &mut out);
     Ok(out)
 }
 

@@ -102,7 +102,7 @@ near_16 = record { some = omega arith; within = λ v h. omega arith; room = λ v
 near_32 : Near 32
 near_32 = record { some = omega arith; within = λ v h. omega arith; room = λ v h. omega arith }
 
-six_more : (k : ℕ) → 2 ^ suc (suc (suc (suc (suc (suc k))))) ≡ 64 * 2 ^ k
+pub six_more : (k : ℕ) → 2 ^ suc (suc (suc (suc (suc (suc k))))) ≡ 64 * 2 ^ k
 six_more k =
     omega (
       arith,

@@ -5,6 +5,7 @@ mod exchange;
 mod kernel;
 mod moves;
 mod plane;
+mod turns;
 
 pub use kernel::{And, Borrow, Or, Select, TripleOp, WordOp, Xor};
 pub use plane::{Plane, accumulate_step, add_step, subtract_step};

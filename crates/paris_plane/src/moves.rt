@@ -5,7 +5,7 @@ ghost use Rattle.paris_plane.specs.Bits.{bit_of};
 ghost use Rattle.paris_plane.specs.Moves.{joined_word};
 
 /// The low bits of `high`, `by` places up, and below them the high bits of `low`.
-fn joined(by: usize, high: u64, low: u64) -> u64
+pub(crate) fn joined(by: usize, high: u64, low: u64) -> u64
     requires some { 0 < by }
     requires small { by < 64 }
     ensures { result ≡ joined_word by high low }
@@ -14,7 +14,7 @@ fn joined(by: usize, high: u64, low: u64) -> u64
 }
 
 /// Puts into each word of `out` what two neighbours of `xs` make, of which the later is the higher.
-fn join_words(by: usize, xs: &[u64], out: &mut [u64])
+pub(crate) fn join_words(by: usize, xs: &[u64], out: &mut [u64])
     requires some { 0 < by }
     requires small { by < 64 }
     requires room { length out.old < length xs.now }

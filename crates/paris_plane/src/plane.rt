@@ -1,6 +1,6 @@
 //! A plane of bits, one for each virtual processor.
 
-ghost use Rattle.std.specs.Prelude.{◌≡◌, ◌≢◌, ◌↔◌, ℕ, ◌+◌, ◌*◌, ◌/◌, IfOk, IsTrue, cond, length, map, not, ◌<◌, replicate, slice_index, slice_index_or, slice_set, true, false, ◌&&◌, ◌||◌};
+ghost use Rattle.std.specs.Prelude.{◌≡◌, ◌≢◌, ◌↔◌, ℕ, ◌+◌, ◌-◌, ◌*◌, ◌/◌, ◌%◌, IfOk, IsTrue, cond, length, map, not, ◌<◌, ◌≤◌, replicate, slice_index, slice_index_or, slice_set, true, false, ◌&&◌, ◌||◌};
 ghost use Rattle.std.specs.Simd.Lanes.{zip2};
 ghost use Rattle.std.specs.Int.{IsPowerOfTwo};
 ghost use Rattle.paris_plane.specs.Bits.{borrow_bit, carry_bit, differ, stripes, sum_bit, word_bit, words_for, zip3};
@@ -12,6 +12,7 @@ use crate::kernel::{
     invert_words, put_triples, put_words, same_words, subtract_words,
 };
 use crate::moves::{lower_words, raise_words};
+use crate::turns::{turn_down_words, turn_up_words};
 use std::alloc::{AllocError, Global};
 use std::marker::Model;
 
@@ -233,6 +234,36 @@ impl Plane {
         ensures high { (v : ℕ) → digit distance v ≡ 0 → v + distance < length self.old → slice_index_or self.new (v + distance) false ≡ slice_index_or other.now v false }
     {
         exchange_words(distance, &other.words, &mut self.words);
+    }
+
+    /// Puts the bits of `other`, turned down by `by` places within each period of places: those that leave their period come in at
+    /// its upper end.
+    pub fn turn_down_from(&mut self, other: &Plane, by: usize, period: usize)
+        requires same { length self.old ≡ length other.now }
+        requires by { IsPowerOfTwo by }
+        requires period { IsPowerOfTwo period }
+        requires within { by ≤ period }
+        requires whole { length self.old % period ≡ 0 }
+        ensures long { length self.new ≡ length self.old }
+        ensures inside { (v : ℕ) → v < length self.old → v % period + by < period → slice_index_or self.new v false ≡ slice_index_or other.now (v + by) false }
+        ensures round { (v : ℕ) → v < length self.old → period ≤ v % period + by → slice_index_or self.new v false ≡ slice_index_or other.now (v + by - period) false }
+    {
+        turn_down_words(by, period, &other.words, &mut self.words);
+    }
+
+    /// Puts the bits of `other`, turned up by `by` places within each period of places: those that leave their period come in at its
+    /// lower end.
+    pub fn turn_up_from(&mut self, other: &Plane, by: usize, period: usize)
+        requires same { length self.old ≡ length other.now }
+        requires by { IsPowerOfTwo by }
+        requires period { IsPowerOfTwo period }
+        requires within { by ≤ period }
+        requires whole { length self.old % period ≡ 0 }
+        ensures long { length self.new ≡ length self.old }
+        ensures inside { (v : ℕ) → v < length self.old → by ≤ v % period → slice_index_or self.new v false ≡ slice_index_or other.now (v - by) false }
+        ensures round { (v : ℕ) → v < length self.old → v % period < by → slice_index_or self.new v false ≡ slice_index_or other.now (v + (period - by)) false }
+    {
+        turn_up_words(by, period, &other.words, &mut self.words);
     }
 
     /// Puts what the operation makes of each bit, that of `second` and that of `third` in its place.

@@ -1,6 +1,5 @@
 use Rattle.std.proofs.Common.{◌≡◌, ◌∙◌, ap, sym, arith, length, ℕ, List, Bool, [], subst, get_or, false, ◌+◌, take_all}
 use Rattle.std.proofs.lemmas.List.{get_or_read, length_push}
-use Rattle.std.proofs.lemmas.Simd.{length-replicate}
 use Rattle.paris_geometry.specs.Geometry.{processor_count, neighbour}
 use Rattle.paris_field.specs.Numbers.{AllOf, number_at, plane_at}
 use Rattle.paris_field.proofs.Places.{all_none, all_pushed, length-bits_everywhere}
@@ -13,7 +12,6 @@ loop-k-init c =
     let n : ℕ = processor_count c.args.geometry in
     let e : c.in_ok-planes.planes.items ≡ [] = c.in_ok-planes.ensures.items in
     record {
-      wrapped = ap length c.in_ok-wrapped.ensures ∙ length-replicate c.vps.result false ∙ c.vps.ensures.value;
       count = ap length e;
       long = subst (λ (ps : List (List Bool)). AllOf n ps) (sym e) (all_none n);
       at = λ v h. ap (λ (ps : List (List Bool)). number_at ps v) e;
@@ -26,14 +24,13 @@ loop-k-preserved c =
     let x : List Bool = c.index-source-k.result in
     let ex : x ≡ plane_at c.args.source.now k = get_or_read c.args.source.now k x c.loop-k-test.true c.index-source-k.is [] in
     let out : List Bool = c.shift_into.new.out in
-    let no : length out ≡ n = ap length c.shift_into.ensures.out ∙ length-bits_everywhere n _ in
+    let no : length out ≡ n = ap length c.shift_into.ensures ∙ length-bits_everywhere n _ in
     record {
-      wrapped = c.shift_into.ensures.wrapped;
       count = ap length c.in_ok-push.ensures.items ∙ length_push c.loop-k.planes.items out ∙ ap (λ j. j + 1) c.loop-k.invariant.count;
       long = subst (λ (ps : List (List Bool)). AllOf n ps) (sym c.in_ok-push.ensures.items) (all_pushed n c.loop-k.planes.items out c.loop-k.invariant.long no);
       at = λ v h.
           moved_more n k v (neighbour c.args.geometry c.args.axis c.args.direction v) c.args.source.now c.loop-k.planes.items c.push.new.self.items x out c.loop-k-test.true ex c.loop-k.invariant.count c.in_ok-push.ensures.items
-          (shifted_bit n v (λ u. get_or x (neighbour c.args.geometry c.args.axis c.args.direction u) false) out c.shift_into.ensures.out h)
+          (shifted_bit n v (λ u. get_or x (neighbour c.args.geometry c.args.axis c.args.direction u) false) out c.shift_into.ensures h)
           (c.loop-k.invariant.at v h);
     }
 

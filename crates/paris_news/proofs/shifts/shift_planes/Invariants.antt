@@ -5,7 +5,6 @@ use Rattle.paris_news.proofs.shifts.shift_planes.Given as goal
 
 abbrev pub invariant-loop-k : goal.invariant-loop-k
 invariant-loop-k l = record {
-  wrapped : length l.wrapped ≡ processor_count l.geometry;
   count : length l.planes.items ≡ l.k;
   long : AllOf (processor_count l.geometry) l.planes.items;
   at : (v : ℕ) → v < processor_count l.geometry → number_at l.planes.items v ≡ number_at (take l.k l.source) (neighbour l.geometry l.axis l.direction v);
