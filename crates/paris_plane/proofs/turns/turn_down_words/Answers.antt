@@ -3,8 +3,8 @@ use Rattle.paris_plane.proofs.Digits.{far}
 use Rattle.paris_plane.proofs.Turned.{Within, Whole, DownAcross, fit, power_some, whole_words, within_inside, within_round, whole_inside, whole_round, down_inside, down_round}
 use Rattle.paris_plane.proofs.turns.turn_down_words.Goals as goal
 
-pub turn_down_across-requires-clause-whole : goal.turn_down_across-requires-clause-whole
-turn_down_across-requires-clause-whole c =
+pub turn_down_near-requires-clause-whole : goal.turn_down_near-requires-clause-whole
+turn_down_near-requires-clause-whole c =
     whole_words (length c.args.xs.now) c.args.period (c.args.period / 64) (omega (arith, c.if-period-le64.false)) (far c.args.period c.requires.period (omega (arith, c.if-period-le64.false)))
     (c.requires.whole c.if-period-le64.false)
 
@@ -25,11 +25,11 @@ returns-then-period-le64-clause-round c =
 
 pub returns-then-by-lt64-clause-inside : goal.returns-then-by-lt64-clause-inside
 returns-then-by-lt64-clause-inside c =
-    let across : DownAcross c.args.by (c.args.period / 64) c.args.xs.now c.turn_down_across.new.out = record {
+    let across : DownAcross c.args.by (c.args.period / 64) c.args.xs.now c.turn_down_near.new.out = record {
       some = power_some c.args.by c.requires.by;
       small = c.if-by-lt64.true;
-      inside = c.turn_down_across.ensures.inside;
-      round = c.turn_down_across.ensures.round;
+      inside = c.turn_down_near.ensures.inside;
+      round = c.turn_down_near.ensures.round;
       fits = λ i. (c.type_inv.xs i).fits;
     } in
     let some : 0 < c.args.period / 64 = omega (arith, c.if-period-le64.false) in
@@ -38,11 +38,11 @@ returns-then-by-lt64-clause-inside c =
 
 pub returns-then-by-lt64-clause-round : goal.returns-then-by-lt64-clause-round
 returns-then-by-lt64-clause-round c =
-    let across : DownAcross c.args.by (c.args.period / 64) c.args.xs.now c.turn_down_across.new.out = record {
+    let across : DownAcross c.args.by (c.args.period / 64) c.args.xs.now c.turn_down_near.new.out = record {
       some = power_some c.args.by c.requires.by;
       small = c.if-by-lt64.true;
-      inside = c.turn_down_across.ensures.inside;
-      round = c.turn_down_across.ensures.round;
+      inside = c.turn_down_near.ensures.inside;
+      round = c.turn_down_near.ensures.round;
       fits = λ i. (c.type_inv.xs i).fits;
     } in
     let some : 0 < c.args.period / 64 = omega (arith, c.if-period-le64.false) in

@@ -4,8 +4,8 @@ use Rattle.paris_plane.proofs.Digits.{far}
 use Rattle.paris_plane.proofs.Turned.{Within, Whole, UpAcross, fit, power_some, whole_words, within_inside, within_round, whole_inside, whole_round, up_inside, up_round}
 use Rattle.paris_plane.proofs.turns.turn_up_words.Goals as goal
 
-pub turn_up_across-requires-clause-whole : goal.turn_up_across-requires-clause-whole
-turn_up_across-requires-clause-whole c =
+pub turn_up_near-requires-clause-whole : goal.turn_up_near-requires-clause-whole
+turn_up_near-requires-clause-whole c =
     whole_words (length c.args.xs.now) c.args.period (c.args.period / 64) (omega (arith, c.if-period-le64.false)) (far c.args.period c.requires.period (omega (arith, c.if-period-le64.false)))
     (c.requires.whole c.if-period-le64.false)
 
@@ -28,11 +28,11 @@ returns-then-period-le64-clause-round c =
 
 pub returns-then-by-lt64-clause-inside : goal.returns-then-by-lt64-clause-inside
 returns-then-by-lt64-clause-inside c =
-    let across : UpAcross c.args.by (c.args.period / 64) c.args.xs.now c.turn_up_across.new.out = record {
+    let across : UpAcross c.args.by (c.args.period / 64) c.args.xs.now c.turn_up_near.new.out = record {
       some = power_some c.args.by c.requires.by;
       small = c.if-by-lt64.true;
-      inside = c.turn_up_across.ensures.inside;
-      round = c.turn_up_across.ensures.round;
+      inside = c.turn_up_near.ensures.inside;
+      round = c.turn_up_near.ensures.round;
       fits = λ i. (c.type_inv.xs i).fits;
     } in
     let some : 0 < c.args.period / 64 = omega (arith, c.if-period-le64.false) in
@@ -41,11 +41,11 @@ returns-then-by-lt64-clause-inside c =
 
 pub returns-then-by-lt64-clause-round : goal.returns-then-by-lt64-clause-round
 returns-then-by-lt64-clause-round c =
-    let across : UpAcross c.args.by (c.args.period / 64) c.args.xs.now c.turn_up_across.new.out = record {
+    let across : UpAcross c.args.by (c.args.period / 64) c.args.xs.now c.turn_up_near.new.out = record {
       some = power_some c.args.by c.requires.by;
       small = c.if-by-lt64.true;
-      inside = c.turn_up_across.ensures.inside;
-      round = c.turn_up_across.ensures.round;
+      inside = c.turn_up_near.ensures.inside;
+      round = c.turn_up_near.ensures.round;
       fits = λ i. (c.type_inv.xs i).fits;
     } in
     let some : 0 < c.args.period / 64 = omega (arith, c.if-period-le64.false) in
