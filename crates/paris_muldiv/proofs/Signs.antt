@@ -21,17 +21,17 @@ sign_by_test false x y = refl
 turned : (h x : ℕ) → cond (ltb x h) false true ≡ leb h x
 turned h x = grind (arith, nat_tests)
 
-sign_is : (L x : ℕ) → is_below_zero (signed L x) ≡ leb (2 ^ (L - 1)) x
+pub sign_is : (L x : ℕ) → is_below_zero (signed L x) ≡ leb (2 ^ (L - 1)) x
 sign_is L x = sign_by_test (ltb x (2 ^ (L - 1))) x (2 ^ L - 1 - x) ∙ turned (2 ^ (L - 1)) x
 
 -- the product of two numbers of one sign, and of two signs
-product_alike : (z w : ℤ) → is_below_zero z ≡ is_below_zero w → z *ℤ w ≡ pos (unsigned_abs z * unsigned_abs w)
+pub product_alike : (z w : ℤ) → is_below_zero z ≡ is_below_zero w → z *ℤ w ≡ pos (unsigned_abs z * unsigned_abs w)
 product_alike (pos a) (pos b) e = refl
 product_alike (pos a) (negsuc b) e = grind (arith, e)
 product_alike (negsuc a) (pos b) e = grind (arith, e)
 product_alike (negsuc a) (negsuc b) e = refl
 
-product_unlike : (z w : ℤ) → is_below_zero z ≡ cond (is_below_zero w) false true → z *ℤ w ≡ neg_ℤ (pos (unsigned_abs z * unsigned_abs w))
+pub product_unlike : (z w : ℤ) → is_below_zero z ≡ cond (is_below_zero w) false true → z *ℤ w ≡ neg_ℤ (pos (unsigned_abs z * unsigned_abs w))
 product_unlike (pos a) (pos b) e = grind (arith, e)
 product_unlike (pos a) (negsuc b) e = refl
 product_unlike (negsuc a) (pos b) e = refl
@@ -54,7 +54,7 @@ opposite_rest m n q some none =
           omega (arith, is, many, below_a, below_b)
     ]
 
-opposite_low : (L n p : ℕ) → (n + p) % 2 ^ L ≡ 0 → low L n ≡ low L (low_signed L (neg_ℤ (pos p)))
+pub opposite_low : (L n p : ℕ) → (n + p) % 2 ^ L ≡ 0 → low L n ≡ low L (low_signed L (neg_ℤ (pos p)))
 opposite_low L n zero none =
     ap (λ t. t % 2 ^ L) (omega arith) ∙ none ∙ sym (ap (λ t. t % 2 ^ L) (zero-mod (2 ^ L)) ∙ zero-mod (2 ^ L))
 opposite_low L n (suc q) none =
@@ -62,7 +62,7 @@ opposite_low L n (suc q) none =
     let less : 2 ^ L - 1 - q % 2 ^ L < 2 ^ L = omega (arith, some) in
     opposite_rest (2 ^ L) n q some none ∙ sym (mod-eq_of_lt less)
 
-outside_unlike : (L p : ℕ) → leb (2 ^ (L - 1) + 1) p ≡ is_outside_signed L (neg_ℤ (pos p))
+pub outside_unlike : (L p : ℕ) → leb (2 ^ (L - 1) + 1) p ≡ is_outside_signed L (neg_ℤ (pos p))
 outside_unlike L zero = grind (arith, nat_tests, pow_pos (L - 1))
 outside_unlike L (suc q) = grind (arith, nat_tests)
 
@@ -78,7 +78,7 @@ alike_overflow L x y n high r whole signs is =
     is ∙ ap (leb (2 ^ (L - 1))) whole
     ∙ sym (ap (is_outside_signed L) (product_alike (signed L x) (signed L y) (sign_is L x ∙ signs ∙ sym (sign_is L y))))
 
-unlike_signs : (L x y : ℕ) → leb (2 ^ (L - 1)) x ≡ cond (leb (2 ^ (L - 1)) y) false true → is_below_zero (signed L x) ≡ cond (is_below_zero (signed L y)) false true
+pub unlike_signs : (L x y : ℕ) → leb (2 ^ (L - 1)) x ≡ cond (leb (2 ^ (L - 1)) y) false true → is_below_zero (signed L x) ≡ cond (is_below_zero (signed L y)) false true
 unlike_signs L x y signs = sign_is L x ∙ signs ∙ sym (ap (λ b. cond b false true) (sign_is L y))
 
 pub unlike_value : (L x y n r high : ℕ) → L ≤ 128 → n + 2 ^ 128 * high ≡ unsigned_abs (signed L x) * unsigned_abs (signed L y) → leb (2 ^ (L - 1)) x ≡ cond (leb (2 ^ (L - 1)) y) false true → (r + n) % 2 ^ 128 ≡ 0 → low L r ≡ low L (low_signed L (signed L x *ℤ signed L y))

@@ -6,6 +6,7 @@ mod numbers;
 mod planes;
 mod products;
 mod quotients;
+mod signed_planes;
 
 pub use products::multiply;
 pub use quotients::{remainder, truncate};
