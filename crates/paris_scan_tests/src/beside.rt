@@ -51,6 +51,45 @@ fn operand(number: u64, width: u64) -> Operand
     }
 }
 
+/// The instruction of a spread or a reduce from field 0 to field 1.
+fn whole_line(geometry: Geometry, case: &Case) -> Line<Operand>
+    requires axis { case.now.axis < length geometry }
+    requires place { case.now.place < axis_length geometry case.now.axis }
+    requires narrow { case.now.bits ≤ 64 }
+    ensures { IsFit geometry (AlongLine result) }
+{
+    let from = operand(0, 64);
+    let to = operand(1, 64);
+    let combiner = case.operator;
+    let axis = case.axis as u64;
+    let length = case.bits;
+    let coordinate = case.place;
+    match case.call {
+        Call::CopySpread => Line::CopySpread {
+            to,
+            from,
+            axis,
+            length,
+            coordinate,
+        },
+        Call::Reduce => Line::Reduce {
+            combiner,
+            to,
+            from,
+            axis,
+            length,
+            coordinate,
+        },
+        _ => Line::Spread {
+            combiner,
+            to,
+            from,
+            axis,
+            length,
+        },
+    }
+}
+
 /// The instruction of a call from field 0 to field 1, where segments begin where field 2 is 1.
 fn line(geometry: Geometry, case: &Case) -> Line<Operand>
     requires axis { case.now.axis < length geometry }
@@ -60,14 +99,12 @@ fn line(geometry: Geometry, case: &Case) -> Line<Operand>
 {
     let from = operand(0, 64);
     let to = operand(1, 64);
-    let segments = Some(operand(2, 1));
-    let combiner = case.operator;
     let axis = case.axis as u64;
     let length = case.bits;
-    let coordinate = case.place;
+    let segments = Some(operand(2, 1));
     match case.call {
         Call::Scan(direction, inclusion) => Line::Scan {
-            combiner,
+            combiner: case.operator,
             to,
             from,
             axis,
@@ -84,28 +121,7 @@ fn line(geometry: Geometry, case: &Case) -> Line<Operand>
             direction,
             segments,
         },
-        Call::Spread => Line::Spread {
-            combiner,
-            to,
-            from,
-            axis,
-            length,
-        },
-        Call::CopySpread => Line::CopySpread {
-            to,
-            from,
-            axis,
-            length,
-            coordinate,
-        },
-        Call::Reduce => Line::Reduce {
-            combiner,
-            to,
-            from,
-            axis,
-            length,
-            coordinate,
-        },
+        Call::Spread | Call::CopySpread | Call::Reduce => whole_line(geometry, case),
     }
 }
 
