@@ -1,6 +1,6 @@
 //! Moves of fields to and from neighbours.
 
-ghost use Rattle.std.specs.Prelude.{◌≡◌, ◌<◌, ◌≤◌, length};
+ghost use Rattle.std.specs.Prelude.{◌<◌, ◌≤◌, length};
 
 use crate::cases::Sample;
 use paris_field::FieldValue;
