@@ -56,23 +56,24 @@ pub shown_parts : (L v x : ℕ) (ps : List (List Bool)) → length ps ≡ L + 1 
 shown_parts L v x ps long e =
     parts (2 ^ L) (number_at (take L ps) v) (x % 2 ^ L) (get_or (plane_at ps L) v false) (leb (2 ^ L) x) (low_lt ps L v (omega arith)) (mod-lt x (pow_pos L)) (sym (split_at L v ps long) ∙ e)
 
-pub sums_joined : (L v : ℕ) (xs ys : List ℕ) (earlier later new : List (List Bool)) (carry : List Bool) → length earlier ≡ L + 1 → length later ≡ L + 1 → length new ≡ L + 1 → number_at earlier v ≡ sum_shown L xs → number_at later v ≡ sum_shown L ys → number_at (take L new) v + 2 ^ L * bit_in carry v ≡ number_at (take L earlier) v + number_at (take L later) v → get_or (plane_at new L) v false ≡ ((get_or (plane_at later L) v false || get_or (plane_at earlier L) v false) || get_or carry v false) → number_at new v ≡ sum_shown L (xs ++ ys)
+-- x and above it b came to v from where its partner's planes show a list, and were added to what showed another
+pub sums_joined : (L v x : ℕ) (b : Bool) (xs ys : List ℕ) (old new : List (List Bool)) (carry : List Bool) → length old ≡ L + 1 → length new ≡ L + 1 → x < 2 ^ L → x + 2 ^ L * bit b ≡ sum_shown L xs → number_at old v ≡ sum_shown L ys → number_at (take L new) v + 2 ^ L * bit_in carry v ≡ x + number_at (take L old) v → get_or (plane_at new L) v false ≡ ((get_or (plane_at old L) v false || b) || get_or carry v false) → number_at new v ≡ sum_shown L (xs ++ ys)
 unfolding sum_shown
-sums_joined L v xs ys earlier later new carry ne nl nn ex ey exact top =
+sums_joined L v x b xs ys old new carry nl nn small ex ey exact top =
     let p : ℕ = 2 ^ L in
-    let x : ℕ = sum xs in
+    let m : ℕ = sum xs in
     let y : ℕ = sum ys in
-    let a = shown_parts L v x earlier ne ex in
-    let b = shown_parts L v y later nl ey in
+    let came = parts p x (m % p) b (leb p m) small (mod-lt m (pow_pos L)) ex in
+    let there = shown_parts L v y old nl ey in
     let s : ℕ = number_at (take L new) v in
     let hs : s < p = low_lt new L v (omega (arith, nn)) in
-    let sums : s + p * bit_in carry v ≡ x % p + y % p = exact ∙ ap (λ t. t + number_at (take L later) v) a.0 ∙ ap (λ t. x % p + t) b.0 in
-    let low_is : s ≡ (x + y) % p = sum_mod s p (bit_in carry v) (x % p + y % p) hs sums ∙ sym (add-mod x y p) in
-    let top_is : get_or (plane_at new L) v false ≡ leb p (x + y) =
-    top ∙ ap (λ t. (t || get_or (plane_at earlier L) v false) || get_or carry v false) b.1 ∙ ap (λ t. (leb p y || t) || get_or carry v false) a.1
-    ∙ overflow_of p x y s (get_or carry v false) (pow_pos L) hs sums in
+    let sums : s + p * bit_in carry v ≡ m % p + y % p = exact ∙ ap (λ t. t + number_at (take L old) v) came.0 ∙ ap (λ t. m % p + t) there.0 in
+    let low_is : s ≡ (m + y) % p = sum_mod s p (bit_in carry v) (m % p + y % p) hs sums ∙ sym (add-mod m y p) in
+    let top_is : get_or (plane_at new L) v false ≡ leb p (m + y) =
+    top ∙ ap (λ t. (t || b) || get_or carry v false) there.1 ∙ ap (λ t. (leb p y || t) || get_or carry v false) came.1
+    ∙ overflow_of p m y s (get_or carry v false) (pow_pos L) hs sums in
     split_at L v new nn
-    ∙ ap (λ t. t + p * bit_in (plane_at new L) v) low_is ∙ ap (λ t. (x + y) % p + p * bit t) top_is
+    ∙ ap (λ t. t + p * bit_in (plane_at new L) v) low_is ∙ ap (λ t. (m + y) % p + p * bit t) top_is
     ∙ ap (λ t. t % p + p * bit (leb p t)) (sym (sum_append xs ys))
 
 pub take_set : {X : Type 0} (k : ℕ) (x : X) (ps : List X) → take k (set ps k x) ≡ take k ps

@@ -102,20 +102,20 @@ earlier_digit s v some e =
     elim (digit_cases s (v - s)) [ inl z ↦ z | inr z ↦ absurd (omega (arith, e, more, z)) ]
 
 -- one turn: each processor joins the block of the one whose place differs in one digit to its own
-pub record Turn (sh : List ℕ → ℕ) (P : ℕ → Type 0) (own : ℕ → List ℕ) (s n N : ℕ) (old other : ℕ → ℕ) : Type 0 where
+pub record Turn (sh : List ℕ → ℕ) (P : ℕ → Type 0) (own : ℕ → List ℕ) (s n N : ℕ) (old : ℕ → ℕ) : Type 0 where
   pub some : 0 < s
   pub more : 0 < n
   pub whole : N % (2 * (n * s)) ≡ 0
   pub swapped : (xs ys : List ℕ) → sh (xs ++ ys) ≡ sh (ys ++ xs)
   pub fits : (u : ℕ) → All P (own u)
   pub olds : (u : ℕ) → u < N → old u ≡ sh (block own s n u)
-  pub low : (u : ℕ) → digit (n * s) u ≡ 0 → u + n * s < N → other u ≡ old (u + n * s)
-  pub high : (u : ℕ) → digit (n * s) u ≡ 0 → u + n * s < N → other (u + n * s) ≡ old u
 
-pub gathered_twice : {sh : List ℕ → ℕ} {P : ℕ → Type 0} {own : ℕ → List ℕ} {s n N : ℕ} {old other : ℕ → ℕ} → Turn sh P own s n N old other → (new : ℕ → ℕ) (v : ℕ)
-    → ((xs ys : List ℕ) → All P xs → All P ys → other v ≡ sh xs → old v ≡ sh ys → new v ≡ sh (xs ++ ys))
+pub gathered_twice : {sh : List ℕ → ℕ} {P : ℕ → Type 0} {own : ℕ → List ℕ} {s n N : ℕ} {old : ℕ → ℕ} → Turn sh P own s n N old → (new : ℕ → ℕ) (v : ℕ)
+    → ((xs ys : List ℕ) → All P xs → All P ys
+    → ((x : ℕ) → (digit (n * s) v ≡ 0 → v + n * s < N → x ≡ old (v + n * s)) × ((u : ℕ) → digit (n * s) u ≡ 0 → v ≡ u + n * s → x ≡ old u) → x ≡ sh xs)
+    → old v ≡ sh ys → new v ≡ sh (xs ++ ys))
     → v < N → new v ≡ sh (block own s (n * 2) v)
-gathered_twice {sh} {P} {own} {s} {n} {N} {old} {other} t new v joined below =
+gathered_twice {sh} {P} {own} {s} {n} {N} {old} t new v joined below =
     let d : ℕ = n * s in
     let some : 0 < s = t.some in
     let more : 0 < n = t.more in
@@ -124,7 +124,7 @@ gathered_twice {sh} {P} {own} {s} {n} {N} {old} {other} t new v joined below =
     elim (digit_cases d v) [
       | inl e ↦
           let there : v + d < N = pair_before d N v pos t.whole e below in
-          joined (block own s n (v + d)) (block own s n v) (all (v + d)) (all v) (t.low v e there ∙ t.olds (v + d) there) (t.olds v below)
+          joined (block own s n (v + d)) (block own s n v) (all (v + d)) (all v) (λ x comes. comes.0 e there ∙ t.olds (v + d) there) (t.olds v below)
           ∙ t.swapped (block own s n (v + d)) (block own s n v)
           ∙ ap sh (sym (halves_below own s n v some more e))
       | inr e ↦
@@ -133,11 +133,11 @@ gathered_twice {sh} {P} {own} {s} {n} {N} {old} {other} t new v joined below =
           let is : u + d ≡ v = omega arith in
           let z : digit d u ≡ 0 = earlier_digit d v pos e in
           joined (block own s n u) (block own s n v) (all u) (all v)
-          (ap other (sym is) ∙ t.high u z (omega (arith, below, is)) ∙ t.olds u (omega (arith, below, is)))
+          (λ x comes. comes.1 u z (sym is) ∙ t.olds u (omega (arith, below, is)))
           (t.olds v below)
-          ∙ ap (λ x. sh (block own s n u ++ block own s n x)) (sym is)
+          ∙ ap (λ w. sh (block own s n u ++ block own s n w)) (sym is)
           ∙ ap sh (sym (halves_above own s n u some more z))
-          ∙ ap (λ x. sh (block own s (n * 2) x)) is
+          ∙ ap (λ w. sh (block own s (n * 2) w)) is
     ]
 
 -- the values of processors that pass a test, one after the other

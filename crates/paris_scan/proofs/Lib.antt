@@ -14,3 +14,4 @@ pub mod Placed
 pub mod Own
 pub mod Summed
 pub mod Copied
+pub mod Brought

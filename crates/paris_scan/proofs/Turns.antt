@@ -54,39 +54,38 @@ cut_append : (b : Bool) (r ys : List ℕ) → cond b [] r ++ ys ≡ cond b ys (r
 cut_append true r ys = refl
 cut_append false r ys = refl
 
-pub run_doubled : {axes : List ℕ} {a : ℕ} {d : Direction} {f : ℕ → Bool} → Walk axes a d f → (sh : List ℕ → ℕ) (P : ℕ → Type 0) (own : ℕ → List ℕ) (m by : ℕ) (begun : List Bool) (old earlier new : ℕ → ℕ) (v : ℕ) → sh [] ≡ 0 → ((u : ℕ) → All P (own u)) → by ≡ m * stride axes a → ((u : ℕ) → u < processor_count axes → get_or begun u false ≡ begun_within f d (stride axes a) m u)
+pub run_doubled : {axes : List ℕ} {a : ℕ} {d : Direction} {f : ℕ → Bool} → Walk axes a d f → (sh : List ℕ → ℕ) (P : ℕ → Type 0) (own : ℕ → List ℕ) (m by : ℕ) (begun : List Bool) (old new : ℕ → ℕ) (v : ℕ) → sh [] ≡ 0 → ((u : ℕ) → All P (own u)) → by ≡ m * stride axes a → ((u : ℕ) → u < processor_count axes → get_or begun u false ≡ begun_within f d (stride axes a) m u)
     → ((u : ℕ) → u < processor_count axes → old u ≡ sh (run f own d (stride axes a) m u))
-    → ((u : ℕ) → u < processor_count axes → get_or begun u false ≡ true → earlier u ≡ 0)
-    → ((u : ℕ) → u < processor_count axes → get_or begun u false ≡ false → Reaches d by (processor_count axes) u → earlier u ≡ old (before d by u))
-    → ((xs ys : List ℕ) → All P xs → All P ys → earlier v ≡ sh xs → old v ≡ sh ys → new v ≡ sh (xs ++ ys))
+    → ((xs ys : List ℕ) → All P xs → All P ys
+    → ((x : ℕ) → (get_or begun v false ≡ true → x ≡ 0) × (get_or begun v false ≡ false → Reaches d by (processor_count axes) v → x ≡ old (before d by v)) → x ≡ sh xs)
+    → old v ≡ sh ys → new v ≡ sh (xs ++ ys))
     → v < processor_count axes → new v ≡ sh (run f own d (stride axes a) (m * 2) v)
-run_doubled {axes} {a} {d} {f} w sh P own m by begun old earlier new v none fits is begins olds cuts moves joined below =
+run_doubled {axes} {a} {d} {f} w sh P own m by begun old new v none fits is begins olds joined below =
     let s : ℕ = stride axes a in
     let b : Bool = begun_within f d s m v in
     let r : List ℕ = run f own d s m (before d (m * s) v) in
     let ys : List ℕ = run f own d s m v in
     joined (cond b [] r) ys (cut_all P b r (run_all P f own d s m (before d (m * s) v) fits)) (run_all P f own d s m v fits)
-    (cut_shows sh b (earlier v) r none (λ t. cuts v below (begins v below ∙ t)) (λ n.
-    let reach : Reaches d by (processor_count axes) v = subst (λ x. Reaches d x (processor_count axes) v) (sym is) (reached axes a d f m v w.sound w.within w.starts below n) in
-    moves v below (begins v below ∙ n) reach ∙ olds (before d by v) (before_below d by (processor_count axes) v below reach)
-    ∙ ap (λ x. sh (run f own d s m (before d x v))) is))
+    (λ x comes. cut_shows sh b x r none (λ t. comes.0 (begins v below ∙ t)) (λ n.
+    let reach : Reaches d by (processor_count axes) v = subst (λ z. Reaches d z (processor_count axes) v) (sym is) (reached axes a d f m v w.sound w.within w.starts below n) in
+    comes.1 (begins v below ∙ n) reach ∙ olds (before d by v) (before_below d by (processor_count axes) v below reach)
+    ∙ ap (λ z. sh (run f own d s m (before d z v))) is))
     (olds v below)
     ∙ ap sh (cut_append b r ys ∙ sym (ap (λ k. run f own d s k v) (twice m) ∙ run_split f own d s m m v))
 
 -- what is moved on by one place at the end, and cut where a segment begins
-pub run_before : {axes : List ℕ} {a : ℕ} {d : Direction} {f : ℕ → Bool} → Walk axes a d f → (sh : List ℕ → ℕ) (own : ℕ → List ℕ) (k by : ℕ) (begins : List Bool) (last earlier : ℕ → ℕ) (v : ℕ) → sh [] ≡ 0 → by ≡ stride axes a
+pub run_before : {axes : List ℕ} {a : ℕ} {d : Direction} {f : ℕ → Bool} → Walk axes a d f → (sh : List ℕ → ℕ) (own : ℕ → List ℕ) (k by : ℕ) (begins : List Bool) (last : ℕ → ℕ) (v x : ℕ) → sh [] ≡ 0 → by ≡ stride axes a
     → ((u : ℕ) → u < processor_count axes → get_or begins u false ≡ f u)
     → ((u : ℕ) → u < processor_count axes → last u ≡ sh (run f own d (stride axes a) k u))
-    → ((u : ℕ) → u < processor_count axes → get_or begins u false ≡ true → earlier u ≡ 0)
-    → ((u : ℕ) → u < processor_count axes → get_or begins u false ≡ false → Reaches d by (processor_count axes) u → earlier u ≡ last (before d by u))
-    → v < processor_count axes → earlier v ≡ sh (cond (f v) [] (run f own d (stride axes a) k (before d (stride axes a) v)))
-run_before {axes} {a} {d} {f} w sh own k by begins last earlier v none is starts lasts cuts moves below =
+    → (get_or begins v false ≡ true → x ≡ 0) × (get_or begins v false ≡ false → Reaches d by (processor_count axes) v → x ≡ last (before d by v))
+    → v < processor_count axes → x ≡ sh (cond (f v) [] (run f own d (stride axes a) k (before d (stride axes a) v)))
+run_before {axes} {a} {d} {f} w sh own k by begins last v x none is starts lasts comes below =
     let s : ℕ = stride axes a in
-    cut_shows sh (f v) (earlier v) (run f own d s k (before d s v)) none (λ t. cuts v below (starts v below ∙ t)) (λ n.
+    cut_shows sh (f v) x (run f own d s k (before d s v)) none (λ t. comes.0 (starts v below ∙ t)) (λ n.
     let b = behind axes a d v w.sound w.within below (starts_at axes a d f v w.starts below n) in
-    let reach : Reaches d by (processor_count axes) v = subst (λ x. Reaches d x (processor_count axes) v) (sym is) b.reaches in
-    moves v below (starts v below ∙ n) reach
-    ∙ ap (λ x. last (before d x v)) is
+    let reach : Reaches d by (processor_count axes) v = subst (λ z. Reaches d z (processor_count axes) v) (sym is) b.reaches in
+    comes.1 (starts v below ∙ n) reach
+    ∙ ap (λ z. last (before d z v)) is
     ∙ lasts (before d s v) b.there)
 
 -- as many places as the line has are all that count

@@ -1,3 +1,4 @@
+pub mod Brings
 pub mod Firsts
 pub mod Laws
 pub mod Lines

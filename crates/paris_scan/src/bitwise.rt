@@ -8,6 +8,7 @@ ghost use Rattle.paris_field.specs.Numbers.{plane_at};
 ghost use Rattle.paris_scan.specs.Laws.{none_or, none_xor, one_or, one_xor, ors_swapped, xors_swapped};
 
 use crate::combine::{Combine, Commute};
+use crate::partner::{Partner, bring_planes};
 use paris_plane::{Or, Plane, WordOp, Xor};
 
 /// Puts what the operation makes of each bit and that of `other` in its place.
@@ -31,8 +32,9 @@ impl Combine for Ors {
 
     ghost none = { none_or };
 
-    fn join(earlier: &[Plane], later: &mut [Plane], _spare: &mut Plane) {
-        put_planes::<Or>(later, earlier);
+    fn join(partner: &Partner, state: &mut [Plane], brought: &mut [Plane], _spare: &mut Plane) {
+        bring_planes(partner, state, brought);
+        put_planes::<Or>(state, brought);
     }
 }
 
@@ -52,8 +54,9 @@ impl Combine for Xors {
 
     ghost none = { none_xor };
 
-    fn join(earlier: &[Plane], later: &mut [Plane], _spare: &mut Plane) {
-        put_planes::<Xor>(later, earlier);
+    fn join(partner: &Partner, state: &mut [Plane], brought: &mut [Plane], _spare: &mut Plane) {
+        bring_planes(partner, state, brought);
+        put_planes::<Xor>(state, brought);
     }
 }
 

@@ -1,47 +1,32 @@
 //! Values gathered over whole lines: after each step a processor holds what twice as many neighbours of its line show.
 
 ghost use Rattle.std.specs.Prelude.{◌≡◌, ℕ, ◌+◌, ◌^◌, ◌<◌, ◌≤◌, ◌∷◌, All, Bool, IfOk, List, [], length};
-ghost use Rattle.std.specs.Int.{IsPowerOfTwo};
-ghost use Rattle.paris_plane.specs.Digits.{digit};
 ghost use Rattle.paris_geometry.specs.Geometry.{axis_length, processor_count, stride};
 ghost use Rattle.paris_model.specs.Lines.{line_values, values_where};
-ghost use Rattle.paris_field.specs.Numbers.{AllOf, number_at, plane_at};
+ghost use Rattle.paris_field.specs.Numbers.{AllOf, number_at};
 ghost use Rattle.paris_scan.specs.Blocks.{block};
 
 use crate::combine::Commute;
+use crate::partner::Partner;
 use paris_field::zero_planes;
 use paris_geometry::Geometry;
 use paris_plane::Plane;
 use std::alloc::{AllocError, Global};
 
-/// Puts into each processor of `other` the number of the one whose place differs in the binary digit of weight `distance`.
-fn exchange_numbers(distance: usize, state: &[Plane], other: &mut [Plane])
-    requires power { IsPowerOfTwo distance }
-    requires same { length other.old ≡ length state.now }
-    requires long { (k : ℕ) → k < length state.now → length (plane_at other.old k) ≡ length (plane_at state.now k) }
-    ensures long { (k : ℕ) → k < length state.now → length (plane_at other.new k) ≡ length (plane_at state.now k) }
-    ensures low { (n v : ℕ) → AllOf n state.now → digit distance v ≡ 0 → v + distance < n → number_at other.new v ≡ number_at state.now (v + distance) }
-    ensures high { (n v : ℕ) → AllOf n state.now → digit distance v ≡ 0 → v + distance < n → number_at other.new (v + distance) ≡ number_at state.now v }
-{
-    for k in 0..state.len() {
-        other[k].exchange_from(&state[k], distance);
-    }
-}
-
-/// Puts into each processor what the lists of all processors of its line come to, by rising coordinate. `other` and `spare` are
+/// Puts into each processor what the lists of all processors of its line come to, by rising coordinate. `brought` and `spare` are
 /// written over.
 fn gather<C: Commute>(
     geometry: Geometry,
     axis: usize,
     state: &mut [Plane],
-    other: &mut [Plane],
+    brought: &mut [Plane],
     spare: &mut Plane,
 )
     requires axis { axis < length geometry }
     requires some { C.extra ≤ length state.old }
-    requires same { length other.old ≡ length state.old }
+    requires same { length brought.old ≡ length state.old }
     requires state { AllOf (processor_count geometry) state.old }
-    requires other { AllOf (processor_count geometry) other.old }
+    requires brought { AllOf (processor_count geometry) brought.old }
     requires spare { length spare.old ≡ processor_count geometry }
     ensures long { AllOf (processor_count geometry) state.new }
     ensures lines { (L : ℕ) (own : ℕ → List ℕ) → length state.old ≡ L + C.extra → ((u : ℕ) → All (λ x. x < 2 ^ L) (own u))
@@ -52,8 +37,10 @@ fn gather<C: Commute>(
     let stride = geometry.stride(axis);
     let mut places: usize = 1;
     while places < length {
-        exchange_numbers(places * stride, state, other);
-        C::join(other, state, spare);
+        let partner = Partner::Across {
+            distance: places * stride,
+        };
+        C::join(&partner, state, brought, spare);
         places *= 2;
     }
 }
@@ -76,8 +63,8 @@ pub fn spread_planes<C: Commute>(
         → (v : ℕ) → v < processor_count geometry → number_at planes.items v ≡ C.shows L (line_values geometry axis selected value v)) }
 {
     let vps = geometry.vps();
-    let mut other = zero_planes(alloc, state.len(), vps)?;
+    let mut brought = zero_planes(alloc, state.len(), vps)?;
     let mut spare = Plane::zeros(alloc, vps)?;
-    gather::<C>(geometry, axis, &mut state, &mut other, &mut spare);
+    gather::<C>(geometry, axis, &mut state, &mut brought, &mut spare);
     Ok(state)
 }

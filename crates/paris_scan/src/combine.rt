@@ -2,7 +2,9 @@
 
 ghost use Rattle.std.specs.Prelude.{◌≡◌, ℕ, ◌+◌, ◌^◌, ◌<◌, ◌≤◌, ◌++◌, All, List, [], ◌∷◌, length};
 ghost use Rattle.paris_field.specs.Numbers.{AllOf, number_at};
+ghost use Rattle.paris_scan.specs.Brings.{Among, Brings};
 
+use crate::partner::Partner;
 use paris_plane::Plane;
 
 /// What the values of a list come to, as a number that planes hold, and how the numbers of two lists make that of one after
@@ -12,16 +14,19 @@ pub trait Combine {
 
     ghost shows: { ℕ → List ℕ → ℕ };
 
-    /// Puts into `later` what the lists that `earlier` shows and those that `later` shows come to, one after the other.
-    fn join(earlier: &[Plane], later: &mut [Plane], spare: &mut Plane)
-        requires some { extra ≤ length earlier.now }
-        requires same { length earlier.now ≡ length later.old }
-        requires earlier { AllOf (length spare.old) earlier.now }
-        requires later { AllOf (length spare.old) later.old }
+    /// Puts into each processor what the list that its partner's planes show and the one that its own show come to, one after
+    /// the other. `brought` and `spare` are written over.
+    fn join(partner: &Partner, state: &mut [Plane], brought: &mut [Plane], spare: &mut Plane)
+        requires some { extra ≤ length state.old }
+        requires same { length brought.old ≡ length state.old }
+        requires partner { Among (length spare.old) partner.now }
+        requires state { AllOf (length spare.old) state.old }
+        requires brought { AllOf (length spare.old) brought.old }
         ensures spare { length spare.new ≡ length spare.old }
-        ensures long { AllOf (length spare.old) later.new }
-        ensures joined { (L v : ℕ) (xs ys : List ℕ) → length earlier.now ≡ L + extra → v < length spare.old → All (λ x. x < 2 ^ L) xs → All (λ x. x < 2 ^ L) ys
-            → number_at earlier.now v ≡ shows L xs → number_at later.old v ≡ shows L ys → number_at later.new v ≡ shows L (xs ++ ys) };
+        ensures long { AllOf (length spare.old) state.new }
+        ensures brought { AllOf (length spare.old) brought.new }
+        ensures joined { (L v : ℕ) (xs ys : List ℕ) → length state.old ≡ L + extra → v < length spare.old → All (λ x. x < 2 ^ L) xs → All (λ x. x < 2 ^ L) ys
+            → ((x : ℕ) → Brings 0 partner.now (length spare.old) (number_at state.old) v x → x ≡ shows L xs) → number_at state.old v ≡ shows L ys → number_at state.new v ≡ shows L (xs ++ ys) };
 
     ghost none: { (L : ℕ) → shows L [] ≡ 0 };
 }

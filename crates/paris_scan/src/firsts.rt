@@ -4,6 +4,7 @@ ghost use Rattle.paris_scan.specs.Firsts.{first_shown};
 ghost use Rattle.paris_scan.specs.Laws.{none_first};
 
 use crate::combine::Combine;
+use crate::partner::{Partner, bring_planes};
 use paris_field::merge_planes;
 use paris_plane::Plane;
 
@@ -17,8 +18,10 @@ impl Combine for Firsts {
 
     ghost none = { none_first };
 
-    fn join(earlier: &[Plane], later: &mut [Plane], _spare: &mut Plane) {
-        let top = earlier.len() - 1;
-        merge_planes(later, &earlier[top], earlier, earlier.len());
+    fn join(partner: &Partner, state: &mut [Plane], brought: &mut [Plane], _spare: &mut Plane) {
+        let top = state.len() - 1;
+        bring_planes(partner, state, brought);
+        let earlier: &[Plane] = brought;
+        merge_planes(state, &earlier[top], earlier, earlier.len());
     }
 }

@@ -8,7 +8,7 @@ ghost use Rattle.paris_scan.specs.Runs.{begins_run, first_coordinate};
 
 use crate::combine::Combine;
 use crate::doubling::double;
-use crate::moves::move_numbers;
+use crate::partner::{Partner, bring_planes};
 use paris_field::zero_planes;
 use paris_geometry::{Direction, Geometry};
 use paris_model::Inclusion;
@@ -70,7 +70,7 @@ pub fn scan_planes<C: Combine>(
     let vps = along.geometry.vps();
     let begins = begin_plane(alloc, along, segments)?;
     let mut begun = begins.copy()?;
-    let mut earlier = zero_planes(alloc, state.len(), vps)?;
+    let mut brought = zero_planes(alloc, state.len(), vps)?;
     let mut spare = Plane::zeros(alloc, vps)?;
     double::<C>(
         along.geometry,
@@ -78,15 +78,19 @@ pub fn scan_planes<C: Combine>(
         along.direction,
         &mut begun,
         &mut state,
-        &mut earlier,
+        &mut brought,
         &mut spare,
     );
     match along.inclusion {
         Inclusion::Inclusive => Ok(state),
         Inclusion::Exclusive => {
-            let by = along.geometry.stride(along.axis);
-            move_numbers(along.direction, by, &state, &begins, &mut earlier);
-            Ok(earlier)
+            let partner = Partner::Before {
+                direction: along.direction,
+                by: along.geometry.stride(along.axis),
+                begun: &begins,
+            };
+            bring_planes(&partner, &state, &mut brought);
+            Ok(brought)
         }
     }
 }

@@ -7,6 +7,7 @@ ghost use Rattle.paris_field.specs.Numbers.{AllOf, number_at};
 ghost use Rattle.paris_scan.specs.Laws.{maxima_swapped, none_maximum, one_maximum};
 
 use crate::combine::{Combine, Commute};
+use crate::partner::{Partner, bring_planes};
 use paris_field::merge_planes;
 use paris_plane::{Borrow, Plane};
 
@@ -34,9 +35,10 @@ impl Combine for Maxima {
 
     ghost none = { none_maximum };
 
-    fn join(earlier: &[Plane], later: &mut [Plane], spare: &mut Plane) {
-        mark_below(later, earlier, spare);
-        merge_planes(later, spare, earlier, earlier.len());
+    fn join(partner: &Partner, state: &mut [Plane], brought: &mut [Plane], spare: &mut Plane) {
+        bring_planes(partner, state, brought);
+        mark_below(state, brought, spare);
+        merge_planes(state, spare, brought, brought.len());
     }
 }
 

@@ -2,25 +2,36 @@
 
 ghost use Rattle.std.specs.Prelude.{◌≡◌, ℕ, ◌+◌, ◌*◌, ◌^◌, ◌<◌, ◌≤◌, ◌||◌, drop, false, length, slice_index_or, take};
 ghost use Rattle.paris_field.specs.Numbers.{AllOf, bit_in, number_at};
+ghost use Rattle.paris_scan.specs.Brings.{Among, SumBrought};
 ghost use Rattle.paris_scan.specs.Laws.{none_sum, one_sum, sums_swapped};
 ghost use Rattle.paris_scan.specs.Sums.{sum_shown};
 
 use crate::combine::{Combine, Commute};
+use crate::partner::{Partner, bring};
 use paris_plane::{Plane, accumulate_step};
 
-/// Adds the numbers of the low planes of `x` and `carry` to those of `sum`, and leaves in `carry` what is carried out.
-fn accumulate(x: &[Plane], sum: &mut [Plane], count: usize, carry: &mut Plane)
-    requires x { count ≤ length x.now }
-    requires sum { count ≤ length sum.old }
-    requires x_planes { AllOf (length carry.old) x.now }
-    requires s_planes { AllOf (length carry.old) sum.old }
+/// Adds the numbers that come from partners, of the low planes, to those that are there, and leaves in `carry` what is carried
+/// out. Each plane is brought into `scratch`, and added at once.
+fn add_brought(
+    partner: &Partner,
+    state: &mut [Plane],
+    count: usize,
+    scratch: &mut Plane,
+    carry: &mut Plane,
+)
+    requires count { count ≤ length state.old }
+    requires partner { Among (length carry.old) partner.now }
+    requires state { AllOf (length carry.old) state.old }
+    requires scratch { length scratch.old ≡ length carry.old }
     ensures long { length carry.new ≡ length carry.old }
-    ensures planes { AllOf (length carry.old) sum.new }
-    ensures exact { (v : ℕ) → v < length carry.old → number_at (take count sum.new) v + 2 ^ count * bit_in carry.new v ≡ number_at (take count x.now) v + number_at (take count sum.old) v + bit_in carry.old v }
-    ensures high { drop count sum.new ≡ drop count sum.old }
+    ensures scratch { length scratch.new ≡ length carry.old }
+    ensures planes { AllOf (length carry.old) state.new }
+    ensures exact { (v : ℕ) → v < length carry.old → bit_in carry.old v ≡ 0 → SumBrought partner.now (length carry.old) (take count state.old) count v (number_at (take count state.new) v + 2 ^ count * bit_in carry.new v) }
+    ensures high { drop count state.new ≡ drop count state.old }
 {
     for k in 0..count {
-        accumulate_step(&x[k], &mut sum[k], carry);
+        bring(partner, &state[k], scratch);
+        accumulate_step(scratch, &mut state[k], carry);
     }
 }
 
@@ -45,11 +56,13 @@ impl Combine for Sums {
 
     ghost none = { none_sum };
 
-    fn join(earlier: &[Plane], later: &mut [Plane], spare: &mut Plane) {
-        let top = earlier.len() - 1;
+    fn join(partner: &Partner, state: &mut [Plane], brought: &mut [Plane], spare: &mut Plane) {
+        let top = state.len() - 1;
+        let scratch = &mut brought[0];
         spare.fill(false);
-        accumulate(earlier, later, top, spare);
-        or_both(&earlier[top], spare, &mut later[top]);
+        add_brought(partner, state, top, scratch, spare);
+        bring(partner, &state[top], scratch);
+        or_both(scratch, spare, &mut state[top]);
     }
 }
 

@@ -18,13 +18,13 @@ loop-places-init g c =
       some = omega arith;
       room = omega (arith, some, c.len-length.ensures);
       long = c.requires.state;
-      other_long = c.requires.other;
+      brought_long = c.requires.brought;
       spare_long = c.requires.spare;
       lines = λ L own count fits shown v h. shown v h ∙ ap (g.C.Combine.shows L) (sym (block_one own (stride axes c.args.axis) v));
     }
 
-pub exchange_numbers-requires-clause-power : goal.exchange_numbers-requires-clause-power
-exchange_numbers-requires-clause-power g c =
+pub join-requires-clause-partner : goal.join-requires-clause-partner
+join-requires-clause-partner g c =
     power_times c.loop-places.places c.stride-stride.result c.loop-places.invariant.power
     (subst IsPowerOfTwo (sym c.stride-stride.ensures.value) (stride_power c.args.geometry c.args.axis c.stride-stride.ensures.sound))
 
@@ -35,32 +35,33 @@ loop-places-preserved g c =
     let s : ℕ = stride axes c.args.axis in
     let N : ℕ = processor_count axes in
     let old : ℕ → ℕ = number_at c.loop-places.state in
-    let other : ℕ → ℕ = number_at c.exchange_numbers.new.other in
     let is : n * c.stride-stride.result ≡ n * s = ap (λ (x : ℕ). n * x) c.stride-stride.ensures.value in
+    let ns : length c.loop-places.spare ≡ N = c.loop-places.invariant.spare_long in
     let below : n < axis_length axes c.args.axis = omega (arith, c.len-length.ensures) in
     let twice = block_doubles axes c.args.axis n c.stride-stride.ensures.sound c.requires.axis c.loop-places.invariant.power below in
     record {
       power = twice.power;
       some = (let y : 0 < n = c.loop-places.invariant.some in omega arith);
       room = omega (arith, twice.room, c.len-length.ensures);
-      long = λ k h. c.join.ensures.long k h ∙ c.loop-places.invariant.spare_long;
-      other_long = λ k h.
-          let there : k < length c.loop-places.state = omega (arith, h) in
-          c.exchange_numbers.ensures.long k there ∙ c.loop-places.invariant.long k there;
-      spare_long = c.join.ensures.spare ∙ c.loop-places.invariant.spare_long;
+      long = λ k h. c.join.ensures.long k h ∙ ns;
+      brought_long = λ k h. c.join.ensures.brought k h ∙ ns;
+      spare_long = c.join.ensures.spare ∙ ns;
       lines = λ L own count fits shown v h.
-          let turn : Turn (g.C.Combine.shows L) (λ x. x < 2 ^ L) own s n N old other = record {
+          let turn : Turn (g.C.Combine.shows L) (λ x. x < 2 ^ L) own s n N old = record {
             some = c.stride-stride.ensures.positive;
             more = c.loop-places.invariant.some;
             whole = twice.whole;
             swapped = g.met.C.Commute.swapped L;
             fits = fits;
             olds = c.loop-places.invariant.lines L own count fits shown;
-            low = subst (λ d. (u : ℕ) → digit d u ≡ 0 → u + d < N → other u ≡ old (u + d)) is (λ u e there. c.exchange_numbers.ensures.low N u c.loop-places.invariant.long e there);
-            high = subst (λ d. (u : ℕ) → digit d u ≡ 0 → u + d < N → other (u + d) ≡ old u) is (λ u e there. c.exchange_numbers.ensures.high N u c.loop-places.invariant.long e there);
           } in
-          gathered_twice turn (number_at c.join.new.later) v
-          (λ xs ys hx hy ex ey. c.join.ensures.joined L v xs ys (omega (arith, count, c.requires.same)) (omega (arith, h, c.loop-places.invariant.spare_long)) hx hy ex ey)
+          gathered_twice turn (number_at c.join.new.state) v
+          (λ xs ys hx hy ex ey. c.join.ensures.joined L v xs ys (omega (arith, count, c.requires.same)) (omega (arith, h, ns)) hx hy
+          (λ x comes. ex x (
+            λ e there. comes.0 (ap (λ (d : ℕ). digit d v) is ∙ e) (omega (arith, there, ns, is)) ∙ ap (λ (d : ℕ). old (v + d)) is,
+            λ u e place. comes.1 u (ap (λ (d : ℕ). digit d u) is ∙ e) (place ∙ ap (λ (d : ℕ). u + d) (sym is)),
+          ))
+          ey)
           h;
     }
 

@@ -12,7 +12,7 @@ invariant-loop-places g l = record {
   some : 0 < l.places;
   room : l.places ≤ l.length;
   long : AllOf (processor_count l.fn.geometry) l.state;
-  other_long : AllOf (processor_count l.fn.geometry) l.other;
+  brought_long : AllOf (processor_count l.fn.geometry) l.brought;
   spare_long : length l.spare ≡ processor_count l.fn.geometry;
   lines : (L : ℕ) (own : ℕ → List ℕ) → length l.fn.state ≡ L + g.C.Combine.extra → ((u : ℕ) → All (λ x. x < 2 ^ L) (own u)) → ((v : ℕ) → v < processor_count l.fn.geometry → number_at l.fn.state v ≡ g.C.Combine.shows L (own v))
       → (v : ℕ) → v < processor_count l.fn.geometry → number_at l.state v ≡ g.C.Combine.shows L (block own (stride l.fn.geometry l.axis) l.places v);

@@ -14,7 +14,7 @@ loop-places-init g c =
       some = omega arith;
       begun_long = c.requires.begun;
       long = c.requires.state;
-      earlier_long = c.requires.earlier;
+      brought_long = c.requires.brought;
       spare_long = c.requires.spare;
       within = λ v h. sym (begun_one f c.args.direction (stride c.args.geometry c.args.axis) v);
       runs = λ L own count fits shown v h. shown v h ∙ ap (g.C.Combine.shows L) (sym (run_one f own c.args.direction (stride c.args.geometry c.args.axis) v));
@@ -35,18 +35,18 @@ loop-places-preserved g c =
       some = (let y : 0 < m = c.loop-places.invariant.some in omega arith);
       begun_long = ap length c.or_in.ensures ∙ length-zip2 (λ x y. x || y) c.loop-places.begun c.move_plane.new.out (nb ∙ sym no) ∙ nb;
       long = λ k h. c.join.ensures.long k h ∙ c.loop-places.invariant.spare_long;
-      earlier_long = λ k h. c.move_numbers.ensures.long k h ∙ nb;
+      brought_long = λ k h. c.join.ensures.brought k h ∙ c.loop-places.invariant.spare_long;
       spare_long = no;
       within = λ v h.
           begun_doubled w m by c.loop-places.begun c.move_plane.new.out c.or_in.new.self v is nb no c.loop-places.invariant.within
           (λ u below reach. c.move_plane.ensures.at u (omega (arith, below, nb)) (subst (λ n. Reaches c.args.direction by n u) (sym nb) reach))
           c.or_in.ensures h;
       runs = λ L own count fits shown v h.
-          run_doubled w (g.C.Combine.shows L) (λ x. x < 2 ^ L) own m by c.loop-places.begun (number_at c.loop-places.state) (number_at c.move_numbers.new.earlier) (number_at c.join.new.later) v
+          run_doubled w (g.C.Combine.shows L) (λ x. x < 2 ^ L) own m by c.loop-places.begun (number_at c.loop-places.state) (number_at c.join.new.state) v
           (g.met.C.Combine.none L) fits is c.loop-places.invariant.within (c.loop-places.invariant.runs L own count fits shown)
-          (λ u below t. c.move_numbers.ensures.cut u (omega (arith, below, nb)) t)
-          (λ u below n reach. c.move_numbers.ensures.moved u (omega (arith, below, nb)) n (subst (λ k. Reaches c.args.direction by k u) (sym nb) reach))
-          (λ xs ys hx hy ex ey. c.join.ensures.joined L v xs ys (omega (arith, count, c.requires.same)) (omega (arith, h, c.loop-places.invariant.spare_long)) hx hy ex ey)
+          (λ xs ys hx hy ex ey. c.join.ensures.joined L v xs ys (omega (arith, count, c.requires.same)) (omega (arith, h, c.loop-places.invariant.spare_long)) hx hy
+          (λ x comes. ex x (comes.0, λ e reach. comes.1 e (subst (λ k. Reaches c.args.direction by k v) (sym c.loop-places.invariant.spare_long) reach)))
+          ey)
           h;
     }
 

@@ -10,7 +10,7 @@ invariant-loop-places g l = record {
   some : 0 < l.places;
   begun_long : length l.begun ≡ processor_count l.fn.geometry;
   long : AllOf (processor_count l.fn.geometry) l.state;
-  earlier_long : AllOf (processor_count l.fn.geometry) l.earlier;
+  brought_long : AllOf (processor_count l.fn.geometry) l.brought;
   spare_long : length l.spare ≡ processor_count l.fn.geometry;
   within : (v : ℕ) → v < processor_count l.fn.geometry → get_or l.begun v false ≡ begun_within (λ u. get_or l.fn.begun u false) l.direction (stride l.fn.geometry l.axis) l.places v;
   runs : (L : ℕ) (own : ℕ → List ℕ) → length l.fn.state ≡ L + g.C.Combine.extra → ((u : ℕ) → All (λ x. x < 2 ^ L) (own u)) → ((v : ℕ) → v < processor_count l.fn.geometry → number_at l.fn.state v ≡ g.C.Combine.shows L (own v))

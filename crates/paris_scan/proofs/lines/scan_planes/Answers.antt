@@ -1,4 +1,5 @@
-use Rattle.std.proofs.Common.{◌≡◌, ◌∙◌, ℕ, ◌<◌, ap, sym, arith, length, List, Bool, subst, get_or, false, [], ◌∷◌}
+use Rattle.std.proofs.Common.{◌≡◌, ◌∙◌, ℕ, ◌<◌, ap, sym, arith, length, List, Bool, subst, get_or, false, [], ◌∷◌, replicate}
+use Rattle.std.proofs.lemmas.Simd.{length-replicate}
 use Rattle.paris_geometry.specs.declared.direction.Direction.{Direction}
 use Rattle.paris_geometry.specs.Geometry.{axis_length, processor_count, stride}
 use Rattle.paris_model.specs.declared.operators.Inclusion.{Inclusion}
@@ -6,8 +7,9 @@ use Rattle.paris_model.specs.Lines.{values_where, scan_values}
 use Rattle.paris_field.specs.Numbers.{AllOf, has, number_at}
 use Rattle.paris_field.proofs.Places.{get_or-bits_everywhere, length-bits_everywhere}
 use Rattle.paris_plane.proofs.Bits.{written}
-use Rattle.paris_scan.specs.Runs.{Reaches, begins_run, run}
+use Rattle.paris_scan.specs.Runs.{begins_run, run}
 use Rattle.paris_scan.proofs.Turns.{Walk, run_before, run_same, starts_line}
+use Rattle.paris_scan.proofs.Brought.{all_brought}
 use Rattle.paris_scan.proofs.Defined.{inclusive_run}
 use Rattle.paris_scan.proofs.Excluded.{exclusive_run}
 use Rattle.paris_scan.proofs.Added.{own_fits}
@@ -25,19 +27,24 @@ double-requires-clause-starts g c =
     ∙ get_or-bits_everywhere (processor_count axes) (begins_run axes c.args.along.now.axis c.args.along.now.direction seg) v h
     ∙ starts_line axes c.args.along.now.axis c.args.along.now.direction seg v e
 
-pub move_numbers-requires-clause-state : goal.move_numbers-requires-clause-state
-move_numbers-requires-clause-state g c =
+pub bring_planes-requires-clause-partner : goal.bring_planes-requires-clause-partner
+bring_planes-requires-clause-partner g c =
     let n : ℕ = processor_count c.args.along.now.geometry in
     let nb : length c.in_ok-begins.begins ≡ n = ap length c.in_ok-begins.ensures ∙ length-bits_everywhere n _ in
     let is : c.deref.result.now ≡ c.double.new.state = c.deref.ensures.value ∙ written _ c.double.new.state _ (c.double.auto.state ∙ c.deref_mut.ensures.len) in
-    subst (λ (ps : List (List Bool)). AllOf (length c.in_ok-begins.begins) ps) (sym is) (λ k h. c.double.ensures.long k h ∙ sym nb)
+    let all : AllOf n c.deref.result.now = subst (λ (ps : List (List Bool)). AllOf n ps) (sym is) c.double.ensures.long in
+    λ k h. nb ∙ sym (all k h)
 
-pub move_numbers-requires-clause-earlier : goal.move_numbers-requires-clause-earlier
-move_numbers-requires-clause-earlier g c =
+pub bring_planes-requires-clause-out : goal.bring_planes-requires-clause-out
+bring_planes-requires-clause-out g c =
     let n : ℕ = processor_count c.args.along.now.geometry in
-    let nb : length c.in_ok-begins.begins ≡ n = ap length c.in_ok-begins.ensures ∙ length-bits_everywhere n _ in
-    let is : c.deref_mut-in-Exclusive.result.now ≡ c.double.new.earlier = c.deref_mut-in-Exclusive.ensures.value ∙ written _ c.double.new.earlier _ (c.double.auto.earlier ∙ c.deref_mut-2.ensures.len) in
-    subst (λ (ps : List (List Bool)). AllOf (length c.in_ok-begins.begins) ps) (sym is) (λ k h. c.double.ensures.earlier k h ∙ sym nb)
+    let is : c.deref.result.now ≡ c.double.new.state = c.deref.ensures.value ∙ written _ c.double.new.state _ (c.double.auto.state ∙ c.deref_mut.ensures.len) in
+    let all : AllOf n c.deref.result.now = subst (λ (ps : List (List Bool)). AllOf n ps) (sym is) c.double.ensures.long in
+    let there : c.deref_mut-in-Exclusive.result.now ≡ c.double.new.brought = c.deref_mut-in-Exclusive.ensures.value ∙ written _ c.double.new.brought _ (c.double.auto.brought ∙ c.deref_mut-2.ensures.len) in
+    let old : AllOf n c.deref_mut-in-Exclusive.result.now = subst (λ (ps : List (List Bool)). AllOf n ps) (sym there) c.double.ensures.brought in
+    let count : length c.in_ok-brought.brought.items ≡ c.args.state.len = ap length c.in_ok-brought.ensures ∙ length-replicate c.len.result (replicate c.vps-vps.result false) ∙ c.len.ensures in
+    let same : length c.deref_mut-in-Exclusive.result.now ≡ length c.deref.result.now = omega (arith, count, ap length there, ap length is, c.double.auto.brought, c.double.auto.state, ap length c.deref_mut-2.ensures.value, c.deref_mut.ensures.len) in
+    λ k h. old k (omega (arith, h, same)) ∙ sym (all k h)
 
 pub returns-in-Inclusive-clause-long : goal.returns-in-Inclusive-clause-long
 returns-in-Inclusive-clause-long g c =
@@ -64,8 +71,13 @@ returns-in-Inclusive-clause-shows g c =
 pub returns-in-Exclusive-clause-long : goal.returns-in-Exclusive-clause-long
 returns-in-Exclusive-clause-long g c =
     let n : ℕ = processor_count c.args.along.now.geometry in
-    let nb : length c.in_ok-begins.begins ≡ n = ap length c.in_ok-begins.ensures ∙ length-bits_everywhere n _ in
-    subst (λ (ps : List (List Bool)). AllOf n ps) (sym (written _ c.move_numbers.new.earlier _ (c.move_numbers.auto.earlier ∙ c.deref_mut-in-Exclusive.ensures.len))) (λ k h. c.move_numbers.ensures.long k h ∙ nb)
+    let is : c.deref.result.now ≡ c.double.new.state = c.deref.ensures.value ∙ written _ c.double.new.state _ (c.double.auto.state ∙ c.deref_mut.ensures.len) in
+    let there : c.deref_mut-in-Exclusive.result.now ≡ c.double.new.brought = c.deref_mut-in-Exclusive.ensures.value ∙ written _ c.double.new.brought _ (c.double.auto.brought ∙ c.deref_mut-2.ensures.len) in
+    let all : AllOf n c.deref.result.now = subst (λ (ps : List (List Bool)). AllOf n ps) (sym is) c.double.ensures.long in
+    let count : length c.in_ok-brought.brought.items ≡ c.args.state.len = ap length c.in_ok-brought.ensures ∙ length-replicate c.len.result (replicate c.vps-vps.result false) ∙ c.len.ensures in
+    let same : length c.deref_mut-in-Exclusive.result.now ≡ length c.deref.result.now = omega (arith, count, ap length there, ap length is, c.double.auto.brought, c.double.auto.state, ap length c.deref_mut-2.ensures.value, c.deref_mut.ensures.len) in
+    subst (λ (ps : List (List Bool)). AllOf n ps) (sym (written _ c.bring_planes.new.out _ (c.bring_planes.auto.out ∙ c.deref_mut-in-Exclusive.ensures.len)))
+    (all_brought n c.deref.result.now c.bring_planes.new.out (c.bring_planes.auto.out ∙ same) all c.bring_planes.ensures.long)
 
 pub returns-in-Exclusive-clause-shows : goal.returns-in-Exclusive-clause-shows
 returns-in-Exclusive-clause-shows g c =
@@ -87,11 +99,10 @@ returns-in-Exclusive-clause-shows g c =
     ap (λ (ps : List (List Bool)). number_at ps u) is
     ∙ c.double.ensures.runs L own (ap length c.deref_mut.ensures.value ∙ count) (λ x. own_fits selected value L x (fits x)) (λ x inside. ap (λ (ps : List (List Bool)). number_at ps x) c.deref_mut.ensures.value ∙ shown x inside) u below
     ∙ ap (g.C.Combine.shows L) (run_same w (λ x. get_or c.in_ok-begun.begun x false) own (axis_length axes a) u same below) in
-    ap (λ (ps : List (List Bool)). number_at ps v) (written _ c.move_numbers.new.earlier _ (c.move_numbers.auto.earlier ∙ c.deref_mut-in-Exclusive.ensures.len))
-    ∙ run_before w (g.C.Combine.shows L) own (axis_length axes a) c.stride-by.result c.in_ok-begins.begins (number_at state) (number_at c.move_numbers.new.earlier) v
-    (g.met.C.Combine.none L) c.stride-by.ensures.value starts last
-    (λ u below t. c.move_numbers.ensures.cut u (omega (arith, below, nb)) t)
-    (λ u below none reach. c.move_numbers.ensures.moved u (omega (arith, below, nb)) none (subst (λ k. Reaches d c.stride-by.result k u) (sym nb) reach))
+    let all : AllOf n state = subst (λ (ps : List (List Bool)). AllOf n ps) (sym is) c.double.ensures.long in
+    ap (λ (ps : List (List Bool)). number_at ps v) (written _ c.bring_planes.new.out _ (c.bring_planes.auto.out ∙ c.deref_mut-in-Exclusive.ensures.len))
+    ∙ run_before w (g.C.Combine.shows L) own (axis_length axes a) c.stride.result c.in_ok-begins.begins (number_at state) v (number_at c.bring_planes.new.out v)
+    (g.met.C.Combine.none L) c.stride.ensures.value starts last (c.bring_planes.ensures.brought n v all h)
     h
     ∙ ap (g.C.Combine.shows L) (exclusive_run axes a d seg selected value v c.vps-vps.ensures.sound c.requires.axis h
     ∙ sym (ap (λ (i : Inclusion). scan_values axes a d i seg selected value v) c.in-Exclusive.is))
