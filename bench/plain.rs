@@ -664,6 +664,7 @@ fn measure_lines(size: &Size) {
     measure_made("scan", size, || Some(scan(black_box(&x), &selected, &segments)));
     measure_made("spread", size, || Some(spread(black_box(&x), &selected)));
     measure_made("shift", size, || Some(shift(black_box(&x))));
+    measure_made("copy", size, || Some(black_box(&x).clone()));
 }
 
 fn measure_mail(size: &Size) {

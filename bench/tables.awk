@@ -79,10 +79,28 @@ function between() {
     compared_rows("`scan-with-u-add` (`scan`)", "scan")
     compared_rows("`spread-with-u-add` (`spread`)", "spread")
     compared_rows("`get-from-news` (`shift`)", "shift")
+    compared_rows("a copy of the field (`FieldValue::copy`)", "copy")
     compared_rows("`get` (`get`)", "get")
     compared_rows("`send` (`send`)", "send")
     compared_rows("`u-multiply` (`multiply`)", "multiply")
     compared_rows("`u-truncate` (`truncate`)", "truncate")
+}
+
+function of_copy(width, vps) {
+    return least_of("rattle", "shift", width, vps) / least_of("rattle", "copy", width, vps)
+}
+
+function shift_row(vps) {
+    printf "| %s | **%.2f** | **%.2f** | **%.2f** |\n", grouped(vps), of_copy(8, vps), of_copy(32, vps), of_copy(64, vps)
+}
+
+# A shift beside a copy of the field that it moves.
+function shifts() {
+    print ""
+    print "| a shift / a copy of the field | 8 bits | 32 bits | 64 bits |"
+    print "|---|---|---|---|"
+    shift_row(1024)
+    shift_row(65536)
 }
 
 function scan_row(width, vps) {
@@ -153,6 +171,7 @@ END {
     if (failed) exit 1
     operations()
     between()
+    shifts()
     scans()
     execution()
     scripts()

@@ -26,6 +26,8 @@ enum Operation {
     Spread,
     /// `get-from-news`, upward
     Shift,
+    /// a copy of the field, to compare a shift with
+    Copy,
     /// `get`
     Get,
     /// `send`
@@ -217,6 +219,7 @@ fn answer_of(alloc: Global, operation: Operation, fields: &Fields) -> Result<Ans
         Operation::Scan => scanned(alloc, fields),
         Operation::Spread => spread_out(alloc, fields),
         Operation::Shift => shifted(alloc, fields),
+        Operation::Copy => Ok(Answer::Value(fields.x.copy()?)),
         Operation::Get => fetched(alloc, fields),
         Operation::Send => delivered(alloc, fields),
         Operation::Multiply => multiplied(alloc, fields),
@@ -261,6 +264,7 @@ pub fn measure(rt: &HostRuntime, size: Size) -> io::Result<()> {
     measure_one(rt, "scan", Operation::Scan, size)?;
     measure_one(rt, "spread", Operation::Spread, size)?;
     measure_one(rt, "shift", Operation::Shift, size)?;
+    measure_one(rt, "copy", Operation::Copy, size)?;
     measure_one(rt, "get", Operation::Get, size)?;
     measure_one(rt, "send", Operation::Send, size)?;
     measure_one(rt, "multiply", Operation::Multiply, size)?;
