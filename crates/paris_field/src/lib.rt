@@ -4,9 +4,11 @@
 mod blocks;
 mod field;
 mod planes;
+mod shared;
 mod transpose;
 
 pub use blocks::{block_numbers, put_block};
 pub use field::FieldValue;
 pub use planes::{add_planes, copy_planes, merge_planes, zero_planes};
+pub use shared::SharedValue;
 pub use transpose::transpose64;
