@@ -19,6 +19,7 @@ const HELP: &str =
   results  the same with their results in new planes
   numbers  numbers out of planes and into planes
   orders   the execution of u-add, and the parts of it
+  chain    the execution of logxor on 8 bits and 64 processors
   between  scan, spread, shift, get and send on one axis, product and quotient
 Each line has a name, a width in bits, a count of processors, picoseconds and a checksum of the result.
 ";
@@ -52,8 +53,11 @@ fn measure_widths(rt: &HostRuntime, word: &str, vps: usize) -> io::Result<()> {
     Ok(())
 }
 
-/// Measures what a word names, at each size.
+/// Measures what a word names, at each size that it is measured at.
 fn measure_sizes(rt: &HostRuntime, word: &str) -> io::Result<()> {
+    if word == "chain" {
+        return orders::measure_chain(rt);
+    }
     for vps in COUNTS {
         measure_widths(rt, word, vps)?;
     }

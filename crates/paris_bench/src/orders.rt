@@ -4,7 +4,7 @@ use crate::random::{checksum_of, random_value};
 use crate::timing::{self, Size, Work};
 use paris_board::Board;
 use paris_exec::{Done, Order, Outcome, execute};
-use paris_field::FieldValue;
+use paris_field::{FieldValue, SharedValue};
 use paris_geometry::Geometry;
 use paris_instr::{Plan, resolve};
 use paris_model::{Action, BinaryOperator, Conditional, Instr};
@@ -18,10 +18,10 @@ use std::time::Instant;
 const WORDS: usize = 2_000_000;
 
 /// The checksum of values, one after another.
-fn checksum_of_values(values: &[FieldValue]) -> u64 {
+fn checksum_of_values(values: &[SharedValue]) -> u64 {
     let mut sum = 0u64;
     for value in values {
-        sum = sum.rotate_left(1) ^ checksum_of(value.planes());
+        sum = sum.rotate_left(1) ^ checksum_of(value.get().planes());
     }
     sum
 }
@@ -56,10 +56,10 @@ impl Names {
         Ok(board)
     }
 
-    /// `u-add-3-1L`.
-    fn sum(&self, size: Size) -> Instr {
+    /// An instruction of two sources.
+    fn binary(&self, operator: BinaryOperator, size: Size) -> Instr {
         Action::OnSelected(Conditional::Binary {
-            operator: BinaryOperator::UnsignedAdd,
+            operator,
             to: self.to,
             left: self.left,
             right: self.right,
@@ -68,26 +68,31 @@ impl Names {
     }
 }
 
-/// The plan of `u-add-3-1L` on whole fields.
-fn plan_of_sum(alloc: Global, size: Size) -> Result<Plan, Fault> {
+/// The plan of an instruction of two sources on whole fields.
+fn plan_of(alloc: Global, operator: BinaryOperator, size: Size) -> Result<Plan, Fault> {
     let names = Names::new().ok_or(Fault::NoField)?;
     let board = names.board(alloc, size)?;
-    resolve(alloc, &board, names.sum(size))
+    resolve(alloc, &board, names.binary(operator, size))
 }
 
 /// A random value for each key that a plan reads.
-fn inputs_of(alloc: Global, plan: &Plan, size: Size) -> Result<Vec<FieldValue>, AllocError> {
+fn inputs_of(alloc: Global, plan: &Plan, size: Size) -> Result<Vec<SharedValue>, AllocError> {
     let mut inputs = Vec::new(alloc);
     for key in plan.reads() {
         let width = plan.width(*key) as usize;
-        inputs.push(random_value(alloc, key.slot() as u64, width, size.vps)?)?;
+        let value = random_value(alloc, key.slot() as u64, width, size.vps)?;
+        inputs.push(SharedValue::new(alloc, value).map_err(|(_, error)| error)?)?;
     }
     Ok(inputs)
 }
 
-/// An order of `u-add-3-1L`.
-fn order_of_sum(alloc: Global, size: Size) -> Result<Option<Order>, AllocError> {
-    match plan_of_sum(alloc, size) {
+/// An order of an instruction of two sources.
+fn order_of(
+    alloc: Global,
+    operator: BinaryOperator,
+    size: Size,
+) -> Result<Option<Order>, AllocError> {
+    match plan_of(alloc, operator, size) {
         Ok(plan) => {
             let inputs = inputs_of(alloc, &plan, size)?;
             Ok(Order::new(RowId(1), Edition(1), plan, inputs))
@@ -276,11 +281,21 @@ fn measure_merge(rt: &HostRuntime, name: &str, size: Size, width: usize) -> io::
 
 /// Measures the execution of `u-add` at a size, and the parts of it.
 pub fn measure(rt: &HostRuntime, size: Size) -> io::Result<()> {
-    if let Some(order) = order_of_sum(rt.alloc(), size)? {
+    if let Some(order) = order_of(rt.alloc(), BinaryOperator::UnsignedAdd, size)? {
         measure_order(rt, size, order)?;
     }
     measure_copy(rt, "value-copy", size, size.width)?;
     measure_merge(rt, "value-merge", size, size.width)?;
     measure_copy(rt, "flag-copy", size, 1)?;
     measure_merge(rt, "flag-merge", size, 1)
+}
+
+/// Measures the execution of a row of a chain of exclusive ors.
+pub fn measure_chain(rt: &HostRuntime) -> io::Result<()> {
+    let size = Size { width: 8, vps: 64 };
+    if let Some(order) = order_of(rt.alloc(), BinaryOperator::BitXor, size)? {
+        let mut executing = Executing { order, last: None };
+        timing::measure(rt, "execute-xor", size, WORDS / 8, &mut executing)?;
+    }
+    Ok(())
 }

@@ -10,7 +10,7 @@ use indexmap::IndexMap;
 use paris_geometry::Geometry;
 use paris_names::limits::{MAX_FIELDS, MAX_SETS, MAX_WIDTH};
 use paris_names::{Fault, FieldNo, Key, KeyName, Name, SetNo};
-use std::alloc::Global;
+use std::alloc::{AllocError, Global};
 use std::marker::Model;
 
 /// The set and the width, in bits, of a declared field.
@@ -48,6 +48,15 @@ impl Board {
             sets: IndexMap::new(alloc),
             fields: IndexMap::new(alloc),
         }
+    }
+
+    /// A copy that equals the board.
+    pub fn copy(&self) -> Result<Board, AllocError>
+        ensures { IfOk result (λ board. board ≡ self.now) }
+    {
+        let sets = self.sets.clone()?;
+        let fields = self.fields.clone()?;
+        Ok(Board { sets, fields })
     }
 
     fn set_named(&self, name: Name) -> Option<SetNo>

@@ -19,7 +19,6 @@ use Rattle.paris_machine.specs.Results.{is_present, verdict_at, verdict_on, verd
 use Rattle.paris_program.specs.Program.{place_of}
 use Rattle.paris_book.specs.Marks.{kept_data}
 use Rattle.paris_book.specs.Entries.{Entry, machine_row, with_data}
-use Rattle.paris_book.specs.declared.rows.RowData.{RowData}
 use Rattle.paris_book.proofs.Entering.{find_is}
 use Rattle.paris_events.specs.declared.verdicts.Verdict.{Verdict}
 use Rattle.paris_events.specs.declared.verdicts.Verdict.TheVariants.{Gone, Stale, Repeated, Foreign, Kept}

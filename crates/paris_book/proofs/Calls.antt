@@ -1,7 +1,7 @@
 -- What the calls of a book find is what the machine names.
 use Rattle.std.proofs.Common.{◌≡◌, ℕ, ◌<◌, ◌≤◌, ◌+◌, List, [], ◌∷◌, ◌++◌, Bool, true, false, cond, Option, Some, None, Ok, Err, refl, sym, ap, ◌∙◌, subst, arith, eqb, map, length, take, drop, suc, add-zero, get_or, length-append}
 use Rattle.std.proofs.Math.Path.{ap₂}
-use Rattle.std.proofs.lemmas.List.{map-append, length-map, take_more}
+use Rattle.std.proofs.lemmas.List.{map-append, take_more}
 use Rattle.std.specs.Prelude.{◌||◌, Result, IfErr}
 use Rattle.std.specs.Option.{option_map, unwrap_or}
 use Rattle.paris_names.specs.declared.keys.Key.{Key}
@@ -14,7 +14,6 @@ use Rattle.paris_machine.specs.Edits.{known, input_changed, input_set}
 use Rattle.paris_book.specs.Whole.{input_shape, Shaped, Fitted}
 use Rattle.paris_program.specs.Program.{place_of}
 use Rattle.paris_book.specs.Entries.{Entry, machine_row}
-use Rattle.paris_book.specs.declared.rows.RowData.{RowData}
 use Rattle.paris_book.proofs.Entering.{find_is}
 use Rattle.paris_machine.specs.declared.inputs.Input.{Input}
 use Rattle.paris_book.specs.Among.{look_among}

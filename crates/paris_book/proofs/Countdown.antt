@@ -1,28 +1,24 @@
 -- Orders run one after another settle every row of a program of which no row is out.
-use Rattle.std.proofs.Common.{◌≡◌, ℕ, ◌+◌, ◌-◌, ◌<◌, ◌≤◌, ◌⊎◌, inl, inr, List, [], ◌∷◌, Bool, true, false, cond, Option, Some, None, refl, sym, ap, ◌∙◌, subst, arith, map, zero, suc, set, slice_get, add-zero}
+use Rattle.std.proofs.Common.{◌≡◌, ℕ, ◌+◌, ◌-◌, ◌<◌, ◌≤◌, ◌⊎◌, inl, inr, List, [], ◌∷◌, Bool, true, false, cond, refl, sym, ap, ◌∙◌, subst, arith, map, zero, suc, length, add-zero}
 use Rattle.std.proofs.Math.Path.{ap₂}
+use Rattle.std.proofs.lemmas.List.{length-map}
 use Rattle.std.specs.Prelude.{IsSome}
 use Rattle.std.specs.Option.{option_map}
-use Rattle.std.specs.List.{list_all}
 use Rattle.paris_board.specs.Board.{Board}
-use Rattle.paris_model.specs.Instructions.{reads}
 use Rattle.paris_events.specs.Rows.{is_settled, is_waiting}
 use Rattle.paris_machine.specs.State.{Row, Inputs, State}
-use Rattle.paris_machine.specs.Show.{origin_at}
-use Rattle.paris_machine.specs.Orders.{is_firm, is_ready, next_ready, order_of, take_reply, taken, after_take, recalled_status, recalled_row, after_release}
+use Rattle.paris_machine.specs.Orders.{order_of, take_reply, recalled_status, recalled_row, after_release}
 use Rattle.paris_machine.specs.Settling.{unsettled_rows, settled_row, all_settled, after_run, ran_orders}
 use Rattle.paris_program.specs.Program.{ids_of}
+use Rattle.paris_book.specs.Steps.{are_settled, first_settled, settled_times}
 use Rattle.paris_book.specs.Whole.{IdsApart, IsWhole}
 use Rattle.paris_book.specs.Entries.{Entry, machine_row}
 use Rattle.paris_events.specs.declared.rows.Status.{Status}
 use Rattle.paris_events.specs.declared.rows.Status.TheVariants.{Waiting, Out, Settled}
-use Rattle.std.specs.List.{enumerate_from}
-use Rattle.paris_book.proofs.Finds.{find_at_place, found_passes}
 use Rattle.paris_book.proofs.Inserts.{state_of}
 use Rattle.paris_book.proofs.Settling.{and_first, and_second}
-use Rattle.paris_book.proofs.Takes.{waiting_unsettled}
 use Rattle.paris_book.proofs.Releases.{settled_same}
-use Rattle.paris_book.proofs.OrderRuns.{IsIdle, SomeFirst, are_settled, row_ids, first_of, first_settled, next_first, run_settles}
+use Rattle.paris_book.proofs.OrderRuns.{IsIdle, SomeFirst, row_ids, first_of, next_first, run_settles}
 
 -- settling the first unsettled row leaves the ids, and no row is out after it
 ids_first : (rs : List Row) → row_ids (first_settled rs) ≡ row_ids rs
@@ -40,11 +36,6 @@ idle_first (r ∷ rs) h = by_status (is_settled r.status) (idle_first rs h.1)
     by_status : (b : Bool) → IsIdle (first_settled rs) → IsIdle (cond b (r ∷ first_settled rs) (settled_row r ∷ rs))
     by_status true rest = (h.0, rest)
     by_status false rest = (λ t. absurd (let x : true ≡ false = t in cc), h.1)
-
--- the rows with so many of the unsettled ones settled, from the first on
-abbrev pub settled_times : ℕ → List Row → List Row
-settled_times zero rs = rs
-settled_times (suc n) rs = first_settled (settled_times n rs)
 
 ids_times : (n : ℕ) (rs : List Row) → row_ids (settled_times n rs) ≡ row_ids rs
 ids_times zero rs = refl
@@ -74,7 +65,7 @@ count_times zero m rs h = omega (arith, h)
 count_times (suc n) m rs h = count_first (settled_times n rs) m (count_times n (suc m) rs (omega (arith, h)))
 
 -- the rows of which none is unsettled are all settled
-settled_is : (s : Status) → is_settled s ≡ true → s ≡ Settled
+pub settled_is : (s : Status) → is_settled s ≡ true → s ≡ Settled
 settled_is Waiting h = absurd (let x : false ≡ true = h in cc)
 settled_is Out h = absurd (let x : false ≡ true = h in cc)
 settled_is Settled h = refl
@@ -154,34 +145,9 @@ ids_seen (e ∷ es) = ap (λ is. e.0 ∷ is) (ids_seen es)
 pub rows_apart : (b : Board) (n m : ℕ) (inputs : Inputs) (es : List Entry) (s : State) → state_of b n m inputs es ≡ s → IsWhole b n m inputs es → IdsApart (row_ids s.rows)
 rows_apart b n m inputs es s y w = subst (λ (z : State). IdsApart (row_ids z.rows)) y (subst IdsApart (sym (ids_seen es)) w.ids_apart)
 
--- a take leaves as many rows unsettled
-count_out : (rs : List Row) (k : ℕ) (r : Row) → slice_get rs k ≡ Some r → is_settled r.status ≡ false → unsettled_rows (set rs k (record r { status = Out })) ≡ unsettled_rows rs
-count_out [] k r x u = refl
-count_out (y ∷ rs) zero r x u = let same : y ≡ r = cc in ap (λ b. cond b 0 1 + unsettled_rows rs) (sym (ap (λ (z : Row). is_settled z.status) same ∙ u))
-count_out (y ∷ rs) (suc k) r x u = ap (λ n. cond (is_settled y.status) 0 1 + n) (count_out rs k r x u)
-
--- the row of the next order stands at its place, and waits
-pub next_waits : (s : State) (k : ℕ) (r : Row) → next_ready s ≡ Some (k, r) → (slice_get s.rows k ≡ Some r) × (is_waiting r.status ≡ true)
-next_waits s k r e =
-    let at = find_at_place (λ (x : ℕ × Row). is_ready s x.0 x.1) s.rows 0 k r e in
-    let ready : is_ready s k r ≡ true = found_passes (λ (x : ℕ × Row). is_ready s x.0 x.1) (enumerate_from 0 s.rows) (k, r) e in
-    let place : at.0 ≡ k = omega (arith, at.1) in (
-      subst (λ i. slice_get s.rows i ≡ Some r) place at.2,
-      and_first (is_waiting r.status) (list_all (λ j. is_firm (origin_at s k j)) (reads r.plan)) ready,
-    )
-
--- and its origins are the start or settled
-pub next_firm : (s : State) (k : ℕ) (r : Row) → next_ready s ≡ Some (k, r) → list_all (λ j. is_firm (origin_at s k j)) (reads r.plan) ≡ true
-next_firm s k r e =
-    let ready : is_ready s k r ≡ true = found_passes (λ (x : ℕ × Row). is_ready s x.0 x.1) (enumerate_from 0 s.rows) (k, r) e in
-    and_second (is_waiting r.status) (list_all (λ j. is_firm (origin_at s k j)) (reads r.plan)) ready
-
-pub take_left : (s : State) → unsettled_rows (after_take s).rows ≡ unsettled_rows s.rows
-take_left s = by_next (next_ready s) refl
-  where
-    by_next : (o : Option (ℕ × Row)) → next_ready s ≡ o → unsettled_rows (taken s o).rows ≡ unsettled_rows s.rows
-    by_next None e = refl
-    by_next (Some (k, r)) e = let waits = next_waits s k r e in count_out s.rows k r waits.0 (waiting_unsettled r.status waits.1)
+-- and how many they are
+pub rows_many : (b : Board) (n m : ℕ) (inputs : Inputs) (es : List Entry) (s : State) → state_of b n m inputs es ≡ s → length s.rows ≡ length es
+rows_many b n m inputs es s y = ap (λ (z : State). length z.rows) (sym y) ∙ length-map es machine_row
 
 -- where all rows are settled, none is unsettled
 pub none_unsettled : (rs : List Row) → are_settled rs ≡ true → unsettled_rows rs ≡ 0

@@ -3,10 +3,9 @@ use Rattle.std.proofs.Common.{◌≡◌, ℕ, List, Bool, true, false, cond, Opt
 use Rattle.std.specs.Prelude.{length, nat_le, nat_lt, not, position, ◌+◌, ◌==◌, ◌||◌, is_none, ◌^◌}
 use Rattle.std.specs.Option.{option_or, option_map, ok_or}
 use Rattle.paris_names.specs.declared.faults.Fault.{Fault}
-use Rattle.paris_names.specs.declared.faults.Fault.TheVariants.{SetsFull, BadAxes, NameTaken, NoSet, FieldsFull, BadWidth, NoField, WrongCount, TooWide, NoRow, RowsFull, BadLength, WrongSet, BadAxis, BadOperand, Overlap, EditionsSpent}
+use Rattle.paris_names.specs.declared.faults.Fault.TheVariants.{SetsFull, BadAxes, NameTaken, NoSet, FieldsFull, BadWidth, NoField, WrongCount, TooWide, RowsFull, BadLength, WrongSet, BadAxis, BadOperand, Overlap, EditionsSpent}
 use Rattle.paris_names.specs.Faults.{IsFaultOf, is_no_memory}
 use Rattle.paris_names.specs.declared.keys.Key.{Key}
-use Rattle.paris_names.specs.declared.names.KeyName.{KeyName}
 use Rattle.paris_board.specs.Board.{Board, set_named, field_named, key_named, is_taken, set_fault, field_fault, width_of, count_of}
 use Rattle.paris_geometry.specs.Geometry.{is_geometry}
 use Rattle.paris_model.specs.declared.actions.Operand.{Operand}
@@ -22,11 +21,11 @@ use Rattle.paris_model.specs.declared.actions.Action.{Action}
 use Rattle.paris_model.specs.declared.actions.Action.TheVariants.{OnSelected, OnAll, ByNews, AlongLine, ByMail}
 use Rattle.paris_model.specs.Fits.{has_bad_axis, has_bad_length, has_bad_operand, has_overlap}
 use Rattle.paris_model.specs.Instructions.{Plan}
-use Rattle.paris_instr.specs.Resolve.{operand_of, operand_named, set_no_named, from_one, from_two, from_three, from_four, operand_if_named, conditional_named, unconditional_named, news_named, line_named, mail_named, action_named, is_in_one_set, axes_of_action, set_of_action, planned, planned_from, resolution, fault_in}
+use Rattle.paris_instr.specs.Resolve.{operand_of, operand_named, set_no_named, from_one, from_two, from_three, from_four, operand_if_named, conditional_named, unconditional_named, news_named, line_named, mail_named, action_named, is_in_one_set, axes_of_action, set_of_action, planned_from, resolution, fault_in}
 use Rattle.paris_events.specs.declared.edits.Edit.{Edit}
 use Rattle.paris_events.specs.declared.edits.Edit.TheVariants.{AddSet, AddField, Input as SetInput, Insert, Delete, Replace}
 use Rattle.paris_machine.specs.State.{State, Row, find_row, place_of_spot}
-use Rattle.paris_machine.specs.Edits.{fault_of_values, values_fault, input_fault, insert_fault, delete_fault, replace_fault, content_fault, edit_fault}
+use Rattle.paris_machine.specs.Edits.{fault_of_values, input_fault, insert_fault, delete_fault, replace_fault, content_fault, edit_fault}
 use Rattle.paris_names.specs.declared.limits.TheConstants.{MAX_EDITS, MAX_ROWS, MAX_SETS, MAX_FIELDS, MAX_WIDTH}
 
 -- a result whose fault, if it has one, is no want of memory

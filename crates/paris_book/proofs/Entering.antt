@@ -1,5 +1,5 @@
 -- The rows of a program: what stands at a place, origins by ids, and places of ids.
-use Rattle.std.proofs.Common.{◌≡◌, ℕ, ◌+◌, List, [], ◌∷◌, Bool, true, false, cond, Option, Some, None, nat_eq, eqb, refl, sym, ap, ◌∙◌, map, take, suc, arith, set, slice_get}
+use Rattle.std.proofs.Common.{◌≡◌, ℕ, ◌+◌, List, [], ◌∷◌, Bool, true, false, cond, Option, Some, None, nat_eq, eqb, refl, sym, ap, ◌∙◌, map, suc, arith, set, slice_get}
 use Rattle.std.proofs.lemmas.Bool.Decides.{nat_tests}
 use Rattle.std.specs.Option.{option_map, unwrap_or}
 use Rattle.std.specs.List.{find, enumerate_from, IsDistinct}

@@ -12,6 +12,11 @@ pub none_of : {A : Type 0} {B : Type 0} (f : A → B) (o : Option A) → None �
 none_of f None h = refl
 none_of f (Some x) h = absurd (cc)
 
+-- none of no element
+pub none_found : {X : Type 0} (p : ℕ × X → Bool) (xs : List X) → find p (enumerate_from 0 (take 0 xs)) ≡ None
+none_found p [] = refl
+none_found p (x ∷ xs) = refl
+
 -- none so far, and this one passes
 pub find_here : {X : Type 0} (p : ℕ × X → Bool) (xs : List X) (n i m : ℕ) (x : X) → m ≡ n + i → find p (enumerate_from n (take i xs)) ≡ None → slice_get xs i ≡ Some x → p (m, x) ≡ true → find p (enumerate_from n xs) ≡ Some (m, x)
 find_here p [] n i m x e none here t = absurd (cc)
@@ -78,10 +83,11 @@ found_some i es k h = go (find_id i (map machine_row es)) refl h
         let z : k ≡ r.0 = cc in
         entry (slice_get es k) refl r x z (sym (slice_get-map machine_row es k) ∙ at_place r x z)
 
-pub entry_at : (es : List Entry) (i : ℕ) → i < length es → (e : Entry) × (slice_get es i ≡ Some e)
+-- within a list there is an element
+pub entry_at : {X : Type 0} (xs : List X) (i : ℕ) → i < length xs → (x : X) × (slice_get xs i ≡ Some x)
 entry_at [] i h = absurd (omega arith)
-entry_at (e ∷ es) zero h = (e, refl)
-entry_at (e ∷ es) (suc i) h = entry_at es i (omega arith)
+entry_at (x ∷ xs) zero h = (x, refl)
+entry_at (x ∷ xs) (suc i) h = entry_at xs i (omega arith)
 
 pub row_at : (es : List Entry) (i : ℕ) (e : Entry) → slice_get es i ≡ Some e → slice_get (map machine_row es) i ≡ Some (machine_row e)
 row_at es i e x = slice_get-map machine_row es i ∙ ap (option_map machine_row) x

@@ -8,11 +8,16 @@ pub mod DueFaults
 pub mod EditLemmas
 pub mod Entering
 pub mod Finds
+pub mod Indexing
 pub mod InputEdits
+pub mod InOrder
 pub mod Inserts
 pub mod Listed
 pub mod OrderRuns
+pub mod OwnOrders
 pub mod Origins
+pub mod Pending
+pub mod Recalling
 pub mod Recipes
 pub mod RefusalHere
 pub mod RefusedRows
@@ -23,6 +28,7 @@ pub mod Rounding
 pub mod Runs
 pub mod Settling
 pub mod Shows
+pub mod Searches
 pub mod Swept
 pub mod Takes
 pub mod Targets

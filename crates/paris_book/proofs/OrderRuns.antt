@@ -22,6 +22,7 @@ use Rattle.paris_machine.specs.Show.{origin_at}
 use Rattle.paris_machine.specs.Orders.{is_firm, is_ready, next_ready, inputs_now, order_of, taken}
 use Rattle.paris_machine.specs.Results.{verdict_at, verdict_on, verdict_of, brought_on}
 use Rattle.paris_machine.specs.Settling.{settled_row, brought_back, after_run}
+use Rattle.paris_book.specs.Steps.{are_settled, first_settled}
 use Rattle.paris_book.specs.Whole.{IdsApart}
 use Rattle.paris_events.specs.declared.rows.Status.{Status}
 use Rattle.paris_events.specs.declared.rows.Status.TheVariants.{Waiting, Out, Settled}
@@ -31,9 +32,6 @@ use Rattle.paris_book.proofs.Settling.{and_first, and_second}
 use Rattle.paris_book.proofs.EditLemmas.{or_first, or_second}
 use Rattle.paris_instr.proofs.ReflexivePlans.{plan_same}
 
-abbrev pub are_settled : List Row → Bool
-are_settled rs = list_all (λ (r : Row). is_settled r.status) rs
-
 -- no row is out
 abbrev pub IsIdle : List Row → Type 0
 IsIdle [] = Unit {0}
@@ -41,11 +39,6 @@ IsIdle (r ∷ rs) = (is_settled r.status ≡ false → is_waiting r.status ≡ t
 
 abbrev pub row_ids : List Row → List ℕ
 row_ids rs = map (λ (r : Row). r.id.0) rs
-
--- the rows with the first unsettled one settled
-abbrev pub first_settled : List Row → List Row
-first_settled [] = []
-first_settled (r ∷ rs) = cond (is_settled r.status) (r ∷ first_settled rs) (settled_row r ∷ rs)
 
 -- the first unsettled row stands at this place
 pub record IsFirst (rs : List Row) (k : ℕ) (r : Row) : Type 0 where
@@ -75,7 +68,7 @@ settled_waits_not Out h = refl
 settled_waits_not Settled h = refl
 
 -- no settled row is ready
-none_ready : (test : ℕ × Row → Bool) (rs : List Row) (n : ℕ) → are_settled rs ≡ true → find (λ e. is_waiting e.1.status && test e) (enumerate_from n rs) ≡ None
+pub none_ready : (test : ℕ × Row → Bool) (rs : List Row) (n : ℕ) → are_settled rs ≡ true → find (λ e. is_waiting e.1.status && test e) (enumerate_from n rs) ≡ None
 none_ready test [] n h = refl
 none_ready test (r ∷ rs) n h = rw (settled_waits_not r.status (and_first (is_settled r.status) (are_settled rs) h)) (none_ready test rs (n + 1) (and_second (is_settled r.status) (are_settled rs) h))
 

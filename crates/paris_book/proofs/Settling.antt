@@ -161,20 +161,25 @@ kept_means inputs es place e t h = go (eqb e.1.edition.0 t.edition.0) (is_settle
     go true false false x = absurd (cc)
     go false b false x = absurd (cc)
 
+-- a row that keeps the result of its own plan on the present values
+pub kept_whole : (b : Board) (n m : ℕ) (inputs : Inputs) (es : List Entry) (k : ℕ) (e : Entry) (t : Task) → slice_get es k ≡ Some e → list_all (firm_among es k) (reads e.1.plan) ≡ true → inputs_among inputs es k e.1.plan ≡ t.inputs → e.1.plan ≡ t.plan
+    → IsWhole b n m inputs es → IsWhole b n m inputs (set es k (with_data (kept_data t) e))
+kept_whole b n m inputs es k e t x firm values p w = record {
+  next_few = w.next_few;
+  edits_few = w.edits_few;
+  as_many_fields = w.as_many_fields;
+  as_many_flags = w.as_many_flags;
+  shaped = w.shaped;
+  inputs_below = w.inputs_below;
+  rows_below = rows_put (with_data (kept_data t) e) e refl refl refl n m es k x w.rows_below;
+  ids_apart = rw (ids_put (with_data (kept_data t) e) e refl refl refl es k x) w.ids_apart;
+  fitted = fitted_put (with_data (kept_data t) e) e refl refl refl inputs es k x w.fitted;
+  sound = sound_kept (start_world inputs) (λ _. true) es k e t x (sym p) (firm_ripe es k (reads e.1.plan) firm) (ap numbers_of (sym values) ∙ numbers_among inputs es k e.1.plan (reads e.1.plan)) w.sound;
+}
+
 pub bring_whole : (b : Board) (n m : ℕ) (inputs : Inputs) (es : List Entry) (k : ℕ) (e : Entry) (t : Task) → slice_get es k ≡ Some e → verdict_among inputs es k e t ≡ Kept → e.1.plan ≡ t.plan → IsWhole b n m inputs es → IsWhole b n m inputs (set es k (with_data (kept_data t) e))
 bring_whole b n m inputs es k e t x v p w =
     let rest = and_second (plan_eq e.1.plan t.plan) _ (kept_means inputs es k e t v) in
     let firm : list_all (firm_among es k) (reads e.1.plan) ≡ true = and_first (list_all (firm_among es k) (reads e.1.plan)) (pointwise field_eq (inputs_among inputs es k e.1.plan) t.inputs) rest in
     let values : inputs_among inputs es k e.1.plan ≡ t.inputs = same_values (inputs_among inputs es k e.1.plan) t.inputs (and_second (list_all (firm_among es k) (reads e.1.plan)) (pointwise field_eq (inputs_among inputs es k e.1.plan) t.inputs) rest) in
-    record {
-      next_few = w.next_few;
-      edits_few = w.edits_few;
-      as_many_fields = w.as_many_fields;
-      as_many_flags = w.as_many_flags;
-      shaped = w.shaped;
-      inputs_below = w.inputs_below;
-      rows_below = rows_put (with_data (kept_data t) e) e refl refl refl n m es k x w.rows_below;
-      ids_apart = rw (ids_put (with_data (kept_data t) e) e refl refl refl es k x) w.ids_apart;
-      fitted = fitted_put (with_data (kept_data t) e) e refl refl refl inputs es k x w.fitted;
-      sound = sound_kept (start_world inputs) (λ _. true) es k e t x (sym p) (firm_ripe es k (reads e.1.plan) firm) (ap numbers_of (sym values) ∙ numbers_among inputs es k e.1.plan (reads e.1.plan)) w.sound;
-    }
+    kept_whole b n m inputs es k e t x firm values p w

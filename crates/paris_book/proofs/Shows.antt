@@ -3,6 +3,7 @@ use Rattle.std.proofs.Common.{◌≡◌, ℕ, ◌<◌, ◌+◌, List, [], ◌∷
 use Rattle.std.proofs.Math.Path.{ap₂}
 use Rattle.std.proofs.lemmas.Bool.{eq-eqb}
 use Rattle.std.proofs.lemmas.List.{take-map, map-append, take_more}
+use Rattle.std.proofs.lemmas.List.Folds.{list_all-append}
 use Rattle.std.specs.Prelude.{◌&&◌, ◌||◌, IsSome}
 use Rattle.std.specs.Option.{option_or, option_map, unwrap_or}
 use Rattle.std.specs.List.{list_all}
@@ -26,11 +27,11 @@ use Rattle.paris_book.specs.Whole.{shape_on, input_shape, shape_in, Shaped, Fitt
 use Rattle.paris_book.specs.Entries.{Entry, id_of, entry_plan, machine_row}
 use Rattle.paris_machine.specs.declared.inputs.Input.{Input}
 use Rattle.paris_machine.specs.declared.events.Shown.TheVariants.{Settled as ShownSettled, Pending}
-use Rattle.paris_book.specs.Among.{origin_among, width_in_shape, value_among, look_among, look_shown, LookFits, firm_among}
+use Rattle.paris_book.specs.Among.{origin_among, width_in_shape, value_among, look_among, shared_shown, LookFits, firm_among}
 use Rattle.paris_book.proofs.Origins.{origin-map, sound-take, Tells, origin_tells}
 use Rattle.paris_book.specs.Verdicts.{KeptFor, LooksAt}
-use Rattle.paris_book.specs.declared.look.Look.{Look}
-use Rattle.paris_book.specs.declared.look.Look.TheVariants.{Settled as LookSettled, Pending as LookPending}
+use Rattle.paris_book.specs.declared.look.SharedLook.{SharedLook}
+use Rattle.paris_book.specs.declared.look.SharedLook.TheVariants.{Settled as LookSettled, Pending as LookPending}
 use Rattle.paris_book.proofs.Inserts.{state_of}
 
 pub map-row : (es : List Entry) → map row_plan (map machine_row es) ≡ map entry_plan es
@@ -130,8 +131,8 @@ kept_for inputs es k place e s o t = by_done e.1.done refl
     by_done (Some d) x = (d, x, done_writes inputs es k place e d s o t x)
 
 -- a look at an origin is the look at the key
-pub looks_at : (inputs : Inputs) (es : List Entry) (k : Key) (place : ℕ) (e : Entry) (look : Look) → Sound (start_world inputs) (λ _. true) es → AllFitted inputs es → origin_among es place k ≡ Some e → LooksAt look e k
-    → (look_shown look ≡ look_among inputs es place k) × LookFits look (shape_in inputs k)
+pub looks_at : (inputs : Inputs) (es : List Entry) (k : Key) (place : ℕ) (e : Entry) (look : SharedLook) → Sound (start_world inputs) (λ _. true) es → AllFitted inputs es → origin_among es place k ≡ Some e → LooksAt look e k
+    → (shared_shown look ≡ look_among inputs es place k) × LookFits look (shape_in inputs k)
 looks_at inputs es k place e (LookSettled v) s f o l = look_settled inputs es k place e l.1.0 v.now s f o l.0 l.1.1 l.1.2 l.1.3
 looks_at inputs es k place e (LookPending id) s f o l = (ap Pending l.1 ∙ look_pending inputs es k place e o l.0, tt)
 
@@ -159,6 +160,25 @@ firm_not_pending inputs es k place id firm shown = by_origin (origin_among es pl
     by_origin : (o : Option Entry) → is_firm (option_map machine_row o) ≡ true → Pending id ≡ shown_of (option_map machine_row o) (value_among inputs es place k) → ⊥
     by_origin None t h = absurd (cc)
     by_origin (Some e) t h = let wrong : Pending id ≡ ShownSettled (value_among inputs es place k) = h ∙ rw t refl in absurd (cc)
+
+-- what is shown of a key tells whether its origin is firm
+pub settled_firm : (inputs : Inputs) (es : List Entry) (k : Key) (place : ℕ) (v : FieldNumbers) → ShownSettled v ≡ look_among inputs es place k → firm_among es place k ≡ true
+settled_firm inputs es k place v shown = by_origin (origin_among es place k) shown
+  where
+    by_origin : (o : Option Entry) → ShownSettled v ≡ shown_of (option_map machine_row o) (value_among inputs es place k) → is_firm (option_map machine_row o) ≡ true
+    by_origin None h = refl
+    by_origin (Some e) h = by_status (is_settled e.1.status) h
+      where
+        by_status : (b : Bool) → ShownSettled v ≡ cond b (ShownSettled (value_among inputs es place k)) (Pending (id_of e)) → b ≡ true
+        by_status true x = refl
+        by_status false x = absurd (cc)
+
+pub pending_loose : (inputs : Inputs) (es : List Entry) (k : Key) (place : ℕ) (id : RowId) → Pending id ≡ look_among inputs es place k → firm_among es place k ≡ false
+pending_loose inputs es k place id shown = by_test (firm_among es place k) refl
+  where
+    by_test : (b : Bool) → firm_among es place k ≡ b → b ≡ false
+    by_test true firm = absurd (firm_not_pending inputs es k place id firm shown)
+    by_test false firm = refl
 
 -- a key that is read has input data
 pub fitted_known : (inputs : Inputs) (p : Plan) (k : Key) → Fitted inputs p → has_key (reads p) k ≡ true → IsSome (input_of inputs k)
@@ -190,6 +210,20 @@ all_at test (j ∷ js) (suc i) k a e h = all_at test js i k (omega arith) e (sec
     second : (b : Bool) → (b && list_all test js) ≡ true → list_all test js ≡ true
     second true t = t
     second false t = absurd (let x : false ≡ true = t in cc)
+
+-- one more key that passes, and one that doesn't
+pub all_with : (test : Key → Bool) (ks : List Key) (i : ℕ) (k : Key) → i < length ks → k ≡ get_or ks i k → list_all test (take i ks) ≡ true → test k ≡ true → list_all test (take (i + 1) ks) ≡ true
+all_with test ks i k a e before here =
+    ap (list_all test) (take_more ks i k a ∙ ap (λ j. take i ks ++ j ∷ []) (sym e))
+    ∙ list_all-append test (take i ks) (k ∷ [])
+    ∙ ap₂ (λ x y. x && (y && true)) before here
+
+pub not_all : (test : Key → Bool) (ks : List Key) (i : ℕ) (k : Key) → i < length ks → k ≡ get_or ks i k → test k ≡ false → list_all test ks ≡ false
+not_all test ks i k a e here = by_test (list_all test ks) refl
+  where
+    by_test : (b : Bool) → list_all test ks ≡ b → b ≡ false
+    by_test true all = let wrong : true ≡ false = sym (all_at test ks i k a e all) ∙ here in absurd (cc)
+    by_test false all = refl
 
 pub fitted_at : (inputs : Inputs) (es : List Entry) (place : ℕ) (e : Entry) → AllFitted inputs es → slice_get es place ≡ Some e → Fitted inputs e.1.plan
 fitted_at inputs [] place e f x = absurd (cc)

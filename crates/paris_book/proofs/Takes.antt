@@ -1,9 +1,9 @@
 -- The order that a book takes is the machine's.
-use Rattle.std.proofs.Common.{◌≡◌, ℕ, List, Bool, true, false, Option, Some, None, refl, sym, ap, ◌∙◌, map, set, slice_get}
+use Rattle.std.proofs.Common.{◌≡◌, ℕ, List, Bool, true, false, cond, Some, None, refl, sym, ap, ◌∙◌, map, set, slice_get}
 use Rattle.std.proofs.Math.Path.{fun_ext}
 use Rattle.std.proofs.lemmas.List.{map-set}
 use Rattle.std.specs.Prelude.{◌&&◌}
-use Rattle.std.specs.Option.{option_map, unwrap_or}
+use Rattle.std.specs.Option.{option_map}
 use Rattle.std.specs.List.{list_all, find, enumerate_from}
 use Rattle.paris_names.specs.declared.keys.Key.{Key}
 use Rattle.paris_board.specs.Board.{Board}
@@ -17,7 +17,7 @@ use Rattle.paris_book.specs.Marks.{out_data}
 use Rattle.paris_book.specs.Entries.{Entry, id_of, machine_row, with_data}
 use Rattle.paris_events.specs.declared.rows.Status.{Status}
 use Rattle.paris_events.specs.declared.rows.Status.TheVariants.{Waiting, Out, Settled}
-use Rattle.paris_book.specs.Among.{firm_among, ready_among, next_among, order_among}
+use Rattle.paris_book.specs.Among.{firm_among, ready_among, next_among, order_among, own_among}
 use Rattle.paris_book.proofs.Finds.{none_of, found_by, found_passes}
 use Rattle.paris_book.proofs.Settling.{and_first, and_second}
 use Rattle.paris_book.proofs.Inserts.{state_of}
@@ -55,11 +55,10 @@ take_order b n m inputs es s k e y x =
 pub ready_unsettled : (es : List Entry) (k : ℕ) (e : Entry) → next_among es ≡ Some (k, machine_row e) → is_settled e.1.status ≡ false
 ready_unsettled es k e x = waiting_unsettled e.1.status (and_first (is_waiting e.1.status) (list_all (firm_among es k) (reads e.1.plan)) (found_is_ready es k e x))
 
-pub ready_firm : (es : List Entry) (k : ℕ) (e u : Entry) → next_among es ≡ Some (k, machine_row e) → slice_get es k ≡ Some e → slice_get es k ≡ Some u → list_all (firm_among es k) (reads u.1.plan) ≡ true
-ready_firm es k e u x y z =
-    let same : u ≡ e = ap (λ o. unwrap_or o u) (sym z ∙ y) in
-    ap (λ (v : Entry). list_all (firm_among es k) (reads v.1.plan)) same
-    ∙ and_second (is_waiting e.1.status) (list_all (firm_among es k) (reads e.1.plan)) (found_is_ready es k e x)
+-- a ready row gives an order
+pub ready_own : (inputs : Inputs) (es : List Entry) (k : ℕ) (e : Entry) → next_among es ≡ Some (k, machine_row e) → own_among inputs es k e ≡ Some (order_among inputs es k e)
+ready_own inputs es k e x =
+    ap (λ b. cond b (Some (order_among inputs es k e)) None) (and_second (is_waiting e.1.status) (list_all (firm_among es k) (reads e.1.plan)) (found_is_ready es k e x))
 
 none_next : (b : Board) (n m : ℕ) (inputs : Inputs) (es : List Entry) (s : State) → state_of b n m inputs es ≡ s → None ≡ option_map (λ e. e.0) (next_among es) → next_ready s ≡ None
 none_next b n m inputs es s y h = ap next_ready (sym y) ∙ next_is b n m inputs es ∙ none_of (λ e. e.0) (next_among es) h

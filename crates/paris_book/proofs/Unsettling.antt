@@ -1,6 +1,6 @@
 -- The rows after an edit, and a sweep over them.
-use Rattle.std.proofs.Common.{◌≡◌, ℕ, ◌+◌, List, [], ◌∷◌, ◌++◌, Bool, true, false, cond, Option, Some, None, nat_eq, refl, sym, ap, ◌∙◌, subst, map, set, take, drop, insert, remove, zero, suc, add-one, append_assoc, length, ◌<◌, get_or, slice_get}
-use Rattle.std.proofs.lemmas.List.{take-map, drop-map, map-append, map-id, take_more}
+use Rattle.std.proofs.Common.{◌≡◌, ℕ, ◌+◌, List, [], ◌∷◌, ◌++◌, Bool, true, false, cond, Option, Some, None, nat_eq, refl, sym, ap, ◌∙◌, subst, set, take, drop, insert, remove, zero, suc, add-one, append_assoc, length, ◌<◌, get_or, slice_get}
+use Rattle.std.proofs.lemmas.List.{map-append, map-id, take_more}
 use Rattle.std.proofs.lemmas.Option.{slice_get-map}
 use Rattle.std.specs.Option.{option_map, unwrap_or}
 use Rattle.std.proofs.Math.Path.{fun_ext}
@@ -11,11 +11,11 @@ use Rattle.paris_names.specs.declared.keys.Key.{Key}
 use Rattle.paris_names.specs.declared.ids.RowId.{RowId}
 use Rattle.paris_names.specs.Keys.{has_key}
 use Rattle.paris_model.specs.Instructions.{Plan, writes}
-use Rattle.paris_program.specs.Program.{place_of, id_at, with_row}
+use Rattle.paris_program.specs.Program.{place_of, with_row}
 use Rattle.paris_program.proofs.CallerLemmas.{row_there}
-use Rattle.paris_depends.specs.Sweeps.{touches, spread, touched, swept as swept_rows}
+use Rattle.paris_depends.specs.Sweeps.{touched}
 use Rattle.paris_depends.proofs.ByIds.{by_ids-front, by_ids-swept, by_ids-more, by_ids-absent}
-use Rattle.paris_book.specs.Entries.{Entry, with_data}
+use Rattle.paris_book.specs.Entries.{Entry, with_data, ChangedAt}
 use Rattle.paris_book.proofs.Swept.{swept_entries}
 use Rattle.paris_book.specs.Marks.{data_plan, fresh_data, unsettled_by_ids, ids_in, writes_either, stale_data}
 use Rattle.paris_book.specs.declared.rows.RowData.{RowData}
@@ -34,36 +34,24 @@ ids_stay n ids (r ∷ rows) = rw (ids_stay n ids rows) (by_test (list_any (nat_e
     by_test true = refl
     by_test false = refl
 
-stale_once : (n : ℕ) (b : Bool) (r : Entry) → stale_data n (cond b (with_data (stale_data n) r) r).1 ≡ stale_data n r.1
+stale_once : (n : ℕ) (b : Bool) (r : Entry) → with_data (stale_data n) (cond b (with_data (stale_data n) r) r) ≡ with_data (stale_data n) r
 stale_once n true r = refl
 stale_once n false r = refl
-
-own_id : (n : ℕ) (b : Bool) (r : Entry) → (cond b (with_data (stale_data n) r) r).0 ≡ r.0
-own_id n true r = refl
-own_id n false r = refl
-
-id_there : (rows : List Entry) (place : ℕ) (r : Entry) → slice_get rows place ≡ Some r → id_at rows place ≡ r.0
-id_there [] place r at = absurd (cc)
-id_there (x ∷ rows) zero r at = let same : x ≡ r = cc in ap (λ (e : Entry). e.0) same
-id_there (x ∷ rows) (suc place) r at = id_there rows place r at
 
 pub ids_more : (ids : List RowId) (i : ℕ) (d : RowId) → i < length ids → ids_in (take (i + 1) ids) ≡ ids_in (take i ids) ++ (get_or ids i d).0 ∷ []
 ids_more ids i d within = ap ids_in (take_more ids i d within) ∙ map-append (λ (id : RowId). id.0) (take i ids) (get_or ids i d ∷ [])
 
-pub unsettle_more : (n : ℕ) (old now new : List Entry) (ids : List ℕ) (i place : ℕ) (x y : RowData) → IsDistinct nat_eq (keys_of old) → now ≡ unsettled_by_ids n ids old → place_of now i ≡ Some place
-    → slice_get now place ≡ Some (id_at now place, x) → y ≡ stale_data n x → new ≡ with_row now place y → new ≡ unsettled_by_ids n (ids ++ i ∷ []) old
-unsettle_more n old now new ids i place x y distinct is at here stale_is written =
+pub unsettle_more : (n : ℕ) (old now new : List Entry) (ids : List ℕ) (i place : ℕ) → IsDistinct nat_eq (keys_of old) → now ≡ unsettled_by_ids n ids old → place_of now i ≡ Some place → ChangedAt (stale_data n) now place new
+    → new ≡ unsettled_by_ids n (ids ++ i ∷ []) old
+unsettle_more n old now new ids i place distinct is at changed =
     let there : place_of old i ≡ Some place = sym (ap (λ ks. place_in ks i) (ap keys_of is ∙ ids_stay n ids old)) ∙ at in
     let row = row_there old i place there in
     let marked : Bool = list_any (nat_eq i) ids in
-    let found : slice_get now place ≡ Some (cond marked (with_data (stale_data n) (i, row.0)) (i, row.0)) =
+    let was : Entry = cond marked (with_data (stale_data n) (i, row.0)) (i, row.0) in
+    let found : slice_get now place ≡ Some was =
     ap (λ rows. slice_get rows place) is ∙ slice_get-map (λ r. cond (list_any (nat_eq r.0) ids) (with_data (stale_data n) r) r) old place ∙ ap (option_map (λ r. cond (list_any (nat_eq r.0) ids) (with_data (stale_data n) r) r)) row.1 in
-    let id : id_at now place ≡ i = id_there now place (cond marked (with_data (stale_data n) (i, row.0)) (i, row.0)) found ∙ own_id n marked (i, row.0) in
-    let same : x ≡ (cond marked (with_data (stale_data n) (i, row.0)) (i, row.0)).1 = ap (λ (o : Option (Entry)). (unwrap_or o (i, x)).1) (sym here ∙ found) in
-    let made : y ≡ stale_data n row.0 = stale_is ∙ ap (stale_data n) same ∙ stale_once n marked (i, row.0) in
-    written
-    ∙ ap (λ j. set now place (j, y)) id
-    ∙ ap (λ z. set now place (i, z)) made
+    changed was found
+    ∙ ap (λ (e : Entry). set now place e) (stale_once n marked (i, row.0))
     ∙ ap (λ rows. set rows place (i, stale_data n row.0)) is
     ∙ sym (by_ids-more (with_data (stale_data n)) (λ r. r) i row.0 ids old place distinct there row.1)
   where

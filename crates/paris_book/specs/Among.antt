@@ -19,6 +19,8 @@ use Rattle.paris_book.specs.declared.inputs.InputData.{InputData}
 use Rattle.paris_book.specs.Entries.{Entry, id_of, entry_plan, machine_row}
 use Rattle.paris_book.specs.declared.look.Look.{Look}
 use Rattle.paris_book.specs.declared.look.Look.TheVariants.{Settled as LookSettled, Pending as LookPending}
+use Rattle.paris_book.specs.declared.look.SharedLook.{SharedLook}
+use Rattle.paris_book.specs.declared.look.SharedLook.TheVariants.{Settled as SharedSettled, Pending as SharedPending}
 use Rattle.paris_events.specs.declared.rows.RowFault.{RowFault}
 use Rattle.paris_events.specs.declared.rows.RowLook.{RowLook}
 use Rattle.paris_machine.specs.declared.events.Shown.{Shown}
@@ -48,10 +50,15 @@ abbrev pub look_shown : Look → Shown
 look_shown (LookSettled v) = ShownSettled v.now
 look_shown (LookPending id) = Pending id
 
+-- the same of one that lends the value to be shared
+abbrev pub shared_shown : SharedLook → Shown
+shared_shown (SharedSettled v) = ShownSettled v.now
+shared_shown (SharedPending id) = Pending id
+
 -- a value that is lent has this width and this number of processors
-abbrev pub LookFits : Look → Option (ℕ × ℕ) → Type 0
-LookFits (LookSettled v) shape = shape ≡ Some (v.now.width, length v.now.numbers)
-LookFits (LookPending id) shape = Unit {0}
+abbrev pub LookFits : SharedLook → Option (ℕ × ℕ) → Type 0
+LookFits (SharedSettled v) shape = shape ≡ Some (v.now.width, length v.now.numbers)
+LookFits (SharedPending id) shape = Unit {0}
 
 -- whether the origin of a key is the start or settled
 abbrev pub firm_among : List Entry → ℕ → Key → Bool
@@ -69,6 +76,13 @@ inputs_among inputs es place p = map (λ k. field_of p k (present inputs es plac
 
 abbrev pub order_among : Inputs → List Entry → ℕ → Entry → Task
 order_among inputs es place e = record { id = id_of e; edition = e.1.edition; plan = e.1.plan; inputs = inputs_among inputs es place e.1.plan }
+
+-- the same, where the origins of the keys are the start or settled
+abbrev pub firm_inputs : Inputs → List Entry → ℕ → Plan → Option (List FieldNumbers)
+firm_inputs inputs es place p = if list_all (firm_among es place) (reads p) then Some (inputs_among inputs es place p) else None
+
+abbrev pub own_among : Inputs → List Entry → ℕ → Entry → Option Task
+own_among inputs es place e = if list_all (firm_among es place) (reads e.1.plan) then Some (order_among inputs es place e) else None
 
 -- why a result was refused, if it was
 abbrev pub cause_told : Option Task → Option Refusal

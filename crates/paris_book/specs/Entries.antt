@@ -1,5 +1,5 @@
 -- The rows as the book keeps them: each with its id, as a program's rows are.
-use Rattle.std.specs.Prelude.{ℕ}
+use Rattle.std.specs.Prelude.{◌≡◌, ℕ, List, Some, slice_get, slice_set}
 use Rattle.paris_names.specs.declared.ids.RowId.{RowId}
 use Rattle.paris_model.specs.Instructions.{Plan}
 use Rattle.paris_machine.specs.State.{Row}
@@ -22,3 +22,7 @@ machine_row e = record { id = id_of e; plan = e.1.plan; set_by = e.1.set_by; edi
 -- a row with its data changed, under its id
 abbrev pub with_data : (RowData → RowData) → Entry → Entry
 with_data change e = (e.0, change e.1)
+
+-- the rows after the data of the one at a place was changed
+abbrev pub ChangedAt : (RowData → RowData) → List Entry → ℕ → List Entry → Type 0
+ChangedAt change old place new = (e : Entry) → slice_get old place ≡ Some e → new ≡ slice_set old place (with_data change e)

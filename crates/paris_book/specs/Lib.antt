@@ -1,8 +1,11 @@
 pub mod Among
 pub mod Entries
+pub mod Indexed
 pub mod Kept
 pub mod Laws
 pub mod Marks
 pub mod Rounds
+pub mod Statuses
+pub mod Steps
 pub mod Verdicts
 pub mod Whole

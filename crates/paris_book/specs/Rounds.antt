@@ -1,5 +1,5 @@
--- Settling in rounds: the slots of a round, and what a round leaves of a book.
-use Rattle.std.specs.Prelude.{◌≡◌, ℕ, zero, suc, ◌≤◌, List, [], ◌∷◌, Bool, true, Option, Some, None, is_some, slice_get}
+-- Settling by several workers: the slots of a level, and what settling leaves of a book.
+use Rattle.std.specs.Prelude.{◌≡◌, ℕ, zero, suc, List, [], ◌∷◌, true, Some, slice_get}
 use Rattle.std.specs.List.{list_all}
 use Rattle.paris_model.specs.Instructions.{reads}
 use Rattle.paris_exec.specs.Tasks.{Task}
@@ -7,19 +7,14 @@ use Rattle.paris_events.specs.Rows.{is_settled}
 use Rattle.paris_events.specs.declared.rows.Status.TheVariants.{Out, Settled}
 use Rattle.paris_machine.specs.State.{Row, State, with_status}
 use Rattle.paris_machine.specs.Show.{origin_at}
-use Rattle.paris_machine.specs.Orders.{is_firm, is_ready}
-use Rattle.paris_machine.specs.Settling.{all_settled, unsettled_rows, brought_back}
+use Rattle.paris_machine.specs.Orders.{is_firm, is_ready, after_release}
+use Rattle.paris_machine.specs.Settling.{all_settled}
+use Rattle.paris_book.specs.Steps.{own_order}
 use Rattle.paris_book.specs.declared.rounds.Slot.{Slot}
 
 -- every row that was settled stands there as it was
 abbrev pub StaySettled : List Row → List Row → Type 0
 StaySettled old new = (place : ℕ) (r : Row) → slice_get old place ≡ Some r → is_settled r.status ≡ true → slice_get new place ≡ Some r
-
--- all is as before but for the statuses of rows, and no settled row became unsettled
-pub record Advances (old new : State) : Type 0 where
-  pub same : all_settled new ≡ all_settled old
-  pub stay : StaySettled old.rows new.rows
-  pub fewer : unsettled_rows new.rows ≤ unsettled_rows old.rows
 
 -- a row of which an order is out reads keys whose origins are the start or settled
 abbrev pub OutAreFirm : State → Type 0
@@ -34,18 +29,31 @@ abbrev pub RunsTo : ℕ → State → State → Type 0
 RunsTo zero s t = t ≡ s
 RunsTo (suc n) s t = (u : State) × RunsTo n s u × Runs u t
 
+-- rows were run, and all else is as before: the statuses of other rows, and the orders that rows give
+pub record Advances (old new : State) : Type 0 where
+  pub same : all_settled new ≡ all_settled old
+  pub stay : StaySettled old.rows new.rows
+  pub orders : (place : ℕ) (t : Task) → own_order old place ≡ Some t → own_order new place ≡ Some t
+  pub out : OutAreFirm old → OutAreFirm new
+  pub runs : (n : ℕ) × RunsTo n (after_release old) (after_release new)
+
 -- a slot's result is of the order that it held
-abbrev pub HasRun : Slot → Slot → Type 0
-HasRun old new = (t : Task) → new.done ≡ Some t → old.order ≡ Some t
+pub record HasRun (old new : Slot) : Type 0 where
+  pub place : new.place ≡ old.place
+  pub done : (t : Task) → new.done ≡ Some t → old.order ≡ Some t
 
-abbrev pub has_result : Slot → Bool
-has_result slot = is_some slot.done
+-- a slot's order, or its result, is that which the row at its place would give now
+abbrev pub HoldsOrder : State → Slot → Type 0
+HoldsOrder s slot = (t : Task) → slot.order ≡ Some t → own_order s slot.place ≡ Some t
 
-abbrev pub first_order : List Slot → Option Task
-first_order [] = None
-first_order (slot ∷ slots) = slot.order
+abbrev pub HoldsResult : State → Slot → Type 0
+HoldsResult s slot = (t : Task) → slot.done ≡ Some t → own_order s slot.place ≡ Some t
 
--- the state after the results that slots hold are brought
-abbrev pub after_slots : State → List Slot → State
-after_slots s [] = s
-after_slots s (slot ∷ slots) = after_slots (brought_back s slot.done) slots
+-- so it is in all slots
+abbrev pub HoldOrders : State → List Slot → Type 0
+HoldOrders s [] = Unit {0}
+HoldOrders s (slot ∷ slots) = HoldsOrder s slot × HoldOrders s slots
+
+abbrev pub HoldResults : State → List Slot → Type 0
+HoldResults s [] = Unit {0}
+HoldResults s (slot ∷ slots) = HoldsResult s slot × HoldResults s slots

@@ -11,20 +11,18 @@ ghost use Rattle.paris_machine.specs.Orders.{take_reply, after_take};
 ghost use Rattle.paris_machine.specs.Results.{verdict_of, after_bring};
 ghost use Rattle.paris_machine.specs.Edits.{edit_fault, edit_answer, accepted};
 ghost use Rattle.paris_machine.specs.Settling.{unsettled_rows};
-ghost use Rattle.paris_book.specs.Among.{look_shown};
+ghost use Rattle.paris_book.specs.Among.{look_shown, shared_shown};
 ghost use Rattle.paris_book.specs.Entries.{machine_row};
-ghost use Rattle.paris_book.specs.Marks.{out_data, kept_data};
 ghost use Rattle.paris_names.specs.declared.limits.TheConstants.{MAX_EDITS};
 
 use crate::inputs::InputData;
-use crate::look::Look;
+use crate::look::{Look, SharedLook};
 use crate::looks::{first_ready, judge, look_at, order_at};
-use crate::rows::RowData;
+use crate::program_rows::Rows;
 use paris_board::Board;
-use paris_events::{Edit, EditReply, Status, Verdict};
+use paris_events::{Edit, EditReply, Verdict};
 use paris_exec::{Done, Order};
 use paris_names::{Fault, KeyName, RowId, Spot};
-use paris_program::Program;
 use std::alloc::{AllocError, Global};
 use std::marker::Model;
 
@@ -35,7 +33,7 @@ pub struct Book {
     pub(crate) board: Board,
     pub(crate) edits: u64,
     pub(crate) inputs: InputData,
-    pub(crate) rows: Program<RowData>,
+    pub(crate) rows: Rows,
     pub(crate) alloc: Global,
 }
 
@@ -74,7 +72,7 @@ impl Book {
                 fields: Vec::new(alloc),
                 flags: Vec::new(alloc),
             },
-            rows: Program::new(alloc),
+            rows: Rows::new(alloc),
             alloc,
         }
     }
@@ -99,14 +97,12 @@ impl Book {
         ensures err { OnErr result (self.new ≡ self.old) }
         ensures ready { OnErr result (IsSome (take_reply self.old)) }
     {
-        match first_ready(&self.rows) {
-            None => Ok(None),
-            Some(place) => {
-                let order = order_at(self.alloc, &self.inputs, &self.rows, place)?;
-                hand_out(self.rows.at_mut(place));
-                Ok(Some(order))
-            }
-        }
+        let Some(place) = first_ready(&self.rows) else {
+            return Ok(None);
+        };
+        let order = order_at(self.alloc, &self.inputs, &self.rows, place)?;
+        self.rows.hand_out(place);
+        Ok(order)
     }
 
     /// Brings a result, and settles its row where it belongs to the present program and the present input data. It takes no
@@ -122,7 +118,7 @@ impl Book {
                 if !verdict.is_kept() {
                     return verdict;
                 }
-                keep(self.rows.at_mut(place), done);
+                self.rows.keep(place, done);
                 verdict
             }
         }
@@ -147,6 +143,14 @@ impl Book {
         ensures shown { IfOk result (λ look. Ok (look_shown look) ≡ show_reply self.now name spot) }
         ensures refused { IfErr result (λ fault. Err fault ≡ show_reply self.now name spot) }
     {
+        Ok(self.shared_look(name, spot)?.lent())
+    }
+
+    /// The same look, with its value lent to be shared.
+    pub(crate) fn shared_look(&self, name: KeyName, spot: Spot) -> Result<SharedLook<'_>, Fault>
+        ensures shown { IfOk result (λ look. Ok (shared_shown look) ≡ show_reply self.now name spot) }
+        ensures refused { IfErr result (λ fault. Err fault ≡ show_reply self.now name spot) }
+    {
         let key = self.board.key_of(name)?;
         let place = self.place_of_spot(spot)?;
         Ok(look_at(&self.inputs, &self.rows, place, &key))
@@ -163,41 +167,12 @@ impl Book {
     pub fn unsettled_count(&self) -> usize
         ensures { result ≡ unsettled_rows self.now.rows }
     {
-        count_unsettled(&self.rows)
+        self.rows.count_unsettled()
     }
-}
-
-/// Marks a row as one of which an order is out.
-fn hand_out(row: &mut RowData)
-    ensures { row.new ≡ out_data row.old }
-{
-    row.status = Status::Out;
-}
-
-/// Settles a row by a result.
-fn keep(row: &mut RowData, done: Done)
-    ensures { row.new ≡ kept_data done row.old }
-{
-    row.status = Status::Settled;
-    row.done = Some(done);
-}
-
-/// How many of these rows are unsettled.
-pub(crate) fn count_unsettled(rows: &Program<RowData>) -> usize
-    ensures { result ≡ unsettled_rows (map machine_row rows.now.rows) }
-{
-    let mut count = 0;
-    for place in 0..rows.len() {
-        let (_, row) = rows.at(place);
-        if !row.status.is_settled() {
-            count += 1;
-        }
-    }
-    count
 }
 
 /// The place just after the row with an id. `NoRow` where no row has it.
-fn place_after(rows: &Program<RowData>, id: RowId) -> Result<usize, Fault>
+fn place_after(rows: &Rows, id: RowId) -> Result<usize, Fault>
     ensures ok { IfOk result (λ below. option_map (λ place. place + 1) (place_of rows.now.rows id.0) ≡ Some below) }
     ensures within { IfOk result (λ below. below ≤ length rows.now.rows) }
     ensures err { IfErr result (λ fault. (fault ≡ FaultCase.NoRow) × (place_of rows.now.rows id.0 ≡ None)) }

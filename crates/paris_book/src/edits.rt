@@ -17,7 +17,7 @@ use crate::book::Book;
 use crate::inputs::{
     declare_flags, declare_input, given_input, input_at, push_field, push_flags, set_input,
 };
-use crate::marks::{unsettle_all, unsettled_by_replace, unsettled_from};
+use crate::marks::{unsettle_all, unsettled_by_replace};
 use crate::rows::RowData;
 use paris_events::{Edit, EditReply, Status};
 use paris_geometry::Geometry;
@@ -93,10 +93,10 @@ impl Book {
         let key = self.board.key_of(name)?;
         let number = self.edits + 1;
         let input = match input_at(&self.inputs, &key) {
-            Some(input) => given_input(input, number, from, values)?,
+            Some(input) => given_input(self.alloc, input, number, from, values)?,
             None => unreachable!(),
         };
-        let ids = unsettled_from(self.alloc, &self.rows, 0, &[key])?;
+        let ids = self.rows.affected(self.alloc, 0, &[key])?;
         set_input(&mut self.inputs, &key, input);
         unsettle_all(&mut self.rows, ids.as_slice(), number);
         self.edits = number;
@@ -124,15 +124,14 @@ impl Book {
     fn insert_plan(&mut self, place: usize, plan: Plan) -> Result<RowId, Fault>
         requires left { HasEditsLeft self.old }
         requires within { place ≤ length self.old.rows }
+        requires few { length self.old.rows < MAX_ROWS }
         requires fitted { IsFittedTo self.old.board plan }
         ensures ok { IfOk result (λ id. (id ≡ record { 0 = self.old.next }) × (self.new ≡ row_inserted self.old place plan)) }
         ensures err { IfErr result (λ fault. (self.new ≡ self.old) × (fault ≡ FaultCase.NoMemory)) }
     {
         let number = self.edits + 1;
-        let ids = unsettled_from(self.alloc, &self.rows, place, plan.writes())?;
-        let Ok(id) = self.rows.insert_at(place, fresh_row(plan, number)) else {
-            return Err(Fault::NoMemory);
-        };
+        let ids = self.rows.affected(self.alloc, place, plan.writes())?;
+        let id = self.rows.insert_at(place, fresh_row(plan, number))?;
         unsettle_all(&mut self.rows, ids.as_slice(), number);
         self.edits = number;
         Ok(id)
@@ -149,7 +148,7 @@ impl Book {
         let below = self.place_of_spot(Spot::After(id))?;
         let number = self.edits + 1;
         let ids = match self.rows.row(id) {
-            Some(row) => unsettled_from(self.alloc, &self.rows, below, row.plan.writes())?,
+            Some(row) => self.rows.affected(self.alloc, below, row.plan.writes())?,
             None => unreachable!(),
         };
         self.rows.delete(id);
@@ -181,7 +180,7 @@ impl Book {
     {
         let number = self.edits + 1;
         let ids = unsettled_by_replace(self.alloc, &self.rows, id, below, &plan)?;
-        self.rows.replace(id, fresh_row(plan, number));
+        self.rows.replace(id, fresh_row(plan, number))?;
         unsettle_all(&mut self.rows, ids.as_slice(), number);
         self.edits = number;
         Ok(())

@@ -7,7 +7,7 @@ ghost use Rattle.paris_machine.specs.Events.{reply_to, after, replies_to, after_
 ghost use Rattle.paris_machine.specs.declared.events.Event.TheVariants as EventCase;
 
 use crate::book::Book;
-use crate::look::Look;
+use crate::look::SharedLook;
 use paris_events::Edit;
 use paris_machine::{Event, Reply, Shown};
 use paris_names::{Items, KeyName, Spot};
@@ -44,15 +44,15 @@ impl Book {
         }
     }
 
-    /// A look as an event, whose reply holds a copy of the value.
+    /// A look as an event, whose reply shares the value.
     fn step_show(&self, name: &KeyName, spot: &Spot) -> Result<Reply, AllocError>
         ensures reply { IfOk result (λ reply. reply ≡ reply_to self.now (EventCase.Show name.now spot.now)) }
         ensures value { OnErr result (has_value (show_reply self.now name.now spot.now) ≡ true) }
     {
-        match self.show(*name, *spot) {
+        match self.shared_look(*name, *spot) {
             Err(fault) => Ok(Reply::Show(Err(fault))),
-            Ok(Look::Pending(id)) => Ok(Reply::Show(Ok(Shown::Pending(id)))),
-            Ok(Look::Settled(value)) => Ok(Reply::Show(Ok(Shown::Settled(value.copy()?)))),
+            Ok(SharedLook::Pending(id)) => Ok(Reply::Show(Ok(Shown::Pending(id)))),
+            Ok(SharedLook::Settled(value)) => Ok(Reply::Show(Ok(Shown::Settled(value.copy()?)))),
         }
     }
 

@@ -9,7 +9,7 @@ ghost use Rattle.paris_machine.specs.Edits.{fault_of_values};
 ghost use Rattle.paris_book.specs.Among.{inputs_of};
 ghost use Rattle.paris_names.specs.declared.limits.TheConstants.{MAX_WIDTH};
 
-use paris_field::FieldValue;
+use paris_field::{FieldValue, SharedValue};
 use paris_machine::{FlagInputs, Input};
 use paris_names::{Fault, Key};
 use std::alloc::{AllocError, Global};
@@ -64,8 +64,19 @@ fn values_fault(value: &FieldValue, from: u64, values: &[u128]) -> Option<Fault>
     FieldValue::first_too_wide(value.width(), values).map(|i| Fault::TooWide(from + i as u64))
 }
 
+/// A value that is the input data of a key, to be shared.
+fn input_with(alloc: Global, value: FieldValue, number: u64) -> Result<Input, AllocError>
+    ensures { IfOk result (λ input. input ≡ record { value = value; number = number }) }
+{
+    match SharedValue::new(alloc, value) {
+        Ok(value) => Ok(Input { value, number }),
+        Err((_, error)) => Err(error),
+    }
+}
+
 /// Input data with values in place of as many from a processor on, as an edit gives it.
 pub(crate) fn given_input(
+    alloc: Global,
     input: &Input,
     number: u64,
     from: u64,
@@ -75,11 +86,12 @@ pub(crate) fn given_input(
         × (given ≡ record { value = record { width = input.now.value.width; numbers = overwritten input.now.value.numbers from values.now }; number = number })) }
     ensures err { IfErr result (IsFaultOf (fault_of_values (length input.now.value.numbers) input.now.value.width from values.now)) }
 {
-    if let Some(fault) = values_fault(&input.value, from, values) {
+    let value = input.value.get();
+    if let Some(fault) = values_fault(value, from, values) {
         return Err(fault);
     }
-    let value = input.value.with_numbers(from as usize, values)?;
-    Ok(Input { value, number })
+    let given = value.with_numbers(from as usize, values)?;
+    Ok(input_with(alloc, given, number)?)
 }
 
 /// The input data of a key as it is declared: the same number everywhere.
@@ -96,7 +108,7 @@ pub(crate) fn declare_input(
     ensures { IfOk result (λ input. input ≡ declared_input number width count start) }
 {
     let value = FieldValue::constant(alloc, width, start, count)?;
-    Ok(Input { value, number })
+    input_with(alloc, value, number)
 }
 
 /// The input data of a set's flags as they are declared.

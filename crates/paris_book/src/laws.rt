@@ -9,17 +9,17 @@ ghost use Rattle.paris_book.specs.Laws.{InputFits, FlagsFit, InputsFit, ActionFi
 
 use crate::book::Book;
 use crate::inputs::InputData;
+use crate::program_rows::Rows;
 use crate::rows::RowData;
 use paris_machine::{FlagInputs, Input};
 use paris_model::laws::run_is_direct;
 use paris_names::RowId;
-use paris_program::Program;
 
 /// The numbers of input data fit its width.
 fn input_fits(input: &Input)
     ensures { InputFits input.now }
 {
-    input.value.low(0);
+    input.value.get().low(0);
 }
 
 /// So do those of each flag.
@@ -66,7 +66,7 @@ fn action_fits(id: RowId, row: &RowData)
 }
 
 /// So do those of all rows.
-fn actions_fit(rows: &Program<RowData>)
+fn actions_fit(rows: &Rows)
     ensures { ActionsFit rows.now.rows }
 {
     for place in 0..rows.len() {

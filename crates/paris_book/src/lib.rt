@@ -6,14 +6,18 @@ mod edits;
 mod events;
 mod inputs;
 mod laws;
+mod levels;
 mod listing;
 mod look;
 mod looks;
 mod marks;
+mod program_rows;
 mod refusals;
 mod rounds;
 mod rows;
 mod settlement;
+mod snapshot;
+mod statuses;
 
 pub use book::Book;
 pub use look::Look;

@@ -5,11 +5,11 @@ ghost use Rattle.paris_machine.specs.Lists.{list_of};
 ghost use Rattle.paris_book.specs.Among.{listed_entry, looks_kept};
 
 use crate::book::Book;
+use crate::program_rows::Rows;
 use crate::refusals::cause_of;
 use crate::rows::RowData;
 use paris_events::RowLook;
 use paris_names::{Items, RowId};
-use paris_program::Program;
 use std::alloc::{AllocError, Global};
 
 /// A row as it is listed.
@@ -26,7 +26,7 @@ fn listed(id: RowId, row: &RowData) -> RowLook
 }
 
 /// The rows as they are listed, in order.
-fn listed_among(alloc: Global, rows: &Program<RowData>) -> Result<Vec<RowLook>, AllocError>
+fn listed_among(alloc: Global, rows: &Rows) -> Result<Vec<RowLook>, AllocError>
     ensures { IfOk result (λ looks. looks.items ≡ looks_kept rows.now.rows) }
 {
     let mut looks = Vec::new(alloc);

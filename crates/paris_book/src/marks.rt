@@ -1,31 +1,21 @@
 //! Rows that an edit makes unsettled.
 
-ghost use Rattle.std.specs.Prelude.{◌≡◌, ◌≤◌, length, drop, map, Some, IsSome, IfOk};
+ghost use Rattle.std.specs.Prelude.{◌≡◌, ◌+◌, ◌≤◌, length, drop, map, Some, IsSome, IfOk};
 ghost use Rattle.paris_names.specs.declared.keys.Key.{Key as AnyKey};
 ghost use Rattle.paris_names.specs.Keys.{has_key};
+ghost use Rattle.paris_model.specs.Instructions.{writes};
 ghost use Rattle.paris_program.specs.Program.{IsProgram, place_of, row_of};
 ghost use Rattle.paris_depends.specs.Sweeps.{touched};
-ghost use Rattle.paris_book.specs.Marks.{stale_data, unsettled_by_ids, ids_in, data_plan, writes_either};
+ghost use Rattle.paris_book.specs.Marks.{unsettled_by_ids, ids_in, data_plan, writes_either};
 ghost use Rattle.paris_book.specs.declared.rows.RowData.{RowData as RowShape};
 
-use crate::rows::RowData;
-use paris_depends::affected;
-use paris_events::Status;
+use crate::program_rows::Rows;
 use paris_instr::Plan;
-use paris_names::{Edition, Key, RowId, has_key};
-use paris_program::Program;
+use paris_names::{Key, RowId, has_key};
 use std::alloc::{AllocError, Global};
 
-/// Makes a row unsettled by the edit of this number.
-fn unsettle(row: &mut RowData, number: u64)
-    ensures { row.new ≡ stale_data number row.old }
-{
-    row.edition = Edition(number);
-    row.status = Status::Waiting;
-}
-
 /// Makes the rows of these ids unsettled by the edit of this number.
-pub(crate) fn unsettle_all(rows: &mut Program<RowData>, ids: &[RowId], number: u64)
+pub(crate) fn unsettle_all(rows: &mut Rows, ids: &[RowId], number: u64)
     ensures rows { rows.new.rows ≡ unsettled_by_ids number (ids_in ids.now) rows.old.rows }
     ensures next_id { rows.new.next_id ≡ rows.old.next_id }
     ensures sound { IsProgram rows.old }
@@ -34,14 +24,15 @@ pub(crate) fn unsettle_all(rows: &mut Program<RowData>, ids: &[RowId], number: u
     let _len = rows.len();
     for id in ids {
         if let Some(place) = rows.place_of(*id) {
-            unsettle(rows.at_mut(place), number);
+            rows.unsettle(place, number);
         }
     }
 }
 
 /// The keys that a plan or another one writes, each once.
 fn written_by_either(alloc: Global, old: &Plan, new: &Plan) -> Result<Vec<Key>, AllocError>
-    ensures { IfOk result (λ keys. (k : AnyKey) → has_key keys.items k ≡ writes_either old.now new.now k) }
+    ensures keys { IfOk result (λ keys. (k : AnyKey) → has_key keys.items k ≡ writes_either old.now new.now k) }
+    ensures few { IfOk result (λ keys. length keys.items ≤ length (writes old.now) + length (writes new.now)) }
 {
     let mut keys = Vec::new(alloc);
     keys.extend_from_slice(old.writes())?;
@@ -53,23 +44,10 @@ fn written_by_either(alloc: Global, old: &Plan, new: &Plan) -> Result<Vec<Key>, 
     Ok(keys)
 }
 
-/// The ids of the rows from a place on that become unsettled where just these keys get new recipes at that place.
-pub(crate) fn unsettled_from(
-    alloc: Global,
-    rows: &Program<RowData>,
-    place: usize,
-    keys: &[Key],
-) -> Result<Vec<RowId>, AllocError>
-    requires { place ≤ length rows.now.rows }
-    ensures { IfOk result (λ ids. ids_in ids.items ≡ touched data_plan (has_key keys.now) (drop place rows.now.rows)) }
-{
-    affected(alloc, rows, place, keys)
-}
-
 /// The ids of the rows from a place on that become unsettled where the row just before it gets another plan.
 pub(crate) fn unsettled_by_replace(
     alloc: Global,
-    rows: &Program<RowData>,
+    rows: &Rows,
     id: RowId,
     below: usize,
     plan: &Plan,
@@ -81,7 +59,7 @@ pub(crate) fn unsettled_by_replace(
     match rows.row(id) {
         Some(row) => {
             let keys = written_by_either(alloc, &row.plan, plan)?;
-            unsettled_from(alloc, rows, below, keys.as_slice())
+            rows.affected(alloc, below, keys.as_slice())
         }
         None => unreachable!(),
     }

@@ -5,12 +5,12 @@ ghost use Rattle.paris_machine.specs.Lists.{faults_of};
 ghost use Rattle.paris_book.specs.Among.{cause_kept, faults_kept};
 
 use crate::book::Book;
+use crate::program_rows::Rows;
 use crate::rows::RowData;
 use paris_events::RowFault;
 use paris_exec::Outcome;
 use paris_model::Refusal;
 use paris_names::{Items, RowId};
-use paris_program::Program;
 use std::alloc::{AllocError, Global};
 
 /// Why the result that a settled row keeps was refused, if it was.
@@ -30,7 +30,7 @@ pub(crate) fn cause_of(id: RowId, row: &RowData) -> Option<Refusal>
 }
 
 /// The settled rows whose results were refused, in order, with the cause.
-fn faults_among(alloc: Global, rows: &Program<RowData>) -> Result<Vec<RowFault>, AllocError>
+fn faults_among(alloc: Global, rows: &Rows) -> Result<Vec<RowFault>, AllocError>
     ensures { IfOk result (λ faults. faults.items ≡ faults_kept rows.now.rows) }
 {
     let mut faults = Vec::new(alloc);

@@ -1,44 +1,34 @@
-//! Settling a book in rounds. A round takes the orders of all ready rows, executes them in threads, and brings their results.
+//! Settling a book by several workers. The rows of a level are run at once, one level after another.
 
-ghost use Rattle.std.specs.Prelude.{◌≡◌, ℕ, ◌<◌, ◌≤◌, ◌+◌, true, false, length, slice_index_or, OnOk, OnErr, IfOk, IfErr, IfSome};
-ghost use Rattle.std.specs.List.{list_all};
-ghost use Rattle.paris_machine.specs.Orders.{after_release, take_reply};
-ghost use Rattle.paris_machine.specs.Settling.{all_settled, unsettled_rows, brought_back};
-ghost use Rattle.paris_book.specs.Rounds.{Advances, StaySettled, OutAreFirm, RunsTo, HasRun, has_result, first_order, after_slots};
+ghost use Rattle.std.specs.Prelude.{◌≡◌, ℕ, ◌<◌, ◌≤◌, ◌+◌, length, slice_index_or, OnOk, OnErr, IfOk, IfErr};
+ghost use Rattle.paris_machine.specs.Orders.{after_release};
+ghost use Rattle.paris_machine.specs.Settling.{all_settled, unsettled_rows};
+ghost use Rattle.paris_book.specs.Rounds.{Advances, StaySettled, OutAreFirm, RunsTo, HasRun, HoldsResult, HoldOrders, HoldResults};
 ghost use Rattle.paris_book.specs.declared.rounds.Slot.{Slot as SlotShape};
 ghost use Rattle.paris_names.specs.declared.limits.TheConstants.{MAX_WORKERS};
 
 use crate::book::Book;
-use crate::settlement::SettleFault;
-use paris_exec::{Done, Gate, Order, execute};
+use crate::levels::{LeveledRow, level_end, rows_by_level};
+use crate::settlement::{SettleFault, execute_inside};
+use paris_exec::{Done, Gate, Order};
 use std::alloc::{AllocError, Global};
 use std::thread;
 use std::thread::Threads;
 
-/// An order that is to be executed, or what came of it: a result, or nothing where memory was refused.
+/// An order of the row at a place that is to be executed, or what came of it: a result, or nothing where memory was refused.
 #[derive(Drop)]
 pub(crate) struct Slot {
+    place: usize,
     order: Option<Order>,
     done: Option<Done>,
 }
 
-/// Executes an order inside a gate. `None` where memory was refused.
-fn execute_inside<G: Gate>(alloc: Global, gate: &G, order: Order) -> Option<Done>
-    ensures { IfSome result (λ done. done ≡ order) }
-{
-    let id = order.id();
-    let edition = order.edition();
-    gate.enter(id, edition);
-    let done = execute(alloc, order).ok();
-    gate.leave(id, edition);
-    done
-}
-
 impl Slot {
-    fn new(order: Order) -> Slot
-        ensures { result ≡ record { order = Some order; done = None } }
+    fn new(place: usize, order: Order) -> Slot
+        ensures { result ≡ record { place = place; order = Some order; done = None } }
     {
         Slot {
+            place,
             order: Some(order),
             done: None,
         }
@@ -75,73 +65,106 @@ fn run_slots<R: Threads + Sync, G: Gate + Sync>(
 }
 
 impl Book {
-    /// Takes orders until no row is ready, at most as many as there is room for. The room is made before the first is taken.
-    fn take_ready(&mut self, room: usize) -> Result<Vec<Slot>, AllocError>
-        requires { 0 < room }
-        ensures recalled { after_release self.new ≡ after_release self.old }
-        ensures first { IfOk result (λ slots. first_order slots.items ≡ take_reply self.old) }
-        ensures few { IfOk result (λ slots. length slots.items ≤ room) }
-        ensures out { OutAreFirm self.old → OutAreFirm self.new }
+    /// The orders of these rows that can be run now. The room for them is made before the first.
+    fn orders_of(&self, rows: &[LeveledRow]) -> Result<Vec<Slot>, AllocError>
+        ensures { IfOk result (λ slots. HoldOrders self.now slots.items) }
     {
-        let mut slots = Vec::with_capacity(self.alloc, room)?;
-        for _taken in 0..room {
-            match self.take()? {
-                None => return Ok(slots),
-                Some(order) => slots.push(Slot::new(order))?,
+        let mut slots = Vec::with_capacity(self.alloc, rows.len())?;
+        for row in rows {
+            if let Some(order) = self.own_order(row.place)? {
+                slots.push(Slot::new(row.place, order))?;
             }
         }
         Ok(slots)
     }
 
-    /// Brings the result that a slot holds, and says whether it holds one.
-    fn bring_slot(&mut self, slot: Slot) -> bool
-        ensures state { self.new ≡ brought_back self.old slot.done }
-        ensures held { result ≡ has_result slot }
+    /// Settles a slot's row by the result that the slot holds, and says whether it holds one.
+    fn keep_slot(&mut self, slot: Slot) -> bool
+        requires { HoldsResult self.old slot }
+        ensures { Advances self.old self.new }
     {
-        let Slot { done, .. } = slot;
+        let Slot { place, done, .. } = slot;
         match done {
             None => false,
             Some(done) => {
-                self.bring(done);
+                self.keep_own(place, done);
                 true
             }
         }
     }
 
-    /// Brings the results that the slots hold. The error says that there is a slot with none.
-    fn bring_slots(&mut self, slots: Vec<Slot>) -> Result<(), AllocError>
-        ensures state { self.new ≡ after_slots self.old slots.items }
-        ensures ok { OnOk result (list_all has_result slots.items ≡ true) }
-        ensures err { OnErr result (list_all has_result slots.items ≡ false) }
+    /// Settles the rows of the slots that hold results. The error says that there is a slot with none.
+    fn keep_slots(&mut self, slots: Vec<Slot>) -> Result<(), AllocError>
+        requires { HoldResults self.old slots.items }
+        ensures { Advances self.old self.new }
     {
         let mut complete = true;
         for slot in slots {
-            if !self.bring_slot(slot) {
+            if !self.keep_slot(slot) {
                 complete = false;
             }
         }
         if complete { Ok(()) } else { Err(AllocError) }
     }
 
-    /// Gives up the orders that are out, takes those of all ready rows, executes them in threads and brings their results.
-    fn run_round<R: Threads + Sync, G: Gate + Sync>(
+    /// Runs the rows of a level: one without a thread, and several at once. The error says that memory was refused.
+    fn run_level<R: Threads + Sync, G: Gate + Sync>(
+        &mut self,
+        rt: &R,
+        workers: usize,
+        gate: &G,
+        rows: &[LeveledRow],
+    ) -> Result<(), AllocError>
+        requires { 0 < workers }
+        ensures { Advances self.old self.new }
+    {
+        if let [row] = rows {
+            return self.run_at(gate, row.place);
+        }
+        let mut slots = self.orders_of(rows)?;
+        run_slots(rt, self.alloc, workers, gate, slots.as_mut_slice());
+        self.keep_slots(slots)
+    }
+
+    /// Runs the unsettled rows level by level. The error says that memory was refused.
+    fn run_levels<R: Threads + Sync, G: Gate + Sync>(
         &mut self,
         rt: &R,
         workers: usize,
         gate: &G,
     ) -> Result<(), AllocError>
-        requires workers { 0 < workers }
-        requires positive { 0 < unsettled_rows self.old.rows }
-        ensures advances { Advances self.old self.new }
-        ensures ok { OnOk result (unsettled_rows self.new.rows < unsettled_rows self.old.rows) }
-        ensures err { OnErr result (0 < unsettled_rows self.new.rows) }
-        ensures out { OutAreFirm self.new }
-        ensures runs { (n : ℕ) × RunsTo n (after_release self.old) (after_release self.new) }
+        requires { 0 < workers }
+        ensures { Advances self.old self.new }
     {
-        self.release();
-        let mut slots = self.take_ready(self.unsettled_count())?;
-        run_slots(rt, self.alloc, workers, gate, slots.as_mut_slice());
-        self.bring_slots(slots)
+        let rows = rows_by_level(self.alloc, &self.rows)?;
+        let mut start = 0;
+        while start < rows.len() {
+            let end = level_end(rows.as_slice(), start);
+            self.run_level(rt, workers, gate, &rows[start..end])?;
+            start = end;
+        }
+        Ok(())
+    }
+
+    /// Runs all unsettled rows: level by level where several workers are given, and what is left in program order. The error says
+    /// that memory was refused.
+    fn run_all<R: Threads + Sync, G: Gate + Sync>(
+        &mut self,
+        rt: &R,
+        workers: usize,
+        gate: &G,
+    ) -> Result<(), AllocError>
+        requires { 0 < workers }
+        ensures advances { Advances self.old self.new }
+        ensures ok { OnOk result (unsettled_rows self.new.rows ≡ 0) }
+    {
+        if workers > 1 {
+            self.run_levels(rt, workers, gate)?;
+        }
+        match self.run_in_order(gate) {
+            Ok(_) => Ok(()),
+            Err(_) => Err(AllocError),
+        }
     }
 
     /// Settles the book as `settle` does, with at most so many orders executed at once, each inside the gate. The answer is how many
@@ -165,15 +188,15 @@ impl Book {
         ensures out { OnErr result (OutAreFirm self.new) }
     {
         let count = self.unsettled_count();
-        for _round in 0..count {
-            if self.unsettled_count() == 0 {
-                return Ok(count as u64);
-            }
-            if self.run_round(rt, workers, gate).is_err() {
-                let ran = count - self.unsettled_count();
-                return Err(SettleFault { ran: ran as u64 });
-            }
+        self.release();
+        if self.run_all(rt, workers, gate).is_ok() {
+            return Ok(count as u64);
         }
-        Ok(count as u64)
+        let left = self.unsettled_count();
+        if left == 0 {
+            return Ok(count as u64);
+        }
+        let ran = count - left;
+        Err(SettleFault { ran: ran as u64 })
     }
 }

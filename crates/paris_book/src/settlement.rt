@@ -1,18 +1,19 @@
-//! Settling a book: orders that are out are given up, and orders are run until every row is settled.
+//! Settling a book: orders that are out are given up, and rows are run until every row is settled.
 
-ghost use Rattle.std.specs.Prelude.{◌≡◌, ◌<◌, ◌+◌, ◌⊎◌, map, OnOk, OnErr, IfOk, IfErr};
+ghost use Rattle.std.specs.Prelude.{◌≡◌, ◌<◌, ◌≤◌, ◌+◌, ◌⊎◌, length, Some, map, OnOk, OnErr, IfOk, IfErr, IfSome};
+ghost use Rattle.paris_names.specs.declared.limits.TheConstants.{MAX_ROWS};
 ghost use Rattle.paris_machine.specs.Orders.{after_release, after_take};
-ghost use Rattle.paris_machine.specs.Results.{after_bring};
-ghost use Rattle.paris_machine.specs.Settling.{after_run, ran_orders, all_settled, unsettled_rows};
+ghost use Rattle.paris_machine.specs.Settling.{ran_orders, all_settled, unsettled_rows};
 ghost use Rattle.paris_book.specs.Marks.{recalled_data};
 ghost use Rattle.paris_book.specs.Entries.{with_data};
+ghost use Rattle.paris_book.specs.Statuses.{next_unsettled};
+ghost use Rattle.paris_book.specs.Steps.{own_order, settled_at, ran_at, settled_times};
 
-use crate::book::{Book, count_unsettled};
-use crate::rows::RowData;
-use paris_events::Status;
-use paris_exec::{Order, execute};
-use paris_program::Program;
-use std::alloc::AllocError;
+use crate::book::Book;
+use crate::looks::order_at;
+use crate::program_rows::Rows;
+use paris_exec::{Done, Gate, OpenGate, Order, execute};
+use std::alloc::{AllocError, Global};
 use thiserror::Error;
 
 /// Memory was refused while a book was settled.
@@ -23,24 +24,28 @@ pub struct SettleFault {
     pub ran: u64,
 }
 
-/// Makes a row wait of which an order is out.
-fn recall(row: &mut RowData)
-    ensures { row.new ≡ recalled_data row.old }
-{
-    match row.status {
-        Status::Out => row.status = Status::Waiting,
-        Status::Waiting | Status::Settled => {}
-    }
-}
-
 /// Makes every row wait of which an order is out.
-fn recall_all(rows: &mut Program<RowData>)
+fn recall_all(rows: &mut Rows)
     ensures rows { rows.new.rows ≡ map (with_data recalled_data) rows.old.rows }
     ensures next_id { rows.new.next_id ≡ rows.old.next_id }
 {
-    for place in 0..rows.len() {
-        recall(rows.at_mut(place));
+    let mut from = 0;
+    while let Some(place) = rows.next_unsettled(from) {
+        rows.recall(place);
+        from = place + 1;
     }
+}
+
+/// Executes an order inside a gate. `None` where memory was refused.
+pub(crate) fn execute_inside<G: Gate>(alloc: Global, gate: &G, order: Order) -> Option<Done>
+    ensures { IfSome result (λ done. done ≡ order) }
+{
+    let id = order.id();
+    let edition = order.edition();
+    gate.enter(id, edition);
+    let done = execute(alloc, order).ok();
+    gate.leave(id, edition);
+    done
 }
 
 impl Book {
@@ -51,30 +56,69 @@ impl Book {
         recall_all(&mut self.rows);
     }
 
-    /// Executes an order and brings its result. At an error the book is as it was.
-    fn run_order(&mut self, order: Order) -> Result<(), AllocError>
-        ensures ok { OnOk result (self.new ≡ after_bring self.old order) }
+    /// The first place from one on with an unsettled row. `None` where all rows from there on are settled.
+    fn next_unsettled(&self, from: usize) -> Option<usize>
+        ensures value { result ≡ next_unsettled self.now.rows from }
+        ensures few { length self.now.rows ≤ MAX_ROWS }
+    {
+        self.rows.next_unsettled(from)
+    }
+
+    /// An order for the row at a place, whatever its status. `None` where there is no row, or where a key that it reads waits for an
+    /// unsettled row.
+    pub(crate) fn own_order(&self, place: usize) -> Result<Option<Order>, AllocError>
+        ensures { IfOk result (λ order. order ≡ own_order self.now place) }
+    {
+        if place >= self.rows.len() {
+            return Ok(None);
+        }
+        order_at(self.alloc, &self.inputs, &self.rows, place)
+    }
+
+    /// Settles the row at a place by the result of the order that the row would give now. Nothing is compared.
+    pub(crate) fn keep_own(&mut self, place: usize, done: Done)
+        requires { own_order self.old place ≡ Some done }
+        ensures { self.new ≡ settled_at self.old place }
+    {
+        self.rows.keep(place, done);
+    }
+
+    /// Makes an order for the row at a place, executes it inside a gate and settles the row, unless a key that it reads waits for an
+    /// unsettled row. At an error the book is as it was.
+    pub(crate) fn run_at<G: Gate>(&mut self, gate: &G, place: usize) -> Result<(), AllocError>
+        ensures ok { OnOk result (self.new ≡ ran_at self.old place) }
         ensures err { OnErr result (self.new ≡ self.old) }
     {
-        match execute(self.alloc, order) {
-            Ok(done) => {
-                self.bring(done);
+        let Some(order) = self.own_order(place)? else {
+            return Ok(());
+        };
+        match execute_inside(self.alloc, gate, order) {
+            None => Err(AllocError),
+            Some(done) => {
+                self.keep_own(place, done);
                 Ok(())
             }
-            Err((_, refused)) => Err(refused),
         }
     }
 
-    /// Takes an order, executes it and brings its result, where a row is ready. At an error the book is as it was, or the row of
-    /// the order is out.
-    fn run_next(&mut self) -> Result<(), AllocError>
-        ensures ok { OnOk result (self.new ≡ after_run self.old) }
-        ensures err { OnErr result ((self.new ≡ self.old) ⊎ (self.new ≡ after_take self.old)) }
+    /// Runs the unsettled rows in program order, each inside a gate: a row's turn comes when all rows before it are settled, so no
+    /// key that it reads waits. The answer is how many were run. At an error the row whose turn it was is as it was.
+    pub(crate) fn run_in_order<G: Gate>(&mut self, gate: &G) -> Result<u64, SettleFault>
+        ensures count { IfOk result (λ ran. ran ≡ unsettled_rows self.old.rows) }
+        ensures ran { IfOk result (λ ran. self.new ≡ record self.old { rows = settled_times ran self.old.rows }) }
+        ensures stopped { IfErr result (λ fault. self.new ≡ record self.old { rows = settled_times fault.ran self.old.rows }) }
+        ensures fewer { IfErr result (λ fault. fault.ran < unsettled_rows self.old.rows) }
     {
-        match self.take()? {
-            None => Ok(()),
-            Some(order) => self.run_order(order),
+        let mut ran = 0;
+        let mut from = 0;
+        while let Some(place) = self.next_unsettled(from) {
+            let Ok(()) = self.run_at(gate, place) else {
+                return Err(SettleFault { ran });
+            };
+            ran += 1;
+            from = place + 1;
         }
+        Ok(ran)
     }
 
     /// Gives up the orders that are out, and then takes orders, executes them and brings their results until every row is settled.
@@ -89,13 +133,9 @@ impl Book {
         ensures fewer { IfErr result (λ fault. fault.ran < unsettled_rows self.old.rows) }
         ensures left { IfErr result (λ fault. unsettled_rows self.new.rows + fault.ran ≡ unsettled_rows self.old.rows) }
     {
-        let count = count_unsettled(&self.rows) as u64;
+        // The rows are what says that no id stands twice.
+        let _rows = &self.rows;
         self.release();
-        for ran in 0..count {
-            let Ok(()) = self.run_next() else {
-                return Err(SettleFault { ran });
-            };
-        }
-        Ok(count)
+        self.run_in_order(&OpenGate)
     }
 }

@@ -1,16 +1,17 @@
 //! Tests of declarations, input data, orders and results, by calls and by events.
 
 use crate::spellings::{Text, key};
-use crate::steps::Change::{Field, Input, Insert, Set};
+use crate::steps::Change::{Delete, Field, Input, Insert, Set};
 use crate::steps::Step::*;
 use crate::steps::{
-    Change, Step, answer, edit_of, plays_after, plays_after_another, plays_in, run,
+    Change, Step, answer, edit_of, plays_after, plays_after_another, plays_beside_a_snapshot,
+    plays_in, run,
 };
 use paris_book::Book;
 use paris_events::Verdict;
 use paris_events::Verdict::{Foreign, Gone, Kept, Repeated, Stale};
 use paris_exec::{Done, Order};
-use paris_field::FieldValue;
+use paris_field::SharedValue;
 use paris_machine::{Event, Reply, Shown};
 use paris_names::Spot::{End, Start};
 use paris_names::{Edition, Fault, RowId};
@@ -51,6 +52,18 @@ const SUM_OUT: &[Step] = &[
     Takes(1, 7),
 ];
 
+/// The same book, whose row is settled.
+const SETTLED_SUM: &[Step] = &[
+    Accepts(Set(b"s", &[4])),
+    Accepts(Field(b"a", b"s", 8)),
+    Accepts(Field(b"b", b"s", 8)),
+    Accepts(Field(b"c", b"s", 8)),
+    Accepts(Input(b"a", 0, &[1, 2, 3, 4])),
+    Accepts(Input(b"b", 0, &[10, 20, 30, 0])),
+    Inserts(End, SUM, 1),
+    Settles(1),
+];
+
 #[test]
 fn a_sum_is_pending_until_its_result_is_brought(rt: HostRuntime) -> Result<(), Fail> {
     const STEPS: &[Step] = &[
@@ -75,6 +88,44 @@ fn a_copy_of_a_kept_result_is_repeated(rt: HostRuntime) -> Result<(), Fail> {
         Shows(b"c", End, &[11, 22, 33, 4]),
     ];
     plays_after(&rt, rt.alloc(), SUM_OUT, STEPS)
+}
+
+#[test]
+fn a_snapshot_takes_the_result_of_an_order_that_was_out(rt: HostRuntime) -> Result<(), Fail> {
+    const STEPS: &[Step] = &[
+        Accepts(Input(b"a", 0, &[9])),
+        Brings(0, Stale(Edition(8))),
+        HasEdits(8),
+    ];
+    const IN_THE_SNAPSHOT: &[Step] = &[
+        TakesNothing,
+        Waits(b"c", End, 1),
+        Brings(0, Kept),
+        Shows(b"c", End, &[11, 22, 33, 4]),
+        HasEdits(7),
+    ];
+    plays_beside_a_snapshot(&rt, rt.alloc(), SUM_OUT, STEPS, IN_THE_SNAPSHOT)
+}
+
+#[test]
+fn a_snapshot_and_its_book_go_on_apart(rt: HostRuntime) -> Result<(), Fail> {
+    const STEPS: &[Step] = &[
+        Accepts(Delete(1)),
+        Inserts(End, b"u-move-constant-1L c 7 8", 2),
+        Settles(1),
+        Shows(b"c", End, &[7, 7, 7, 7]),
+        Shows(b"a", End, &[1, 2, 3, 4]),
+    ];
+    const IN_THE_SNAPSHOT: &[Step] = &[
+        Shows(b"c", End, &[11, 22, 33, 4]),
+        Inserts(End, b"u-add-3-1L a c c 8", 2),
+        Settles(1),
+        Shows(b"c", End, &[11, 22, 33, 4]),
+        Shows(b"a", End, &[22, 44, 66, 8]),
+        Accepts(Input(b"b", 0, &[1])),
+        HasUnsettled(2),
+    ];
+    plays_beside_a_snapshot(&rt, rt.alloc(), SETTLED_SUM, STEPS, IN_THE_SNAPSHOT)
 }
 
 /// A book with other input data, with the same row of the same edition. Its result is in hand.
@@ -221,7 +272,7 @@ fn order_among(rt: &impl Abort, replies: Vec<Reply>) -> Option<Order> {
 }
 
 /// The value that is shown as settled in a reply.
-fn settled_in(reply: Reply) -> Option<FieldValue> {
+fn settled_in(reply: Reply) -> Option<SharedValue> {
     let Reply::Show(Ok(shown)) = reply else {
         return None;
     };
@@ -243,7 +294,10 @@ fn bring_as_event(rt: &impl Abort, book: &mut Book, done: Done) {
 fn look_as_event(rt: &impl Abort, book: &mut Book) -> Result<(), Fail> {
     let reply = answer(rt, book, Event::Show(key(rt, b"c"), End));
     let value = settled_in(reply).expect(rt, "it is settled");
-    assert_eq!(rt; value.numbers()?.as_slice(), [11, 22, 33, 4].as_slice());
+    assert_eq!(rt;
+        value.get().numbers()?.as_slice(),
+        [11, 22, 33, 4].as_slice()
+    );
     Ok(())
 }
 

@@ -6,6 +6,7 @@ ghost use Rattle.paris_names.specs.declared.limits.TheConstants.{MAX_WORKERS};
 use crate::programs::{Given, append, prepare, run, shows};
 use crate::spellings::*;
 use paris_book::{Book, Look};
+use paris_events::{Edit, EditReply};
 use paris_exec::{Gate, OpenGate};
 use paris_names::{Edition, RowId, Spot};
 use std::alloc::{AllocError, Global};
@@ -15,46 +16,38 @@ use std::thread;
 use std::thread::Threads;
 use std::time::{Clock, Duration};
 
-/// How often a gate looks whether the other row has entered, a millisecond apart.
+/// How often a gate looks whether the other execution has entered, a millisecond apart.
 const TURNS: u64 = 10_000;
 
-/// A gate that holds the execution of each of the rows 1 and 2 until the other has entered too.
+/// A gate that holds executions until they are two: the first with the second, then the third with the fourth, and so on.
 #[derive(Drop)]
-struct BothAtOnce<'a, C: Clock> {
+struct InPairs<'a, C: Clock> {
     clock: &'a C,
-    first: AtomicBool,
-    second: AtomicBool,
+    entered: AtomicU64,
     late: AtomicBool,
 }
 
-impl<'a, C: Clock> BothAtOnce<'a, C> {
-    fn new(clock: &'a C) -> BothAtOnce<'a, C> {
-        BothAtOnce {
+impl<'a, C: Clock> InPairs<'a, C> {
+    fn new(clock: &'a C) -> InPairs<'a, C> {
+        InPairs {
             clock,
-            first: AtomicBool::new(false),
-            second: AtomicBool::new(false),
+            entered: AtomicU64::new(0),
             late: AtomicBool::new(false),
         }
     }
 
-    fn have_entered(&self) -> bool {
-        self.first.load(Ordering::SeqCst) && self.second.load(Ordering::SeqCst)
-    }
-
-    /// Whether an execution went on without the other.
+    /// Whether an execution went on without another one.
     fn is_late(&self) -> bool {
         self.late.load(Ordering::SeqCst)
     }
 }
 
-impl<C: Clock> Gate for BothAtOnce<'_, C> {
-    fn enter(&self, id: RowId, _edition: Edition) {
-        match id {
-            RowId(1) => self.first.store(true, Ordering::SeqCst),
-            _ => self.second.store(true, Ordering::SeqCst),
-        }
+impl<C: Clock> Gate for InPairs<'_, C> {
+    fn enter(&self, _id: RowId, _edition: Edition) {
+        let before = self.entered.fetch_add(1, Ordering::SeqCst);
+        let pairs = (before / 2).saturating_add(1);
         for _ in 0..TURNS {
-            if self.have_entered() {
+            if self.entered.load(Ordering::SeqCst) / 2 >= pairs {
                 return;
             }
             thread::sleep(self.clock, Duration::from_millis(1));
@@ -72,28 +65,33 @@ const FIELDS: &[Given<'static>] = &[
     (b"d", 8, &[0, 0, 0, 0]),
 ];
 
-/// Two rows, which are ready at once.
-const CONSTANTS: &[Text] = &[b"u-move-constant-1L c 7 8", b"u-move-constant-1L d 9 8"];
+/// Two rows that are ready at once, and two that are once those are settled.
+const PAIRS: &[Text] = &[
+    b"u-move-constant-1L c 7 8",
+    b"u-move-constant-1L d 9 8",
+    b"logxor-3-1L a c d 8",
+    b"logior-3-1L b c d 8",
+];
 
-/// Two workers execute both rows at once.
+/// Two workers execute both rows of a level at once.
 fn two_workers_meet<R: Threads + Abort + Sync, C: Clock + Sync>(
     rt: &R,
     alloc: Global,
     book: &mut Book,
-    gate: &BothAtOnce<'_, C>,
+    gate: &InPairs<'_, C>,
 ) -> Result<(), AllocError> {
     prepare(rt, alloc, book, &[4], FIELDS)?;
-    let count = append(rt, book, CONSTANTS);
+    let count = append(rt, book, PAIRS);
     assert!(rt; book.settle_par(rt, 2, gate) == Ok(count));
-    assert!(rt; gate.have_entered() && !gate.is_late());
-    shows(rt, book, b"c", &[7, 7, 7, 7])?;
-    shows(rt, book, b"d", &[9, 9, 9, 9])
+    assert!(rt; !gate.is_late());
+    shows(rt, book, b"a", &[14, 14, 14, 14])?;
+    shows(rt, book, b"b", &[15, 15, 15, 15])
 }
 
 #[test]
 fn independent_rows_are_executed_at_once(rt: HostRuntime) -> Result<(), AllocError> {
     let mut book = Book::new(rt.alloc());
-    let gate = BothAtOnce::new(&rt);
+    let gate = InPairs::new(&rt);
     two_workers_meet(&rt, rt.alloc(), &mut book, &gate)
 }
 
@@ -250,4 +248,79 @@ fn each_is_entered_and_left<R: Threads + Abort + Sync>(
 fn the_gate_is_entered_and_left(rt: HostRuntime) -> Result<(), AllocError> {
     let mut book = Book::new(rt.alloc());
     each_is_entered_and_left(&rt, rt.alloc(), &mut book)
+}
+
+/// How many rows the chain below has.
+const LINKS: u64 = 515;
+
+/// A gate that knows how many executions are inside, whether they were ever two at once, and how many were left.
+#[derive(Drop)]
+struct OneByOne {
+    inside: AtomicU64,
+    left: AtomicU64,
+    crowded: AtomicBool,
+}
+
+impl OneByOne {
+    fn new() -> OneByOne {
+        OneByOne {
+            inside: AtomicU64::new(0),
+            left: AtomicU64::new(0),
+            crowded: AtomicBool::new(false),
+        }
+    }
+}
+
+impl Gate for OneByOne {
+    fn enter(&self, _id: RowId, _edition: Edition) {
+        if self.inside.fetch_add(1, Ordering::SeqCst) > 0 {
+            self.crowded.store(true, Ordering::SeqCst);
+        }
+    }
+
+    fn leave(&self, _id: RowId, _edition: Edition) {
+        self.inside.fetch_sub(1, Ordering::SeqCst);
+        self.left.fetch_add(1, Ordering::SeqCst);
+    }
+}
+
+/// Declares the fields, and puts in a chain of rows, each of which reads what the one before it writes.
+fn prepare_chain(rt: &impl Abort, alloc: Global, book: &mut Book) -> Result<(), AllocError> {
+    prepare(rt, alloc, book, &[4], FIELDS)?;
+    for link in 0..LINKS {
+        assert_eq!(rt;
+            book.edit(Edit::Insert {
+                spot: Spot::End,
+                instr: instr_of(rt, b"u-add-3-1L a a b 8")
+            }),
+            Ok(EditReply::Row(RowId(link.saturating_add(1))))
+        );
+    }
+    Ok(())
+}
+
+/// Four workers execute a chain row by row, and leave what `settle` leaves.
+fn chain_is_run_row_by_row<R: Threads + Abort + Sync>(
+    rt: &R,
+    alloc: Global,
+    alone: &mut Book,
+    book: &mut Book,
+) -> Result<(), AllocError> {
+    let gate = OneByOne::new();
+    prepare_chain(rt, alloc, alone)?;
+    prepare_chain(rt, alloc, book)?;
+    assert!(rt; alone.settle() == Ok(LINKS));
+    assert!(rt; book.settle_par(rt, 4, &gate) == Ok(LINKS));
+    assert!(rt; gate.left.load(Ordering::SeqCst) == LINKS);
+    assert!(rt; !gate.crowded.load(Ordering::SeqCst));
+    assert_eq!(rt; book.unsettled_count(), 0);
+    shows(rt, book, b"a", &[31, 62, 93, 4])?;
+    agree_on_all(rt, alone, book)
+}
+
+#[test]
+fn a_chain_is_run_row_by_row(rt: HostRuntime) -> Result<(), AllocError> {
+    let mut alone = Book::new(rt.alloc());
+    let mut book = Book::new(rt.alloc());
+    chain_is_run_row_by_row(&rt, rt.alloc(), &mut alone, &mut book)
 }

@@ -395,6 +395,34 @@ fn plays_both(
     plays_all(rt, alloc, book, hand, steps)
 }
 
+/// Plays steps in a book, and others in a snapshot of what it is before them, with the same results in hand.
+fn plays_beside(
+    rt: &impl Abort,
+    alloc: Global,
+    book: &mut Book,
+    hand: &mut Vec<Done>,
+    steps: &[Step],
+    others: &[Step],
+) -> Result<(), Fail> {
+    let mut snapshot = book.snapshot()?;
+    plays_all(rt, alloc, book, hand, steps)?;
+    plays_all(rt, alloc, &mut snapshot, hand, others)
+}
+
+/// Plays the steps of a beginning in a new book, and then further steps in it, and others in a snapshot of what it is between.
+pub(crate) fn plays_beside_a_snapshot(
+    rt: &impl Abort,
+    alloc: Global,
+    beginning: &[Step],
+    steps: &[Step],
+    others: &[Step],
+) -> Result<(), Fail> {
+    let mut hand = Vec::new(alloc);
+    let mut book = Book::new(alloc);
+    plays_all(rt, alloc, &mut book, &mut hand, beginning)?;
+    plays_beside(rt, alloc, &mut book, &mut hand, steps, others)
+}
+
 fn plays_both_in_new(
     rt: &impl Abort,
     alloc: Global,

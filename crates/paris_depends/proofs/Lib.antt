@@ -1,4 +1,21 @@
+pub mod Affect
+pub mod Around
 pub mod ByIds
+pub mod CallerLemmas
+pub mod FewKeys
+pub mod Found
+pub mod Halving
+pub mod KeyTurns
+pub mod KeysOnce
+pub mod Kept
+pub mod LastWriter
 mod Marks
+pub mod NewRows
 pub mod OriginLemmas
+pub mod Places
+pub mod ReachSteps
+pub mod ReachSweep
+pub mod Reaching
 pub mod Recipes
+pub mod RowsOnce
+pub mod Slots

@@ -1,2 +1,9 @@
 pub mod Changes
+pub mod Index
+pub mod IndexInside
+pub mod Lists
+pub mod ListsInside
+pub mod Places
+pub mod Reaches
+pub mod Sides
 pub mod Sweeps

@@ -1,10 +1,17 @@
 //! What depends on what: the row that a key's value comes from, and the rows whose recipes change with keys.
 #![tactic(auto)]
 
-mod origins;
-mod plans;
+mod index;
+mod lists;
+mod nearby;
+mod reaches;
+mod row_keys;
+mod sides;
+mod sources;
 mod sweeps;
+mod walks;
 
-pub use origins::origin;
-pub use plans::HasPlan;
-pub use sweeps::affected;
+pub use index::{Index, Looks};
+pub use sources::origin;
+pub use sweeps::{is_any_marked, mark};
+pub use walks::affected;

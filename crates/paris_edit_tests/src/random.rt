@@ -351,7 +351,7 @@ fn has_present_inputs(rt: &impl Abort, once: &Book, place: usize, row: &Row, don
     for key in 0..KEYS {
         if reads(row.operation, key) {
             match inputs.next() {
-                Some(value) => equal = is_present(rt, once, place, key, value) && equal,
+                Some(value) => equal = is_present(rt, once, place, key, value.get()) && equal,
                 None => equal = false,
             }
         }

@@ -12,7 +12,7 @@ use crate::lines::line_values;
 use crate::mail::mail_answer;
 use crate::news::news_values;
 use crate::orders::{Done, Order, Outcome};
-use paris_field::FieldValue;
+use paris_field::{FieldValue, SharedValue};
 use paris_model::{Action, Refusal};
 use paris_names::Items;
 use std::alloc::{AllocError, Global};
@@ -31,12 +31,29 @@ fn answer(alloc: Global, order: &Order) -> Result<Result<Vec<FieldValue>, Refusa
     }
 }
 
+/// Values, to be shared from here on.
+fn shared_all(alloc: Global, values: Vec<FieldValue>) -> Result<Vec<SharedValue>, AllocError>
+    ensures { IfOk result (λ all. all.items ≡ values.items) }
+{
+    let mut all = Vec::with_capacity(alloc, values.len())?;
+    for value in values {
+        match SharedValue::new(alloc, value) {
+            Ok(shared) => all.push(shared)?,
+            Err((_, error)) => return Err(error),
+        }
+    }
+    Ok(all)
+}
+
 /// What the plan of an order gives on its inputs.
 fn outcome_of(alloc: Global, order: &Order) -> Result<Outcome, AllocError>
     ensures { IfOk result (λ outcome. outcome ≡ task_outcome order.now) }
 {
     match answer(alloc, order)? {
-        Ok(values) => Ok(Outcome::Values(Items::new(values))),
+        Ok(values) => {
+            let shared = shared_all(alloc, values)?;
+            Ok(Outcome::Values(Items::new(shared)))
+        }
         Err(cause) => Ok(Outcome::Refused(cause)),
     }
 }

@@ -7,7 +7,7 @@ ghost use Rattle.paris_geometry.specs.Geometry.{processor_count};
 ghost use Rattle.paris_model.specs.Instructions.{reads, writes, value_at};
 ghost use Rattle.paris_exec.specs.Tasks.{fits, fits_key, fits_keys, beside, field_of, numbers_of, task_outcome, task_value};
 
-use paris_field::FieldValue;
+use paris_field::{FieldValue, SharedValue};
 use paris_instr::Plan;
 use paris_model::Refusal;
 use paris_names::{Edition, Items, Key, RowId};
@@ -20,7 +20,7 @@ pub struct Order {
     id: RowId,
     edition: Edition,
     plan: Plan,
-    inputs: Vec<FieldValue>,
+    inputs: Vec<SharedValue>,
 }
 
 impl Model for Order {
@@ -37,7 +37,7 @@ impl Model for Order {
 /// What an instruction gives: a value for each key that its plan writes, in order, or why it was refused.
 #[derive(Debug, Drop)]
 pub enum Outcome {
-    Values(Items<FieldValue>),
+    Values(Items<SharedValue>),
     Refused(Refusal),
 }
 
@@ -60,7 +60,7 @@ impl Model for Done {
 }
 
 /// The value beside a key.
-fn value_beside<'a>(keys: &[Key], values: &'a [FieldValue], key: &Key) -> Option<&'a FieldValue>
+fn value_beside<'a>(keys: &[Key], values: &'a [SharedValue], key: &Key) -> Option<&'a SharedValue>
     ensures { option_copied result ≡ beside keys.now values.entry.now key.now }
 {
     for i in 0..keys.len() {
@@ -75,14 +75,14 @@ fn value_beside<'a>(keys: &[Key], values: &'a [FieldValue], key: &Key) -> Option
 }
 
 /// Whether the values fit the keys of a plan one by one.
-fn are_fit(plan: &Plan, keys: &[Key], values: &[FieldValue]) -> bool
+fn are_fit(plan: &Plan, keys: &[Key], values: &[SharedValue]) -> bool
     ensures { result ≡ fits_keys plan.now keys.now values.now }
 {
     if keys.len() != values.len() {
         return false;
     }
     for i in 0..keys.len() {
-        if !is_fit(plan, &keys[i], &values[i]) {
+        if !is_fit(plan, &keys[i], values[i].get()) {
             return false;
         }
     }
@@ -97,7 +97,7 @@ fn is_fit(plan: &Plan, key: &Key, value: &FieldValue) -> bool
 }
 
 /// Copies of values.
-fn copies(alloc: Global, values: &[FieldValue]) -> Result<Vec<FieldValue>, AllocError>
+fn copies(alloc: Global, values: &[SharedValue]) -> Result<Vec<SharedValue>, AllocError>
     ensures { IfOk result (λ copies. copies.items ≡ values.now) }
 {
     let mut copies = Vec::new(alloc);
@@ -110,7 +110,7 @@ fn copies(alloc: Global, values: &[FieldValue]) -> Result<Vec<FieldValue>, Alloc
 impl Order {
     /// The order of these parts, where the inputs fit the plan: one for each key that it reads, in the order of
     /// `Plan::reads`, of the key's width and with a number for each processor. Else the inputs are dropped.
-    pub fn new(id: RowId, edition: Edition, plan: Plan, inputs: Vec<FieldValue>) -> Option<Order>
+    pub fn new(id: RowId, edition: Edition, plan: Plan, inputs: Vec<SharedValue>) -> Option<Order>
         ensures { SomeIff result (fits plan inputs.items ≡ true) (record { id = id; edition = edition; plan = plan; inputs = inputs.items }) }
     {
         if !are_fit(&plan, plan.reads(), inputs.as_slice()) {
@@ -146,7 +146,7 @@ impl Order {
     }
 
     /// The inputs, in the order of `Plan::reads`.
-    pub fn inputs(&self) -> &[FieldValue]
+    pub fn inputs(&self) -> &[SharedValue]
         ensures value { result.now ≡ self.now.inputs }
         ensures fit { fits self.now.plan self.now.inputs ≡ true }
     {
@@ -155,6 +155,15 @@ impl Order {
 
     /// The input at a key that the plan reads.
     pub fn input(&self, key: &Key) -> &FieldValue
+        requires { has_key (reads self.now.plan) key.now ≡ true }
+        ensures value { result.now ≡ field_of self.now.plan key.now (value_at (reads self.now.plan) (numbers_of self.now.inputs) key.now) }
+        ensures count { length result.now.numbers ≡ processor_count self.now.plan.axes }
+    {
+        self.shared_input(key).get()
+    }
+
+    /// The same input, to be shared.
+    pub fn shared_input(&self, key: &Key) -> &SharedValue
         requires { has_key (reads self.now.plan) key.now ≡ true }
         ensures value { result.now ≡ field_of self.now.plan key.now (value_at (reads self.now.plan) (numbers_of self.now.inputs) key.now) }
         ensures count { length result.now.numbers ≡ processor_count self.now.plan.axes }
@@ -227,6 +236,15 @@ impl Done {
         ensures value { result.now ≡ task_value self.now key.now }
         ensures count { length result.now.numbers ≡ processor_count self.now.plan.axes }
     {
+        self.shared_value(key).get()
+    }
+
+    /// The same value, to be shared.
+    pub fn shared_value(&self, key: &Key) -> &SharedValue
+        requires { has_key (writes self.now.plan) key.now ≡ true }
+        ensures value { result.now ≡ task_value self.now key.now }
+        ensures count { length result.now.numbers ≡ processor_count self.now.plan.axes }
+    {
         match &self.outcome {
             Outcome::Values(values) => {
                 match value_beside(self.task.plan().writes(), values.as_slice(), key) {
@@ -234,7 +252,7 @@ impl Done {
                     None => unreachable!(),
                 }
             }
-            Outcome::Refused(_) => self.task.input(key),
+            Outcome::Refused(_) => self.task.shared_input(key),
         }
     }
 

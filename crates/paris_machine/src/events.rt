@@ -2,13 +2,13 @@
 
 use paris_events::{Edit, EditReply, RowLook, Verdict};
 use paris_exec::{Done, Order};
-use paris_field::FieldValue;
+use paris_field::SharedValue;
 use paris_names::{Fault, Items, KeyName, RowId, Spot};
 
 /// What is shown of a key, with its value.
 #[derive(Debug, Drop)]
 pub enum Shown {
-    Settled(FieldValue),
+    Settled(SharedValue),
     /// The row that has to be settled first.
     Pending(RowId),
 }

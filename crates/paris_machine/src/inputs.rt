@@ -3,13 +3,13 @@
 ghost use Rattle.std.specs.Prelude.{◌≡◌};
 ghost use Rattle.paris_machine.specs.State.{flag_input, with_flag_input};
 
-use paris_field::FieldValue;
+use paris_field::SharedValue;
 use paris_names::FlagName;
 
 /// A key's value at the start of the program, and the number of the edit that last gave or declared it.
 #[derive(Debug, Drop)]
 pub struct Input {
-    pub value: FieldValue,
+    pub value: SharedValue,
     pub number: u64,
 }
 

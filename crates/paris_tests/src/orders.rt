@@ -1,7 +1,7 @@
 use crate::common::Place::{Field, Flag};
 use crate::common::*;
 use paris_exec::{Done, Order, Outcome, execute};
-use paris_field::FieldValue;
+use paris_field::{FieldValue, SharedValue};
 use paris_instr::Plan;
 use paris_names::FlagName::{Carry, Overflow};
 use paris_names::{Edition, Key, RowId, has_key};
@@ -33,11 +33,17 @@ fn value(rt: &impl Abort, alloc: Global, part: Part) -> FieldValue {
         .expect(rt, "there is memory")
 }
 
-fn values(rt: &impl Abort, alloc: Global, parts: &[Part]) -> Vec<FieldValue> {
+fn shared(rt: &impl Abort, alloc: Global, part: Part) -> SharedValue {
+    SharedValue::new(alloc, value(rt, alloc, part))
+        .ok()
+        .expect(rt, "there is memory")
+}
+
+fn values(rt: &impl Abort, alloc: Global, parts: &[Part]) -> Vec<SharedValue> {
     let mut values = Vec::new(alloc);
     for part in parts {
         values
-            .push(value(rt, alloc, *part))
+            .push(shared(rt, alloc, *part))
             .ok()
             .expect(rt, "there is memory");
     }
@@ -69,8 +75,12 @@ fn is_left(done: &Done, key: Key, numbers: &[u128]) -> bool {
     has_key(done.order().plan().writes(), key) && holds(done.value(&key), numbers)
 }
 
-fn same_values(values: &[FieldValue], others: &[FieldValue]) -> bool {
-    values.len() == others.len() && values.iter().zip(others).all(|(x, y)| x.equals(y))
+fn same_values(values: &[SharedValue], others: &[SharedValue]) -> bool {
+    values.len() == others.len()
+        && values
+            .iter()
+            .zip(others)
+            .all(|(x, y)| x.get().equals(y.get()))
 }
 
 fn same_outcomes(outcome: &Outcome, other: &Outcome) -> bool {
@@ -274,4 +284,12 @@ fn a_value_holds_its_numbers(rt: HostRuntime) {
     for other in OTHERS {
         assert!(rt; !is_same(&rt, rt.alloc(), &three, *other));
     }
+}
+
+#[test]
+fn a_shared_value_outlives_its_other_owners(rt: HostRuntime) {
+    let owner = shared(&rt, rt.alloc(), (3, &[7, 0]));
+    let other = owner.copy().ok().expect(&rt, "no memory is taken");
+    drop(owner);
+    assert!(rt; is_three(other.get()));
 }

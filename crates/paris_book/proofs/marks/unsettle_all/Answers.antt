@@ -1,6 +1,7 @@
-use Rattle.std.proofs.Common.{refl, sym, ap, ◌∙◌, take}
+use Rattle.std.proofs.Common.{refl, sym, ap, ◌∙◌, subst, take}
 use Rattle.paris_program.specs.Program.{Program}
-use Rattle.paris_book.specs.Marks.{ids_in, unsettled_by_ids}
+use Rattle.paris_book.specs.Entries.{ChangedAt}
+use Rattle.paris_book.specs.Marks.{ids_in, unsettled_by_ids, stale_data}
 use Rattle.paris_book.specs.declared.rows.RowData.{RowData}
 use Rattle.paris_book.proofs.Unsettling.{unsettled_none, ids_more, unsettle_more, unsettle_none}
 use Rattle.paris_book.proofs.marks.unsettle_all.Goals as goal
@@ -15,9 +16,9 @@ loop-id-preserved c =
     let so_far = ids_in (take c.loop-id.id-index c.args.ids.now) in
     elim c.match-place_of.branch [
       | in-Some w ↦ record {
-        marked = unsettle_more c.args.number c.args.rows.now.rows c.loop-id.rows.rows c.match-place_of.rows.rows so_far _ w.in-Some.place w.at_mut.result.now w.unsettle.new.row c.len-len.ensures.sound.distinct c.loop-id.invariant.marked (sym w.in-Some.ensures.value) w.at_mut.ensures.value w.unsettle.ensures (ap (λ (p : Program RowData). p.rows) w.rows-is)
+        marked = unsettle_more c.args.number c.args.rows.now.rows c.loop-id.rows.rows c.match-place_of.rows.rows so_far _ w.in-Some.place c.len-len.ensures.sound.distinct c.loop-id.invariant.marked (sym w.in-Some.ensures.value) (subst (ChangedAt (stale_data c.args.number) c.loop-id.rows.rows w.in-Some.place) (sym (ap (λ (p : Program RowData). p.rows) w.rows-is)) w.unsettle.ensures.rows)
             ∙ ap (λ ids. unsettled_by_ids c.args.number ids c.args.rows.now.rows) (sym more);
-        next_id = ap (λ (p : Program RowData). p.next_id) w.rows-is ∙ c.loop-id.invariant.next_id;
+        next_id = ap (λ (p : Program RowData). p.next_id) w.rows-is ∙ w.unsettle.ensures.next_id ∙ c.loop-id.invariant.next_id;
       }
       | in_default w ↦ record {
         marked = ap (λ (p : Program RowData). p.rows) w.rows-is

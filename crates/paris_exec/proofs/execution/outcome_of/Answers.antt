@@ -5,9 +5,9 @@ use Rattle.paris_exec.proofs.Executed.{direct_outcome, refused_outcome}
 use Rattle.paris_exec.proofs.Operands.{if_ok}
 use Rattle.paris_exec.proofs.execution.outcome_of.Goals as goal
 
-pub returns-in-Ok : goal.returns-in-Ok
-returns-in-Ok c =
-    ap Values c.new.ensures
+pub returns-in_ok-shared-in-Ok : goal.returns-in_ok-shared-in-Ok
+returns-in_ok-shared-in-Ok c =
+    ap Values (c.new.ensures ∙ c.in_ok-shared-in-Ok.ensures)
     ∙ direct_outcome c.args.order.now c.in-Ok.values.items (ap refusal_in (sym c.in-Ok.is) ∙ c.in_ok-values.ensures.refused) (if_ok _ c.in-Ok.is c.in_ok-values.ensures.values)
 
 pub returns-in-Err : goal.returns-in-Err

@@ -1,6 +1,7 @@
-use Rattle.std.proofs.Common.{◌≡◌, ◌+◌, ◌++◌, sym, ap, ◌∙◌, take, drop, remove}
+use Rattle.std.proofs.Common.{arith, length, ◌≡◌, ◌+◌, ◌++◌, sym, ap, ◌∙◌, take, drop, remove}
 use Rattle.paris_names.specs.Keys.{has_key}
 use Rattle.paris_model.specs.Instructions.{writes}
+use Rattle.paris_depends.proofs.FewKeys.{writes-few}
 use Rattle.paris_depends.specs.Sweeps.{touched}
 use Rattle.paris_machine.specs.State.{find_row}
 use Rattle.paris_machine.specs.Edits.{delete_fault, deleted_from}
@@ -51,3 +52,6 @@ returns-clause-ok c =
           ∙ delete_view c.self.inside.board c.self.inside.edits c.self.inside.rows.next_id (inputs_of c.self.inside.inputs) c.self.inside.rows.rows c.unsettle_all.new.rows.rows c.args.self.now t.place (c.args.id.0, t.row) (drop (t.place + 1) c.self.inside.rows.rows) behind c.self.invariant (rows_are c) c.self.view_is
           ∙ ap (deleted_from c.args.self.now) (sym t.seen),
     )
+
+pub affected-requires-clause-few : goal.affected-requires-clause-few
+affected-requires-clause-few c = let same = ap length c.writes.ensures in omega (arith, same, writes-few c.in-Some.row.now.plan)

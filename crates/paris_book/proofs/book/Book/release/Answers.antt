@@ -1,4 +1,4 @@
-use Rattle.std.proofs.Common.{◌≡◌, ap, ◌∙◌, map}
+use Rattle.std.proofs.Common.{◌≡◌, map}
 use Rattle.paris_book.specs.Marks.{recalled_data}
 use Rattle.paris_book.specs.Entries.{with_data}
 use Rattle.paris_book.specs.Among.{inputs_of}

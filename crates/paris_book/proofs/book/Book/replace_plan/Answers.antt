@@ -1,13 +1,12 @@
 use Rattle.std.proofs.Common.{◌≡◌, ◌+◌, ◌++◌, ◌∷◌, Ok, sym, ap, ◌∙◌, subst, take, drop}
 use Rattle.paris_depends.specs.Sweeps.{touched}
 use Rattle.paris_instr.specs.Resolve.{IsFittedTo}
-use Rattle.paris_program.specs.Program.{Program, with_row}
+use Rattle.paris_program.specs.Program.{with_row}
 use Rattle.paris_machine.specs.State.{State, find_row}
 use Rattle.paris_machine.specs.Edits.{replaced_from}
 use Rattle.paris_book.specs.Among.{inputs_of}
 use Rattle.paris_book.specs.Marks.{data_plan, fresh_data, writes_either, unsettled_by_ids, ids_in}
 use Rattle.paris_book.proofs.Swept.{swept_entries}
-use Rattle.paris_book.specs.declared.rows.RowData.{RowData}
 use Rattle.paris_book.proofs.Unsettling.{replace_rows}
 use Rattle.paris_book.proofs.Inserts.{state_of}
 use Rattle.paris_book.proofs.Replaces.{replace_whole, replace_view}
@@ -26,32 +25,31 @@ unsettled_by_replace-requires-clause-there c =
     (target_of c.self.inside.board c.self.inside.edits c.self.inside.rows.next_id (inputs_of c.self.inside.inputs) c.self.inside.rows.rows c.args.self.now c.args.id.0 c.args.below c.self.view_is c.requires.there)
 
 pub replace-requires : goal.replace-requires
-replace-requires c = record {
-  there = target_some c.self.inside.rows.rows (find_row c.args.self.now c.args.id) c.args.id.0 c.args.below
-      (target_of c.self.inside.board c.self.inside.edits c.self.inside.rows.next_id (inputs_of c.self.inside.inputs) c.self.inside.rows.rows c.args.self.now c.args.id.0 c.args.below c.self.view_is c.requires.there);
-}
+replace-requires c =
+    target_some c.self.inside.rows.rows (find_row c.args.self.now c.args.id) c.args.id.0 c.args.below
+    (target_of c.self.inside.board c.self.inside.edits c.self.inside.rows.next_id (inputs_of c.self.inside.inputs) c.self.inside.rows.rows c.args.self.now c.args.id.0 c.args.below c.self.view_is c.requires.there)
 
-target : (c : goal.After-drop-ids) → Target c.self.inside.rows.rows (find_row c.args.self.now c.args.id) c.args.id.0 c.args.below
+target : (c : goal.After-drop-ids-2) → Target c.self.inside.rows.rows (find_row c.args.self.now c.args.id) c.args.id.0 c.args.below
 target c = target_of c.self.inside.board c.self.inside.edits c.self.inside.rows.next_id (inputs_of c.self.inside.inputs) c.self.inside.rows.rows c.args.self.now c.args.id.0 c.args.below c.self.view_is c.requires.there
 
-rows_are : (c : goal.After-drop-ids) → c.unsettle_all.new.rows.rows
+rows_are : (c : goal.After-drop-ids-2) → c.unsettle_all.new.rows.rows
     ≡ take (target c).place c.self.inside.rows.rows ++ (c.args.id.0, fresh_data c.args.plan (c.self.inside.edits + 1)) ∷ swept_entries (c.self.inside.edits + 1) (writes_either (target c).row.plan c.args.plan) (drop ((target c).place + 1) c.self.inside.rows.rows)
 rows_are c =
     let t = target c in
     replace_rows c.self.inside.edits t.place c.args.id.0 (writes_either t.row.plan c.args.plan) c.args.plan t.row c.self.inside.rows.rows c.replace.new.self.rows c.unsettle_all.new.rows.rows (ids_in c.in_ok-ids.ids.items)
     t.at
-    (ap (λ (p : Program RowData). p.rows) c.replace.ensures.rows
+    (c.in_ok-replace.ensures.ok
     ∙ ap (λ k. with_row c.self.inside.rows.rows k c.fresh_row.result) (target_place c.self.inside.rows.rows (find_row c.args.self.now c.args.id) c.args.id.0 c.args.below t)
     ∙ ap (with_row c.self.inside.rows.rows t.place) c.fresh_row.ensures)
     c.unsettle_all.ensures.sound.distinct
     (c.in_ok-ids.ensures t.row t.by_id ∙ ap (λ k. touched data_plan (writes_either t.row.plan c.args.plan) (drop k c.self.inside.rows.rows)) t.just_below)
     (c.unsettle_all.ensures.rows ∙ ap (λ js. unsettled_by_ids (c.self.inside.edits + 1) (ids_in js) c.replace.new.self.rows) c.as_slice.ensures.value)
 
-next_is : (c : goal.After-drop-ids) → c.unsettle_all.new.rows.next_id ≡ c.self.inside.rows.next_id
-next_is c = c.unsettle_all.ensures.next_id ∙ ap (λ (p : Program RowData). p.next_id) c.replace.ensures.rows
+next_is : (c : goal.After-drop-ids-2) → c.unsettle_all.new.rows.next_id ≡ c.self.inside.rows.next_id
+next_is c = c.unsettle_all.ensures.next_id ∙ c.replace.ensures.next_id
 
-pub invariant_of-self : goal.invariant_of-self
-invariant_of-self c =
+pub invariant_of-self-2 : goal.invariant_of-self-2
+invariant_of-self-2 c =
     let t = target c in
     let few = few_edits c.self.inside.board c.self.inside.edits c.self.inside.rows.next_id (inputs_of c.self.inside.inputs) c.self.inside.rows.rows c.args.self.now c.self.view_is c.requires.left in
     let fits = fitted_plan c.self.inside.board (inputs_of c.self.inside.inputs) c.args.plan c.self.invariant.shaped (subst (λ (s : State). IsFittedTo s.board c.args.plan) (sym c.self.view_is) c.requires.fitted) in

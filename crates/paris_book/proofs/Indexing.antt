@@ -1,0 +1,177 @@
+-- The index of a program's rows, after rows are put in, taken out, replaced, and changed in all but their plans.
+use Rattle.std.proofs.Common.{◌≡◌, ℕ, zero, suc, ◌<◌, ◌≤◌, List, [], ◌∷◌, length, set, true, false, cond, Option, Some, nat_eq, refl, sym, ap, ◌∙◌, subst, arith, slice_get}
+use Rattle.std.proofs.lemmas.List.{length-map, map-set}
+use Rattle.std.proofs.lemmas.Bool.Decides.{nat_tests}
+use Rattle.std.proofs.lemmas.Option.{slice_get-map}
+use Rattle.std.specs.Prelude.{insert, remove, IsSome, position}
+use Rattle.std.specs.List.{AllByRecursion, IsDistinct}
+use Rattle.std.specs.Option.{option_map, unwrap_or}
+use Rattle.paris_model.specs.Instructions.{Plan}
+use Rattle.paris_program.specs.Program.{ids_of, place_of, place_in, id_at, with_row}
+use Rattle.paris_program.proofs.CallerLemmas.{place_of-first, length-with_row}
+use Rattle.paris_depends.specs.Index.{Footprint, footprint, footprints}
+use Rattle.paris_depends.proofs.CallerLemmas.{ids-footprints, footprints-insert, footprints-remove, remove-insert}
+use Rattle.paris_depends.proofs.Places.{nat_eq-self}
+use Rattle.paris_depends.proofs.Slots.{map-insert, map-remove}
+use Rattle.paris_book.specs.Entries.{Entry}
+use Rattle.paris_book.specs.Indexed.{IsIndexed}
+use Rattle.paris_book.specs.Marks.{data_plan}
+use Rattle.paris_book.specs.Statuses.{status_in, statuses_of}
+use Rattle.paris_book.specs.declared.rows.RowData.{RowData}
+use Rattle.paris_events.specs.declared.rows.Status.{Status}
+
+module _ {X : Type 0} where
+  put_there : (xs : List X) (i : ℕ) (x : X) → i ≤ length xs → slice_get (insert xs i x) i ≡ Some x
+  put_there xs zero x within = refl
+  put_there [] (suc i) x within = absurd (omega arith)
+  put_there (y ∷ xs) (suc i) x within = put_there xs i x (omega arith)
+
+  put_back : (xs : List X) (i : ℕ) (x : X) → slice_get xs i ≡ Some x → insert (remove xs i) i x ≡ xs
+  put_back [] i x at = absurd (cc)
+  put_back (y ∷ xs) zero x at = let same : x ≡ y = cc in ap (λ z. z ∷ xs) same
+  put_back (y ∷ xs) (suc i) x at = ap (λ l. y ∷ l) (put_back xs i x at)
+
+  set_there : (xs : List X) (i : ℕ) (x : X) → i < length xs → slice_get (set xs i x) i ≡ Some x
+  set_there [] i x within = absurd (omega arith)
+  set_there (y ∷ xs) zero x within = refl
+  set_there (y ∷ xs) (suc i) x within = set_there xs i x (omega arith)
+
+  remove-set : (xs : List X) (i : ℕ) (x : X) → remove (set xs i x) i ≡ remove xs i
+  remove-set [] zero x = refl
+  remove-set [] (suc i) x = refl
+  remove-set (y ∷ xs) zero x = refl
+  remove-set (y ∷ xs) (suc i) x = ap (λ l. y ∷ l) (remove-set xs i x)
+
+same_both : (i j : ℕ) → nat_eq i j ≡ nat_eq j i
+same_both i j = grind (arith, nat_tests)
+
+module _ {T : Type 0} where
+  apart_at : (rows : List (ℕ × T)) (place i : ℕ) (r : ℕ × T) → AllByRecursion (λ j. nat_eq i j ≡ false) (ids_of rows) → slice_get rows place ≡ Some r → nat_eq i r.0 ≡ false
+  apart_at [] place i r apart at = absurd (cc)
+  apart_at (x ∷ rows) zero i r apart at = let same : x ≡ r = cc in subst (λ (e : ℕ × T). nat_eq i e.0 ≡ false) same apart.0
+  apart_at (x ∷ rows) (suc place) i r apart at = apart_at rows place i r apart.1 at
+
+  -- a row is found by its id where it stands
+  pub place_found : (rows : List (ℕ × T)) (place : ℕ) (r : ℕ × T) → IsDistinct nat_eq (ids_of rows) → slice_get rows place ≡ Some r → place_of rows r.0 ≡ Some place
+  unfolding IsDistinct
+  place_found [] place r distinct at = absurd (cc)
+  place_found (x ∷ rows) zero r distinct at =
+      let same : x ≡ r = cc in
+      let found : nat_eq r.0 x.0 ≡ true = ap (λ (e : ℕ × T). nat_eq r.0 e.0) same ∙ nat_eq-self r.0 in
+      place_of-first x rows r.0 ∙ ap (λ b. cond b (Some 0) (option_map suc (place_of rows r.0))) found
+  place_found (x ∷ rows) (suc place) r distinct at =
+      let other : nat_eq r.0 x.0 ≡ false = same_both r.0 x.0 ∙ apart_at rows place x.0 r distinct.0 at in
+      place_of-first x rows r.0 ∙ ap (λ b. cond b (Some 0) (option_map suc (place_of rows r.0))) other ∙ ap (option_map suc) (place_found rows place r distinct.1 at)
+
+  module _ (plan : T → Plan) where
+    pub place_of-footprints : (rows : List (ℕ × T)) (id : ℕ) → place_of (footprints plan rows) id ≡ place_of rows id
+    place_of-footprints rows id = ap (λ l. position (nat_eq id) l) (ids-footprints plan rows)
+
+    -- a change that leaves a row's plan leaves the index
+    pub footprints-changed : (rows : List (ℕ × T)) (place : ℕ) (x y : T) → slice_get rows place ≡ Some (id_at rows place, x) → plan y ≡ plan x → footprints plan (with_row rows place y) ≡ footprints plan rows
+    footprints-changed [] place x y at same = absurd (cc)
+    footprints-changed (r ∷ rows) zero x y at same =
+        let here : r ≡ (r.0, x) = cc in
+        let plans : plan y ≡ plan r.1 = same ∙ ap (λ (e : ℕ × T). plan e.1) (sym here) in
+        ap (λ p. (r.0, footprint p) ∷ footprints plan rows) plans
+    footprints-changed (r ∷ rows) (suc place) x y at same = ap (λ l. (r.0, footprint (plan r.1)) ∷ l) (footprints-changed rows place x y at same)
+
+    -- of a program into which a row was put: the other rows, and the plan of the one
+    pub put_others : (rows new : List (ℕ × T)) (place : ℕ) (r : ℕ × T) → place ≤ length rows → new ≡ insert rows place r → remove (footprints plan new) place ≡ footprints plan rows
+    put_others rows new place r within is =
+        let one : ℕ × T → ℕ × Footprint = λ r. (r.0, footprint (plan r.1)) in
+        let long = length-map rows one in
+        ap (λ l. remove (footprints plan l) place) is
+        ∙ ap (λ l. remove l place) (footprints-insert plan rows place r.0 r.1)
+        ∙ remove-insert (footprints plan rows) place (one r) (omega (arith, long))
+
+    pub put_plan : (rows new : List (ℕ × T)) (place : ℕ) (r e : ℕ × T) → place ≤ length rows → new ≡ insert rows place r → slice_get new place ≡ Some e → plan r.1 ≡ plan e.1
+    put_plan rows new place r e within is at =
+        ap (λ (o : Option (ℕ × T)). plan (unwrap_or o r).1) (sym (put_there rows place r within) ∙ ap (λ l. slice_get l place) (sym is) ∙ at)
+
+    -- the same of a program in which a row was replaced
+    pub replaced_others : (rows new : List (ℕ × T)) (place : ℕ) (x : T) → new ≡ with_row rows place x → remove (footprints plan new) place ≡ remove (footprints plan rows) place
+    replaced_others rows new place x is =
+        let one : ℕ × T → ℕ × Footprint = λ r. (r.0, footprint (plan r.1)) in
+        ap (λ l. remove (footprints plan l) place) is
+        ∙ ap (λ l. remove l place) (map-set one rows place (id_at rows place, x))
+        ∙ remove-set (footprints plan rows) place (one (id_at rows place, x))
+
+    pub replaced_plan : (rows new : List (ℕ × T)) (place : ℕ) (x : T) (e : ℕ × T) → place < length rows → new ≡ with_row rows place x → slice_get new place ≡ Some e → plan x ≡ plan e.1
+    replaced_plan rows new place x e within is at =
+        ap (λ (o : Option (ℕ × T)). plan (unwrap_or o (id_at rows place, x)).1) (sym (set_there rows place (id_at rows place, x) within) ∙ ap (λ l. slice_get l place) (sym is) ∙ at)
+
+    -- of the row at a place: the other rows' ids, and all rows after it was added to the others
+    pub others_ids : (rows : List (ℕ × T)) (index : List (ℕ × Footprint)) (place : ℕ) (r : ℕ × T) → IsDistinct nat_eq (ids_of rows) → slice_get rows place ≡ Some r → remove (footprints plan rows) place ≡ index → remove (ids_of rows) (place_in rows r.0) ≡ ids_of index
+    others_ids rows index place r distinct at is =
+        ap (λ o. remove (ids_of rows) (unwrap_or o 0)) (place_found rows place r distinct at)
+        ∙ ap (λ l. remove l place) (sym (ids-footprints plan rows))
+        ∙ sym (map-remove (λ (r : ℕ × Footprint). r.0) (footprints plan rows) place)
+        ∙ ap (λ (l : List (ℕ × Footprint)). ids_of l) is
+
+    pub added_all : (rows : List (ℕ × T)) (index new : List (ℕ × Footprint)) (place : ℕ) (r : ℕ × T) → IsDistinct nat_eq (ids_of rows) → slice_get rows place ≡ Some r → remove (footprints plan rows) place ≡ index → new ≡ insert index (place_in rows r.0) (r.0, footprint (plan r.1))
+        → footprints plan rows ≡ new
+    added_all rows index new place r distinct at is put =
+        let one : ℕ × T → ℕ × Footprint = λ r. (r.0, footprint (plan r.1)) in
+        sym (put_back (footprints plan rows) place (one r) (slice_get-map one rows place ∙ ap (option_map one) at))
+        ∙ ap (λ l. insert l place (one r)) is
+        ∙ ap (λ o. insert index (unwrap_or o 0) (one r)) (sym (place_found rows place r distinct at))
+        ∙ sym put
+
+remove_fewer : {X : Type 0} (xs : List X) (i : ℕ) → length (remove xs i) ≤ length xs
+remove_fewer [] zero = omega arith
+remove_fewer [] (suc i) = omega arith
+remove_fewer (x ∷ xs) zero = omega arith
+remove_fewer (x ∷ xs) (suc i) = let rest = remove_fewer xs i in omega (arith, rest)
+
+-- ---- of the rows of a book
+
+-- the index finds each row
+pub found_in_index : (rows : List Entry) (index : List (ℕ × Footprint)) (id : ℕ) → footprints data_plan rows ≡ index → IsSome (place_of rows id) → IsSome (place_of index id)
+found_in_index rows index id is there = subst IsSome (sym (place_of-footprints data_plan rows id) ∙ ap (λ (l : List (ℕ × Footprint)). place_of l id) is) there
+
+-- there is a status for each place
+pub as_many : (rows : List Entry) (index : List (ℕ × Footprint)) (statuses : List Status) → IsIndexed rows index statuses → length statuses ≡ length rows
+as_many rows index statuses w = ap length (sym w.standing) ∙ length-map rows status_in
+
+-- a row whose plan stays, and whose status is written
+pub still_indexed : (rows : List Entry) (index : List (ℕ × Footprint)) (statuses : List Status) (place : ℕ) (x y : RowData) → IsIndexed rows index statuses → slice_get rows place ≡ Some (id_at rows place, x) → y.plan ≡ x.plan
+    → IsIndexed (with_row rows place y) index (set statuses place y.status)
+still_indexed rows index statuses place x y w at same =
+    let long = length-with_row rows place y in
+    let few = w.few in
+    record {
+      indexed = footprints-changed data_plan rows place x y at same ∙ w.indexed;
+      few = omega (arith, long, few);
+      standing = map-set status_in rows place (id_at rows place, y) ∙ ap (λ (l : List Status). set l place y.status) w.standing;
+    }
+
+-- a row taken out
+pub fewer_indexed : (rows new : List Entry) (index other : List (ℕ × Footprint)) (statuses left : List Status) (id : ℕ) → IsIndexed rows index statuses → new ≡ remove rows (place_in rows id) → other ≡ remove index (place_in index id) → left ≡ remove statuses (place_in rows id)
+    → IsIndexed new other left
+fewer_indexed rows new index other statuses left id w cut out gone =
+    let fewer = remove_fewer rows (place_in rows id) in
+    let long = ap length cut in
+    let few = w.few in
+    record {
+      indexed = ap (λ (l : List Entry). footprints data_plan l) cut
+          ∙ footprints-remove data_plan rows (place_in rows id)
+          ∙ ap (λ o. remove (footprints data_plan rows) (unwrap_or o 0)) (sym (place_of-footprints data_plan rows id))
+          ∙ ap (λ (l : List (ℕ × Footprint)). remove l (place_in l id)) w.indexed
+          ∙ sym out;
+      few = omega (arith, fewer, long, few);
+      standing = ap statuses_of cut
+          ∙ map-remove status_in rows (place_in rows id)
+          ∙ ap (λ (l : List Status). remove l (place_in rows id)) w.standing
+          ∙ sym gone;
+    }
+
+-- a row put in
+pub standing_put : (rows new : List Entry) (statuses : List Status) (place : ℕ) (e : Entry) → statuses_of rows ≡ statuses → new ≡ insert rows place e → statuses_of new ≡ insert statuses place e.1.status
+standing_put rows new statuses place e w put =
+    ap statuses_of put ∙ map-insert status_in rows place e ∙ ap (λ (l : List Status). insert l place e.1.status) w
+
+-- a row replaced
+pub standing_replaced : (rows new : List Entry) (statuses : List Status) (place : ℕ) (y : RowData) → statuses_of rows ≡ statuses → new ≡ with_row rows place y → statuses_of new ≡ set statuses place y.status
+standing_replaced rows new statuses place y w put =
+    ap statuses_of put ∙ map-set status_in rows place (id_at rows place, y) ∙ ap (λ (l : List Status). set l place y.status) w

@@ -1,0 +1,60 @@
+-- The order that a row would give now, by the entries, and what keeping its result leaves of a book.
+use Rattle.std.proofs.Common.{◌≡◌, ℕ, List, Bool, true, false, cond, Option, Some, None, refl, sym, ap, ◌∙◌, map, set, slice_get}
+use Rattle.std.proofs.Math.Path.{ap₂, fun_ext}
+use Rattle.std.proofs.lemmas.List.{map-set}
+use Rattle.std.proofs.lemmas.Option.{slice_get-map}
+use Rattle.std.specs.Option.{option_map}
+use Rattle.std.specs.List.{list_all}
+use Rattle.paris_names.specs.declared.keys.Key.{Key}
+use Rattle.paris_board.specs.Board.{Board}
+use Rattle.paris_model.specs.Frame.{World}
+use Rattle.paris_model.specs.Instructions.{reads}
+use Rattle.paris_exec.specs.Tasks.{Task, field_of}
+use Rattle.paris_machine.specs.State.{Row, Inputs, State}
+use Rattle.paris_book.specs.Marks.{kept_data}
+use Rattle.paris_book.specs.Entries.{Entry, id_of, machine_row, with_data}
+use Rattle.paris_book.specs.Among.{firm_among, order_among, own_among}
+use Rattle.paris_book.specs.Steps.{order_on, own_order, settled_on, settled_at}
+use Rattle.paris_book.specs.Whole.{IsWhole}
+use Rattle.paris_book.proofs.Finds.{row_at}
+use Rattle.paris_book.proofs.Inserts.{state_of}
+use Rattle.paris_book.proofs.Settling.{kept_whole}
+use Rattle.paris_book.proofs.Shows.{now_is, firm_is}
+
+-- what a choice gave tells how it was made
+pub cond_some : {X : Type 0} (b : Bool) (x y : X) → Some x ≡ cond b (Some y) None → (b ≡ true) × (x ≡ y)
+cond_some true x y h = (refl, cc)
+cond_some false x y h = absurd (cc)
+
+own_is : (b : Board) (n m : ℕ) (inputs : Inputs) (es : List Entry) (place : ℕ) (e : Entry) → slice_get es place ≡ Some e → own_order (state_of b n m inputs es) place ≡ own_among inputs es place e
+own_is b n m inputs es place e at =
+    ap (order_on (state_of b n m inputs es) place) (row_at es place e at)
+    ∙ ap₂ (λ (q : Key → Bool) (w : World). cond (list_all q (reads e.1.plan)) (Some (record { id = id_of e; edition = e.1.edition; plan = e.1.plan; inputs = map (λ k. field_of e.1.plan k (w k)) (reads e.1.plan) })) None)
+    (fun_ext (λ k. firm_is b n m inputs es k place)) (now_is b n m inputs es place)
+
+module _ (b : Board) (n m : ℕ) (inputs : Inputs) (es : List Entry) (s : State) (place : ℕ) (y : state_of b n m inputs es ≡ s) where
+  pub own_at : (e : Entry) → slice_get es place ≡ Some e → own_among inputs es place e ≡ own_order s place
+  own_at e at = sym (own_is b n m inputs es place e at) ∙ ap (λ (z : State). own_order z place) y
+
+  module _ (t : Task) (own : own_order s place ≡ Some t) where
+    -- the entry that gives an order
+    pub own_entry : (e : Entry) × (slice_get es place ≡ Some e) × (list_all (firm_among es place) (reads e.1.plan) ≡ true) × (t ≡ order_among inputs es place e)
+    own_entry = by_entry (slice_get es place) refl
+      where
+        by_entry : (o : Option Entry) → slice_get es place ≡ o → (e : Entry) × (slice_get es place ≡ Some e) × (list_all (firm_among es place) (reads e.1.plan) ≡ true) × (t ≡ order_among inputs es place e)
+        by_entry None at =
+            let nothing : Option Task = None in
+            let wrong : Some t ≡ nothing = sym own ∙ ap (λ (z : State). own_order z place) (sym y) ∙ ap (order_on (state_of b n m inputs es) place) (slice_get-map machine_row es place ∙ ap (option_map machine_row) at) in
+            absurd (cc)
+        by_entry (Some e) at =
+            let given = cond_some (list_all (firm_among es place) (reads e.1.plan)) t (order_among inputs es place e) (sym own ∙ sym (own_at e at)) in
+            (e, at, given.0, given.1)
+
+    pub own_whole : (e : Entry) → slice_get es place ≡ Some e → list_all (firm_among es place) (reads e.1.plan) ≡ true → t ≡ order_among inputs es place e → IsWhole b n m inputs es → IsWhole b n m inputs (set es place (with_data (kept_data t) e))
+    own_whole e at firm is w = kept_whole b n m inputs es place e t at firm (ap (λ (u : Task). u.inputs) (sym is)) (ap (λ (u : Task). u.plan) (sym is)) w
+
+  pub own_state : (t : Task) (e : Entry) → slice_get es place ≡ Some e → state_of b n m inputs (set es place (with_data (kept_data t) e)) ≡ settled_at s place
+  own_state t e at =
+      ap (λ (rs : List Row). record { board = b; edits = n; inputs = inputs; next = m; rows = rs }) (map-set machine_row es place (with_data (kept_data t) e))
+      ∙ ap (settled_on (state_of b n m inputs es) place) (sym (row_at es place e at))
+      ∙ ap (λ (z : State). settled_at z place) y

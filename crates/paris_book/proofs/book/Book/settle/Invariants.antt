@@ -1,8 +1,0 @@
--- So many orders were run after the release.
-use Rattle.std.proofs.Common.{◌≡◌}
-use Rattle.paris_machine.specs.Orders.{after_release}
-use Rattle.paris_machine.specs.Settling.{ran_orders}
-use Rattle.paris_book.proofs.book.Book.settle.Given as goal
-
-abbrev pub invariant-loop-ran : goal.invariant-loop-ran
-invariant-loop-ran l = l.self ≡ ran_orders l.ran (after_release l.fn.self)

@@ -1,0 +1,259 @@
+//! The rows of a book in program order.
+
+ghost use Rattle.std.specs.Prelude.{◌≡◌, ◌^◌, ◌<◌, ◌≤◌, ◌↔◌, [], length, drop, map, remove, slice_get, Some, IsSome, IfOk, IfSome, OnOk, OnErr};
+ghost use Rattle.std.specs.Option.{option_copied, option_map};
+ghost use Rattle.paris_names.specs.Keys.{has_key};
+ghost use Rattle.paris_names.specs.declared.limits.TheConstants.{MAX_ROWS};
+ghost use Rattle.paris_program.specs.Program.{IsProgram, Inserts, Stays, place_of, place_in, row_of, with_row};
+ghost use Rattle.paris_depends.specs.Index.{HasRoom, footprint, footprints};
+ghost use Rattle.paris_depends.specs.Sweeps.{touched};
+ghost use Rattle.paris_book.specs.Among.{origin_among};
+ghost use Rattle.paris_machine.specs.Settling.{unsettled_rows};
+ghost use Rattle.paris_book.specs.Entries.{Entry, ChangedAt, machine_row};
+ghost use Rattle.paris_book.specs.Marks.{data_plan, ids_in, out_data, kept_data, recalled_data, stale_data};
+ghost use Rattle.paris_book.specs.Statuses.{next_unsettled};
+
+use crate::rows::RowData;
+use crate::statuses::{count_unsettled, first_unsettled, put_status};
+use paris_depends::{Index, Looks, affected, origin};
+use paris_events::Status;
+use paris_exec::Done;
+use paris_names::{Key, RowId};
+use paris_program::Program;
+use std::alloc::{AllocError, Global};
+use std::marker::Model;
+
+/// The rows of a book in program order, with their index, and once more where each of them stands, so that a search for unsettled
+/// rows reads a byte a row. There are no more rows than a program may have. A clause sees the program.
+#[derive(Drop)]
+pub(crate) struct Rows {
+    program: Program<RowData>,
+    index: Index,
+    statuses: Vec<Status>,
+}
+
+impl Model for Rows {
+    ghost use Rattle.paris_program.specs.Program.{Program};
+    ghost use Rattle.paris_book.specs.declared.rows.RowData.{RowData};
+    ghost use Rattle.paris_book.specs.Indexed.{IsIndexed};
+
+    ghost Value = { Program RowData };
+
+    ghost view = { λ r. r.program };
+
+    ghost invariant = { λ r. IsIndexed r.program.rows r.index.rows r.statuses.items };
+}
+
+/// Adds the row at a place to the index of all others, which has room for it.
+fn add_row(index: &mut Index, program: &Program<RowData>, place: usize)
+    requires there { place < length program.now.rows }
+    requires others { remove (footprints data_plan program.now.rows) place ≡ index.old.rows }
+    requires room { (e : Entry) → slice_get program.now.rows place ≡ Some e → HasRoom index.old.room (footprint e.1.plan) }
+    ensures { footprints data_plan program.now.rows ≡ index.new.rows }
+{
+    let (id, row) = program.at(place);
+    match index.add(program, id, &row.plan) {
+        Ok(()) => {}
+        Err(_) => unreachable!(),
+    }
+}
+
+impl Rows {
+    /// No rows, and 1 as the first id. It takes no memory until the first insert.
+    pub(crate) fn new(alloc: Global) -> Rows
+        ensures rows { result.rows ≡ [] }
+        ensures next_id { result.next_id ≡ 1 }
+    {
+        Rows {
+            program: Program::new(alloc),
+            index: Index::new(alloc),
+            statuses: Vec::new(alloc),
+        }
+    }
+
+    /// A copy with the same rows under the same ids, and the same next id.
+    pub(crate) fn copy(&self) -> Result<Rows, AllocError>
+        ensures rows { IfOk result (λ rows. rows.rows ≡ self.now.rows) }
+        ensures next_id { IfOk result (λ rows. rows.next_id ≡ self.now.next_id) }
+    {
+        let program = self.program.copy_with(|row| row.copy())?;
+        let index = self.index.copy()?;
+        let statuses = self.statuses.clone()?;
+        Ok(Rows {
+            program,
+            index,
+            statuses,
+        })
+    }
+
+    /// How many rows there are.
+    pub(crate) fn len(&self) -> usize
+        ensures value { result ≡ length self.now.rows }
+        ensures sound { IsProgram self.now }
+    {
+        self.program.len()
+    }
+
+    /// The place of the row with this id, counted from 0. `None` where no row has it.
+    pub(crate) fn place_of(&self, id: RowId) -> Option<usize>
+        ensures value { result ≡ place_of self.now.rows id.0 }
+        ensures within { IfSome result (λ place. place < length self.now.rows) }
+        ensures sound { IsProgram self.now }
+    {
+        self.program.place_of(id)
+    }
+
+    /// What is kept of the row with this id. `None` where no row has it.
+    pub(crate) fn row(&self, id: RowId) -> Option<&RowData>
+        ensures value { option_copied result ≡ row_of self.now.rows id.0 }
+        ensures found { IsSome result ↔ IsSome (place_of self.now.rows id.0) }
+        ensures sound { IsProgram self.now }
+    {
+        self.program.row(id)
+    }
+
+    /// The row at a place, counted from 0: its id, and what is kept of it.
+    pub(crate) fn at(&self, place: usize) -> (RowId, &RowData)
+        requires { place < length self.now.rows }
+        ensures value { slice_get self.now.rows place ≡ Some (result.0.0, result.1.now) }
+        ensures sound { IsProgram self.now }
+    {
+        self.program.at(place)
+    }
+
+    /// The id of the last row before a place that writes a key. `None` where no row does: the value comes from the start.
+    pub(crate) fn origin(&self, place: usize, key: &Key) -> Option<RowId>
+        requires { place ≤ length self.now.rows }
+        ensures { option_map (λ id. id.0) result ≡ option_map (λ r. r.0) (origin_among self.now.rows place key.now) }
+    {
+        let mut looks = Looks::new();
+        origin(&self.program, &self.index, place, *key, &mut looks)
+    }
+
+    /// The ids of the rows from a place on that become unsettled where just these keys get new recipes at that place, in program
+    /// order.
+    pub(crate) fn affected(
+        &self,
+        alloc: Global,
+        place: usize,
+        keys: &[Key],
+    ) -> Result<Vec<RowId>, AllocError>
+        requires within { place ≤ length self.now.rows }
+        requires few { length keys.now ≤ 128 }
+        ensures { IfOk result (λ ids. ids_in ids.items ≡ touched data_plan (has_key keys.now) (drop place self.now.rows)) }
+    {
+        let mut looks = Looks::new();
+        affected(alloc, &self.program, &self.index, place, keys, &mut looks)
+    }
+
+    /// How many rows are unsettled.
+    pub(crate) fn count_unsettled(&self) -> usize
+        ensures { result ≡ unsettled_rows (map machine_row self.now.rows) }
+    {
+        count_unsettled(self.statuses.as_slice())
+    }
+
+    /// The first place from one on with an unsettled row. `None` where all rows from there on are settled.
+    pub(crate) fn next_unsettled(&self, from: usize) -> Option<usize>
+        ensures value { result ≡ next_unsettled (map machine_row self.now.rows) from }
+        ensures within { IfSome result (λ place. (from ≤ place) × (place < length self.now.rows)) }
+        ensures few { length self.now.rows ≤ MAX_ROWS }
+    {
+        first_unsettled(self.statuses.as_slice(), from)
+    }
+
+    /// Marks the row at a place as one of which an order is out.
+    pub(crate) fn hand_out(&mut self, place: usize)
+        requires { place < length self.old.rows }
+        ensures rows { ChangedAt out_data self.old.rows place self.new.rows }
+        ensures next_id { self.new.next_id ≡ self.old.next_id }
+    {
+        let row = self.program.at_mut(place);
+        row.hand_out();
+        self.statuses[place] = row.status;
+    }
+
+    /// Settles the row at a place by a result.
+    pub(crate) fn keep(&mut self, place: usize, done: Done)
+        requires { place < length self.old.rows }
+        ensures rows { ChangedAt (kept_data done) self.old.rows place self.new.rows }
+        ensures next_id { self.new.next_id ≡ self.old.next_id }
+    {
+        let row = self.program.at_mut(place);
+        row.keep(done);
+        self.statuses[place] = row.status;
+    }
+
+    /// Makes the row at a place wait if an order of it is out.
+    pub(crate) fn recall(&mut self, place: usize)
+        requires { place < length self.old.rows }
+        ensures rows { ChangedAt recalled_data self.old.rows place self.new.rows }
+        ensures next_id { self.new.next_id ≡ self.old.next_id }
+    {
+        let row = self.program.at_mut(place);
+        row.recall();
+        self.statuses[place] = row.status;
+    }
+
+    /// Makes the row at a place unsettled by the edit of this number.
+    pub(crate) fn unsettle(&mut self, place: usize, number: u64)
+        requires { place < length self.old.rows }
+        ensures rows { ChangedAt (stale_data number) self.old.rows place self.new.rows }
+        ensures next_id { self.new.next_id ≡ self.old.next_id }
+    {
+        let row = self.program.at_mut(place);
+        row.unsettle(number);
+        self.statuses[place] = row.status;
+    }
+
+    /// Puts a row at a place, before the rows that stand there, under the next id, and returns that id. Where memory is refused the
+    /// rows are as before.
+    pub(crate) fn insert_at(&mut self, place: usize, row: RowData) -> Result<RowId, AllocError>
+        requires place { place ≤ length self.old.rows }
+        requires few { length self.old.rows < MAX_ROWS }
+        requires ids { self.old.next_id < 2 ^ 63 }
+        ensures ok { IfOk result (Inserts self.old self.new place row) }
+        ensures err { OnErr result (Stays self.old self.new) }
+    {
+        self.program.room()?;
+        self.index.room(&row.plan)?;
+        self.statuses.reserve(1)?;
+        let status = row.status;
+        match self.program.insert_at(place, row) {
+            Ok(id) => {
+                add_row(&mut self.index, &self.program, place);
+                put_status(&mut self.statuses, place, status);
+                Ok(id)
+            }
+            Err(_) => unreachable!(),
+        }
+    }
+
+    /// Takes the row with this id out. The others keep their order. It takes no memory.
+    pub(crate) fn delete(&mut self, id: RowId)
+        requires { IsSome (place_of self.old.rows id.0) }
+        ensures rows { self.new.rows ≡ remove self.old.rows (place_in self.old.rows id.0) }
+        ensures next_id { self.new.next_id ≡ self.old.next_id }
+    {
+        let place = self.program.place_of(id).unwrap();
+        self.index.remove(id);
+        self.program.delete(id);
+        let _status = self.statuses.remove(place);
+    }
+
+    /// Puts another row in place of the one with this id, under that id. Where memory is refused the rows are as before.
+    pub(crate) fn replace(&mut self, id: RowId, row: RowData) -> Result<(), AllocError>
+        requires { IsSome (place_of self.old.rows id.0) }
+        ensures ok { OnOk result (self.new.rows ≡ with_row self.old.rows (place_in self.old.rows id.0) row) }
+        ensures next_id { self.new.next_id ≡ self.old.next_id }
+        ensures err { OnErr result (Stays self.old self.new) }
+    {
+        self.index.room(&row.plan)?;
+        let place = self.program.place_of(id).unwrap();
+        self.index.remove(id);
+        self.statuses[place] = row.status;
+        self.program.replace(id, row);
+        add_row(&mut self.index, &self.program, place);
+        Ok(())
+    }
+}

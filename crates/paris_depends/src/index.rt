@@ -1,0 +1,221 @@
+//! The rows that write and read each key, in program order, and the keys that each row writes.
+
+ghost use Rattle.std.specs.Prelude.{◌≡◌, List, ◌+◌, ◌^◌, ◌<◌, ◌≤◌, [], length, slice_get, Some, IsSome, IfSome, IfOk, OnOk, OnErr, IsOk, insert, remove};
+ghost use Rattle.paris_names.specs.declared.keys.Key.{Key as AnyKey};
+ghost use Rattle.paris_program.specs.Program.{ids_of, place_of, place_in};
+ghost use Rattle.paris_depends.specs.Index.{Footprint, HasRoom, footprint, keys_written, readers, writers};
+
+use crate::lists::Lists;
+use crate::row_keys::{RowKeys, copy_rows, put_row, take_filled};
+use crate::sides::{Side, put_all, room_for, take_all_out};
+use indexmap::IndexMap;
+use paris_instr::Plan;
+use paris_names::{Key, RowId};
+use paris_program::Program;
+use std::alloc::{AllocError, Global};
+use std::marker::Model;
+
+/// How many entries of an index were read. A clause sees the number.
+#[derive(Debug, Drop)]
+pub struct Looks {
+    count: u64,
+}
+
+impl Model for Looks {
+    ghost use Rattle.std.specs.Prelude.{ℕ};
+
+    ghost Value = { ℕ };
+
+    ghost view = { λ l. l.count };
+}
+
+impl Looks {
+    /// No entry was read yet.
+    pub fn new() -> Looks
+        ensures { result ≡ 0 }
+    {
+        Looks { count: 0 }
+    }
+
+    /// How many entries were read.
+    pub fn count(&self) -> u64
+        ensures { result ≡ self.now }
+    {
+        self.count
+    }
+
+    /// Counts one entry more.
+    fn add_one(&mut self)
+        requires { self.old < 2 ^ 63 }
+        ensures { self.new ≡ self.old + 1 }
+    {
+        self.count += 1;
+    }
+}
+
+/// An index of the rows of a program: which rows write a key, which read it, and which keys a row writes. A clause sees the rows in
+/// program order, each with the keys that its plan writes and reads, and the room for more.
+#[derive(Drop)]
+pub struct Index {
+    alloc: Global,
+    rows: IndexMap<u64, RowKeys>,
+    writers: Lists,
+    readers: Lists,
+    next_written: Vec<Key>,
+    next_read: Vec<Key>,
+}
+
+impl Model for Index {
+    ghost use Rattle.paris_depends.specs.Index.{Index as Indexed};
+
+    ghost Value = { Indexed };
+
+    ghost use Rattle.paris_depends.specs.IndexInside.{IsIndex, indexed};
+
+    ghost view = { indexed };
+
+    ghost invariant = { IsIndex };
+}
+
+impl Index {
+    /// An index of no rows. It grows by this allocator, and takes no memory until the first growth.
+    pub fn new(alloc: Global) -> Index
+        ensures { result.rows ≡ [] }
+    {
+        Index {
+            alloc,
+            rows: IndexMap::new(alloc),
+            writers: Lists::new(alloc),
+            readers: Lists::new(alloc),
+            next_written: Vec::new(alloc),
+            next_read: Vec::new(alloc),
+        }
+    }
+
+    /// How many rows write a key.
+    pub fn writers(&self, key: Key) -> usize
+        ensures { result ≡ length (writers self.now.rows key) }
+    {
+        self.writers.len(key.slot())
+    }
+
+    /// How many rows read a key.
+    pub fn readers(&self, key: Key) -> usize
+        ensures { result ≡ length (readers self.now.rows key) }
+    {
+        self.readers.len(key.slot())
+    }
+
+    /// The id of a row that writes a key: the one at this place among them, counted from 0 in program order.
+    pub fn writer(&self, key: Key, i: usize, looks: &mut Looks) -> RowId
+        requires within { i < length (writers self.now.rows key) }
+        requires few { looks.old < 2 ^ 63 }
+        ensures value { slice_get (writers self.now.rows key) i ≡ Some result.0 }
+        ensures looks { looks.new ≡ looks.old + 1 }
+    {
+        looks.add_one();
+        self.writers.at(key.slot(), i)
+    }
+
+    /// The id of a row that reads a key: the one at this place among them, counted from 0 in program order.
+    pub fn reader(&self, key: Key, i: usize, looks: &mut Looks) -> RowId
+        requires within { i < length (readers self.now.rows key) }
+        requires few { looks.old < 2 ^ 63 }
+        ensures value { slice_get (readers self.now.rows key) i ≡ Some result.0 }
+        ensures looks { looks.new ≡ looks.old + 1 }
+    {
+        looks.add_one();
+        self.readers.at(key.slot(), i)
+    }
+
+    /// How many keys the row with this id writes: at most three.
+    pub fn keys(&self, id: RowId) -> usize
+        requires { IsSome (keys_written self.now.rows id.0) }
+        ensures value { IfSome (keys_written self.now.rows id.0) (λ keys. result ≡ length keys) }
+        ensures few { result ≤ 3 }
+    {
+        match self.rows.get(&id.0) {
+            Some(row) => row.written.len(),
+            None => unreachable!(),
+        }
+    }
+
+    /// A key that the row with this id writes: the one at this place among them, counted from 0 in the order of its plan.
+    pub fn key(&self, id: RowId, i: usize, looks: &mut Looks) -> Key
+        requires within { (keys : List AnyKey) → keys_written self.now.rows id.0 ≡ Some keys → i < length keys }
+        requires there { IsSome (keys_written self.now.rows id.0) }
+        requires few { looks.old < 2 ^ 63 }
+        ensures value { IfSome (keys_written self.now.rows id.0) (λ keys. slice_get keys i ≡ Some result) }
+        ensures looks { looks.new ≡ looks.old + 1 }
+    {
+        looks.add_one();
+        match self.rows.get(&id.0) {
+            Some(row) => row.written[i],
+            None => unreachable!(),
+        }
+    }
+}
+
+impl Index {
+    /// Makes room for one more row of this plan, so that the next `add` of a plan that writes and reads the same keys takes no
+    /// memory. It changes nothing else, also where memory is refused.
+    pub fn room(&mut self, plan: &Plan) -> Result<(), AllocError>
+        ensures rows { self.new.rows ≡ self.old.rows }
+        ensures ok { OnOk result (HasRoom self.new.room (footprint plan.now)) }
+        ensures succeeds { HasRoom self.old.room (footprint plan.now) → IsOk result }
+    {
+        self.rows.reserve(1)?;
+        self.next_written.reserve(plan.writes().len())?;
+        self.next_read.reserve(plan.reads().len())?;
+        room_for(&mut self.writers, plan.writes())?;
+        room_for(&mut self.readers, plan.reads())
+    }
+
+    /// Adds a row of a program, which has this plan. The other rows of the program are in the index. Where memory is refused the rows
+    /// are as before.
+    pub fn add<T>(&mut self, program: &Program<T>, id: RowId, plan: &Plan) -> Result<(), AllocError>
+        requires there { IsSome (place_of program.now.rows id.0) }
+        requires others { remove (ids_of program.now.rows) (place_in program.now.rows id.0) ≡ ids_of self.old.rows }
+        ensures ok { OnOk result (self.new.rows ≡ insert self.old.rows (place_in program.now.rows id.0) (id.0, footprint plan.now)) }
+        ensures err { OnErr result (self.new.rows ≡ self.old.rows) }
+        ensures succeeds { HasRoom self.old.room (footprint plan.now) → IsOk result }
+    {
+        self.room(plan)?;
+        let place = program.place_of(id).unwrap();
+        let written = take_filled(self.alloc, &mut self.next_written, plan.writes());
+        let read = take_filled(self.alloc, &mut self.next_read, plan.reads());
+        put_all(&mut self.writers, &self.rows, plan.writes(), place, id);
+        put_all(&mut self.readers, &self.rows, plan.reads(), place, id);
+        put_row(&mut self.rows, place, id, RowKeys { written, read });
+        Ok(())
+    }
+
+    /// Takes the row with this id out. It takes no memory, and leaves all room that was made.
+    pub fn remove(&mut self, id: RowId)
+        requires { IsSome (place_of self.old.rows id.0) }
+        ensures rows { self.new.rows ≡ remove self.old.rows (place_in self.old.rows id.0) }
+        ensures room { (f : Footprint) → HasRoom self.old.room f → HasRoom self.new.room f }
+    {
+        let place = self.rows.get_index_of(&id.0).unwrap();
+        take_all_out(&mut self.writers, &self.rows, Side::Writers, place);
+        take_all_out(&mut self.readers, &self.rows, Side::Readers, place);
+        let _row = self.rows.shift_remove_index(place);
+    }
+
+    /// A copy, with the same rows.
+    pub fn copy(&self) -> Result<Index, AllocError>
+        ensures { IfOk result (λ copy. copy.rows ≡ self.now.rows) }
+    {
+        let rows = copy_rows(self.alloc, &self.rows)?;
+        let writers = self.writers.copy()?;
+        let readers = self.readers.copy()?;
+        Ok(Index {
+            alloc: self.alloc,
+            rows,
+            writers,
+            readers,
+            next_written: Vec::new(self.alloc),
+            next_read: Vec::new(self.alloc),
+        })
+    }
+}
