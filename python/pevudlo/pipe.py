@@ -1,0 +1,196 @@
+"""Talks with one child process, line by line.
+
+This is the one place that knows of a process. A library can take its place behind the same calls: `ask` and `close`.
+
+One line in and one reply out can't block each other. The program reads a line to its line feed before it writes, and
+it writes a whole reply before it reads more. So while a line is written nothing comes, and while a reply is read
+nothing is wanted. A program that does otherwise is found out: what it writes while a line is written ends the talk with
+OutOfTurn, however much it is.
+"""
+
+from __future__ import annotations
+
+import os
+import select
+import subprocess
+import tempfile
+import threading
+from pathlib import Path
+from types import TracebackType
+from typing import IO, NoReturn
+
+CHUNK = 1 << 16
+# Seconds that a child has to end once its input is closed.
+PATIENCE = 10.0
+
+
+class PipeError(Exception):
+    """The talk is over. `status` is the child's exit status (negative: the signal), `line` its last one on stderr."""
+
+    def __init__(self, what: str, status: int, line: str) -> None:
+        self.status = status
+        self.line = line
+        end = f"killed by signal {-status}" if status < 0 else f"exit status {status}"
+        super().__init__(f"{what} ({end}{': ' + line if line else ''})")
+
+
+class Ended(PipeError):
+    """The program ended, or was killed."""
+
+
+class OutOfTurn(PipeError):
+    """The program wrote something that is no reply to the line it was asked. It was killed."""
+
+
+def count_of_lines(first: bytes) -> int:
+    """How many lines of a reply come behind the first one: N behind `rows N` and `faults N`, else none."""
+    word, _, number = first.partition(b" ")
+    return int(number) if word in (b"rows", b"faults") and number.isdigit() else 0
+
+
+class Pipe:
+    """A running program. Threads may share it: one line is asked at a time."""
+
+    def __init__(self, program: Path, workers: int = 2) -> None:
+        self._said: IO[bytes] = tempfile.TemporaryFile()
+        # In a session of its own, so Ctrl-C at a terminal reaches whoever holds the pipe, and that one ends the child.
+        self._child = subprocess.Popen(
+            [os.fspath(program), "--workers", str(workers)],
+            bufsize=0,
+            stdin=subprocess.PIPE,
+            stdout=subprocess.PIPE,
+            stderr=self._said,
+            start_new_session=True,
+        )
+        assert self._child.stdin is not None and self._child.stdout is not None
+        self._in, self._out = self._child.stdin.fileno(), self._child.stdout.fileno()
+        os.set_blocking(self._in, False)
+        self._ears = select.poll()
+        self._ears.register(self._out, select.POLLIN)
+        self._lock = threading.Lock()
+        self._rest = bytearray()
+        self._over: tuple[type[PipeError], str, int, str] | None = None
+
+    @property
+    def process(self) -> int:
+        """The child's process id."""
+        return self._child.pid
+
+    def ask(self, line: str) -> list[str]:
+        """The lines of the reply to one line; none for an empty line or a comment, which have no reply.
+
+        Bytes that are not UTF-8 stand in the text as surrogates (`errors="surrogateescape"`).
+        Raises ValueError where the text has a line feed, Ended and OutOfTurn where the talk is over.
+        """
+        if "\n" in line:
+            raise ValueError("one line is asked at a time")
+        with self._lock:
+            if self._over is not None:
+                kind, what, status, said = self._over
+                raise kind(what, status, said)
+            if not line or line.startswith("#"):
+                return []
+            data = line.encode("utf-8", "surrogateescape") + b"\n"
+            try:
+                self._write(data)
+                return self._read()
+            except BaseException:
+                self._end()
+                raise
+
+    def close(self) -> int:
+        """Ends the input, waits for the child, and gives its exit status."""
+        if self._child.returncode is None:
+            assert self._child.stdin is not None
+            self._child.stdin.close()
+            try:
+                self._child.wait(0.0 if self._lock.locked() else PATIENCE)
+            except BaseException as error:
+                self._end()
+                if not isinstance(error, subprocess.TimeoutExpired):
+                    raise
+        return self._end("the program is closed")[0]
+
+    def kill(self) -> None:
+        """Kills the child. A thread that waits for a reply gets Ended."""
+        self._child.kill()
+
+    def __enter__(self) -> Pipe:
+        return self
+
+    def __exit__(self, kind: type[BaseException] | None, error: BaseException | None, at: TracebackType | None) -> None:
+        self.close()
+
+    def _write(self, line: bytes) -> None:
+        """Writes a whole line. What comes meanwhile is out of turn."""
+        if self._rest or self._ears.poll(0):
+            self._unasked()
+        left = memoryview(line)
+        while left:
+            try:
+                left = left[os.write(self._in, left) :]
+            except BlockingIOError:
+                ways = select.poll()
+                ways.register(self._in, select.POLLOUT)
+                ways.register(self._out, select.POLLIN)
+                if any(way == self._out for way, _ in ways.poll()):
+                    self._unasked()
+            except BrokenPipeError:
+                self._stop(Ended, "the program ended before it took the line")
+
+    def _read(self) -> list[str]:
+        """Reads the lines of one reply."""
+        first = self._read_line()
+        lines = [first] + [self._read_line() for _ in range(count_of_lines(first))]
+        if self._rest:
+            self._stop(OutOfTurn, f"the program wrote more than a reply: {bytes(self._rest[:80])!r}")
+        return [line.decode("utf-8", "surrogateescape") for line in lines]
+
+    def _read_line(self) -> bytes:
+        """The next line, without its line feed."""
+        looked = 0
+        while (end := self._rest.find(b"\n", looked)) < 0:
+            looked = len(self._rest)
+            more = os.read(self._out, CHUNK)
+            if not more:
+                self._stop(Ended, "the program ended before its reply")
+            self._rest += more
+        line = bytes(self._rest[:end])
+        del self._rest[: end + 1]
+        return line
+
+    def _unasked(self) -> NoReturn:
+        """Something is there to read although nothing was asked: the child's end, or a text."""
+        text = bytes(self._rest) or os.read(self._out, CHUNK)
+        if not text:
+            self._stop(Ended, "the program has ended")
+        self._stop(OutOfTurn, f"the program wrote what was not asked: {text[:80]!r}")
+
+    def _stop(self, kind: type[PipeError], what: str) -> NoReturn:
+        """Ends the talk with an error."""
+        if kind is Ended:
+            try:
+                self._child.wait(1.0)
+            except subprocess.TimeoutExpired:
+                what += ", and did not go"
+        status, line = self._end()
+        self._over = (kind, what, status, line)
+        raise kind(what, status, line)
+
+    def _end(self, what: str = "the program was stopped") -> tuple[int, str]:
+        """Kills the child where it lives, closes all, and gives its exit status and its last line on standard error."""
+        if self._child.poll() is None:
+            self._child.kill()
+        status = self._child.wait()
+        for end in (self._child.stdin, self._child.stdout):
+            if end is not None:
+                end.close()
+        text = b""
+        if not self._said.closed:
+            self._said.seek(0)
+            text = self._said.read()
+            self._said.close()
+        line = text.decode("utf-8", "replace").strip().split("\n")[-1]
+        if self._over is None:
+            self._over = (Ended, what, status, line)
+        return status, line

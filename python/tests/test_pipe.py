@@ -1,0 +1,174 @@
+"""The pipe: replies by their grammar, children that end, are killed or answer out of turn, and long lines both ways."""
+
+from __future__ import annotations
+
+import os
+import signal
+import subprocess
+import sys
+import time
+from pathlib import Path
+
+import pytest
+
+from pevudlo.pipe import Ended, OutOfTurn, Pipe
+from pevudlo.program import find
+
+REPOSITORY = Path(__file__).resolve().parents[2]
+
+
+@pytest.fixture(scope="session")
+def program() -> Path:
+    return find()
+
+
+def fake(folder: Path, body: str) -> Path:
+    """A program in Python that takes the place of paris_front."""
+    path = folder / "fake"
+    path.write_text(f"#!{sys.executable}\nimport os, sys, time\n{body}\n")
+    path.chmod(0o755)
+    return path
+
+
+def is_alive(process: int) -> bool:
+    try:
+        os.kill(process, 0)
+    except ProcessLookupError:
+        return False
+    return Path(f"/proc/{process}/stat").read_text().rsplit(")", 1)[1].split()[0] != "Z"
+
+
+def gone_in_time(process: int) -> bool:
+    for _ in range(100):
+        if not is_alive(process):
+            return True
+        time.sleep(0.05)
+    return False
+
+
+def test_first_sum_line_by_line(program: Path) -> None:
+    script = (REPOSITORY / "examples/first-sum.paris").read_text().splitlines()
+    expected = (REPOSITORY / "examples/first-sum.expected").read_text().splitlines()
+    with Pipe(program) as pipe:
+        replies = [pipe.ask(line) for line in script]
+    assert [line for reply in replies for line in reply] == expected
+    for line, reply in zip(script, replies):
+        assert bool(reply) == (bool(line) and not line.startswith("#"))
+
+
+def test_status_says_whether_a_line_was_refused(program: Path) -> None:
+    for line, status in (("set S 4", 0), ("set S 3", 1)):
+        pipe = Pipe(program)
+        pipe.ask(line)
+        assert pipe.close() == status
+        assert pipe.close() == status
+
+
+def test_lines_with_replies_of_many_lines(program: Path) -> None:
+    with Pipe(program) as pipe:
+        pipe.ask("set S 4")
+        for _ in range(3):
+            pipe.ask("insert end set-test S")
+        assert len(pipe.ask("list")) == 4
+        assert pipe.ask("faults") == ["faults 0"]
+        assert pipe.ask("settle") == ["settled 3"]
+
+
+def test_bytes_that_are_not_utf8_are_refused_in_their_column(program: Path) -> None:
+    with Pipe(program) as pipe:
+        assert pipe.ask("set S \udcff") == ["refused 20 7"]
+        assert pipe.ask("set S\t4") == ["refused 20 5"]
+        with pytest.raises(ValueError):
+            pipe.ask("set S 4\nlist")
+        with pytest.raises(UnicodeEncodeError):
+            pipe.ask("set S \ud800")
+        assert pipe.ask("set S 4\r") == ["refused 20 7"]
+        assert pipe.ask("set S 4") == ["ok"]
+
+
+def test_a_line_above_the_limit(program: Path) -> None:
+    with Pipe(program) as pipe:
+        assert pipe.ask("x" * 1_000_000) == ["refused 20 65537"]
+        assert pipe.ask("#" * 1_000_000) == []
+        assert pipe.ask("settle") == ["settled 0"]
+
+
+def test_65536_numbers_both_ways(program: Path) -> None:
+    numbers = [str((v * 2654435761 + 2**63) % 2**64) for v in range(65_536)]
+    with Pipe(program) as pipe:
+        pipe.ask("set S 65536")
+        pipe.ask("field a S 64")
+        for at in range(0, 65_536, 3_000):
+            line = f"input a {at} " + " ".join(numbers[at : at + 3_000])
+            assert 32_768 < len(line) < 65_536 or at + 3_000 > 65_536
+            assert pipe.ask(line) == ["ok"]
+        (reply,) = pipe.ask("show a end")
+    assert reply == "values " + " ".join(numbers)
+    assert len(reply) > 1_000_000
+
+
+def test_an_ended_program_is_named_with_status_and_line(tmp_path: Path) -> None:
+    pipe = Pipe(fake(tmp_path, "sys.stdin.readline(); print('no memory', file=sys.stderr); sys.exit(4)"))
+    with pytest.raises(Ended) as ended:
+        pipe.ask("settle")
+    assert (ended.value.status, ended.value.line) == (4, "no memory")
+    assert "exit status 4" in str(ended.value) and "no memory" in str(ended.value)
+    with pytest.raises(Ended):
+        pipe.ask("settle")
+    assert pipe.close() == 4
+
+
+def test_wrong_workers_end_the_program(program: Path) -> None:
+    with Pipe(program, workers=17) as pipe:
+        with pytest.raises(Ended) as ended:
+            pipe.ask("settle")
+    assert ended.value.status == 2
+
+
+def test_a_killed_program(program: Path) -> None:
+    with Pipe(program) as pipe:
+        assert pipe.ask("set S 4") == ["ok"]
+        os.kill(pipe.process, signal.SIGKILL)
+        with pytest.raises(Ended) as ended:
+            pipe.ask("list")
+    assert ended.value.status == -signal.SIGKILL
+    assert pipe.close() == -signal.SIGKILL
+
+
+@pytest.mark.parametrize(
+    "body",
+    [
+        "print('ok', flush=True); time.sleep(60)",
+        "[print('ok\\nok', flush=True) for line in sys.stdin]",
+        "os.write(1, b'ok\\n' * 1_000_000); time.sleep(60)",
+    ],
+)
+def test_a_program_that_answers_out_of_turn_is_killed(tmp_path: Path, body: str) -> None:
+    pipe = Pipe(fake(tmp_path, body))
+    with pytest.raises(OutOfTurn) as error:
+        for _ in range(100):
+            pipe.ask("list" * 100_000)
+            time.sleep(0.05)
+    assert error.value.status == -signal.SIGKILL
+    assert not is_alive(pipe.process)
+
+
+def test_ctrl_c_leaves_no_process(program: Path) -> None:
+    held = "import sys; sys.path.insert(0, sys.argv[1]); from pevudlo.pipe import Pipe; from pathlib import Path\n"
+    held += "with Pipe(Path(sys.argv[2])) as pipe:\n    pipe.ask('set S 65536'); pipe.ask('field a S 64')\n"
+    held += "    [pipe.ask('insert end u-truncate-3-1L a a a 64') for _ in range(4000)]\n"
+    held += "    print(pipe.process, flush=True); pipe.ask('settle'); print('settled')\n"
+    holder = subprocess.Popen(
+        [sys.executable, "-c", held, str(REPOSITORY / "python"), str(program)],
+        stdout=subprocess.PIPE,
+        stderr=subprocess.PIPE,
+        text=True,
+    )
+    assert holder.stdout is not None
+    child = int(holder.stdout.readline())
+    assert is_alive(child)
+    time.sleep(0.3)
+    holder.send_signal(signal.SIGINT)
+    said, error = holder.communicate(timeout=20)
+    assert "KeyboardInterrupt" in error and "settled" not in said
+    assert gone_in_time(child)
