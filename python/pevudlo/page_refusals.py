@@ -1,0 +1,19 @@
+"""Why a line was refused, in words."""
+
+from __future__ import annotations
+
+from dataclasses import dataclass
+
+from pevudlo.declared import Declared
+from pevudlo.replies import Refused
+
+
+@dataclass(frozen=True)
+class Explainer:
+    """Explains refusals by what is declared."""
+
+    declared: Declared
+
+    def explain(self, line: str, reply: Refused) -> str:
+        """One refusal in words."""
+        return f"fault {reply.number}"
