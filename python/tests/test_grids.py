@@ -20,7 +20,8 @@ def indices_of(address: str) -> list[list[int]]:
     """The places in the palette of a PNG with filter 0, line by line."""
     data = base64.b64decode(address.removeprefix("data:image/png;base64,"))
     assert data[:8] == b"\x89PNG\r\n\x1a\n"
-    place, body, size = 8, b"", (0, 0)
+    place, body = 8, b""
+    size: tuple[int, ...] = (0, 0)
     while place < len(data):
         length, kind = struct.unpack(">I4s", data[place : place + 8])
         chunk = data[place + 8 : place + 8 + length]
