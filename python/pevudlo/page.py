@@ -5,25 +5,28 @@ Each number on it is from a reply of the program.
 
 from __future__ import annotations
 
-import base64
-import hashlib
 import sys
 from collections.abc import Iterable
 from dataclasses import dataclass, field, replace
 from pathlib import Path
 
-from pevudlo.grids import read_static, style
+from pevudlo.grids import read_static
 from pevudlo.page_blocks import Block, Kind, blocks_of
 from pevudlo.page_blocks_html import body_of, heading_of
 from pevudlo.page_end import end_section
+from pevudlo.page_frame import document
 from pevudlo.page_history import Moment, history_table, moment_of
-from pevudlo.page_html import Explain, clean, plural, prose
+from pevudlo.page_html import Explain, plural, prose, sign
 from pevudlo.page_refusals import Explainer
 from pevudlo.pipe import Pipe, PipeError
 from pevudlo.program import NotFound, find
 from pevudlo.record import Recorder, Step
 
 USAGE = "usage: paris page [--workers N] FILE [-o OUT.html]"
+HELP = f"""{USAGE}
+
+Makes a page of a script, one HTML file that needs no network: NAME.html in the folder where you are, for a script
+NAME.paris, or OUT.html. With `-o -` it goes to standard output. The exit status is the program's."""
 
 
 @dataclass
@@ -55,21 +58,11 @@ class Page:
 
     def html(self) -> str:
         """The whole page."""
-        script = read_static("page.js")
-        summed = base64.b64encode(hashlib.sha256(script.encode()).digest()).decode("ascii")
-        policy = f"default-src 'none'; img-src data:; style-src 'unsafe-inline'; script-src 'sha256-{summed}'"
         history = history_table(self.moments)
         shown = f'<section class="block" id="history"><h2>Edits and rows</h2>{history}</section>' if history else ""
-        link = '<li><a href="#history">Edits and rows</a></li>' if history else ""
-        return (
-            '<!doctype html>\n<html lang="en"><head><meta charset="utf-8">'
-            f'<meta http-equiv="Content-Security-Policy" content="{policy}">'
-            '<meta name="viewport" content="width=device-width, initial-scale=1"><meta name="color-scheme" '
-            f'content="light dark"><title>{clean(self.title)}</title><style>{style()}{read_static("page.css")}</style>'
-            f'</head><body>{header(self.title, self._summary())}<div class="columns"><nav aria-label="Parts of the page">'
-            f'<ol>{link}{"".join(self.links)}</ol></nav><main>{self._intro()}{shown}{"".join(self.sections)}</main></div>'
-            f"<script>{script}</script></body></html>\n"
-        )
+        links = ['<li><a href="#history">Edits and rows</a></li>'] if history else []
+        body = self._intro() + shown + "".join(self.sections)
+        return document(self.title, self._summary(), links + self.links, body, [read_static("page.js")])
 
     def _counted(self, lines: Iterable[str]) -> Iterable[Step]:
         """The steps, while they are counted. What stands above the first command is the page's introduction."""
@@ -90,7 +83,7 @@ class Page:
             if runs and all(step.word == "insert" for step in block.steps):
                 return
         anchor = f"part-{len(self.links) + 1}"
-        sign, heading = heading_of(block)
+        mark, heading = heading_of(block)
         body = body_of(block, self.recorder.declared, self.comments, self.explain)
         if block.kind in (Kind.ROWS, Kind.RAN):
             self.comments.clear()
@@ -98,13 +91,10 @@ class Page:
         if moment is not None:
             self.moments.append(moment)
         kind = block.kind.name.lower()
-        self.links.append(
-            f'<li class="{kind}"><a href="#{anchor}"><span aria-hidden="true">{sign}</span>{heading}</a></li>'
-        )
-        self.sections.append(
-            f'<section class="block {kind}" id="{anchor}"><h2><span class="sign" aria-hidden="true">{sign}</span>'
-            f"{heading}</h2>{body}</section>"
-        )
+        link = f'<a href="#{anchor}"><span aria-hidden="true">{mark}</span>{heading}</a>'
+        self.links.append(f'<li class="{kind}">{link}</li>')
+        place = f'id="{anchor}" data-line="{block.steps[-1].number}"'
+        self.sections.append(f'<section class="block {kind}" {place}><h2>{sign(mark)}{heading}</h2>{body}</section>')
 
     def _note_comments(self, block: Block) -> None:
         """The comments above rows, by the rows' ids."""
@@ -129,54 +119,6 @@ class Page:
     def _intro(self) -> str:
         """What the script says of itself."""
         return f'<div class="intro">{prose(self.intro)}</div>' if self.intro else ""
-
-
-def header(title: str, summary: str) -> str:
-    """The head of a page, with its switches."""
-    return (
-        f'<header class="top"><div><h1>{clean(title)}</h1><p>{summary}</p></div>'
-        f'<form class="switches" aria-label="How the page is shown">{switches()}</form></header>{legend()}'
-    )
-
-
-def switches() -> str:
-    """The switch of the numbers' unit, and that of light and dark."""
-    parts = []
-    for name, label, words in (
-        ("unit", "Numbers", ("unsigned", "signed", "hex", "bits")),
-        ("theme", "Colours", ("auto", "light", "dark")),
-    ):
-        choices = "".join(
-            f'<label><input type="radio" name="{name}" value="{word}"{" checked" if word == words[0] else ""}>'
-            f"<span>{word}</span></label>"
-            for word in words
-        )
-        parts.append(f"<fieldset><legend>{label}</legend>{choices}</fieldset>")
-    parts.append('<label class="tick"><input type="checkbox" name="plain"> keys that a row leaves as they are</label>')
-    return "".join(parts)
-
-
-def legend() -> str:
-    """What the marks mean."""
-    cells = (
-        ("n", "7", "changed by the row"),
-        ("o", "7", "other than before the edit"),
-        ("u", "7", "processor not selected"),
-    )
-    items = "".join(
-        f'<li><span class="pv-grid"><span class="cell {kind}" aria-hidden="true">{text}</span></span> {words}</li>'
-        for kind, text, words in cells
-    )
-    signs = "".join(
-        f'<li class="{kind}"><span class="sign" aria-hidden="true">{sign}</span> {words}</li>'
-        for kind, sign, words in (
-            ("unsettled", "○", "unsettled: has to run again"),
-            ("kept", "●", "kept its result"),
-            ("ran", "✓", "ran"),
-            ("refused", "✕", "refused"),
-        )
-    )
-    return f'<ul class="legend" aria-label="Signs">{items}{signs}</ul>'
 
 
 def page_of(title: str, lines: Iterable[str], pipe: Pipe) -> Page:
@@ -220,9 +162,7 @@ def words_of(words: list[str]) -> tuple[Path, str, int] | None:
 def main(words: list[str]) -> int:
     """Makes a page. The exit status is the program's, or 2 where the words are wrong or a file can't be had."""
     if words == ["--help"]:
-        print(
-            f"{USAGE}\n\nMakes a page of a script: NAME.html in the folder where you are, or OUT.html; - is standard output."
-        )
+        print(HELP)
         return 0
     meant = words_of(words)
     if meant is None:

@@ -9,7 +9,7 @@ from pevudlo.grids import Grid, html_of, shape_text
 from pevudlo.looks import Look
 from pevudlo.page_blocks import Block, Kind
 from pevudlo.page_edits import edit_body
-from pevudlo.page_html import Explain, cause, clean, command, look_grid, plural, prose, refusal
+from pevudlo.page_html import Explain, cause, clean, command, look_grid, plural, prose, refusal, row_id, sign
 from pevudlo.page_rows import Comments, ran_section
 from pevudlo.record import Step
 from pevudlo.replies import Faults, PendingReply, Refused, Rows, Values
@@ -127,13 +127,11 @@ def _rows(block: Block) -> str:
             skip = 3 if words[1] == "after" else 2
             row = step.lines[0].split(" ")[1]
             place = "" if words[1] == "end" else f'<span class="fate">{clean(" ".join(words[1:skip]))}</span>'
-            named = f'<span class="id">{row}</span>{command(" ".join(words[skip:]))}{place}'
+            named = f'{row_id(row)}{command(" ".join(words[skip:]))}{place}'
         else:
-            named = f'<span class="id">{clean(words[1])}</span>{command(" ".join(words[2:]) or "deleted")}'
+            named = f'{row_id(clean(words[1]))}{command(" ".join(words[2:]) or "deleted")}'
             named += f'<span class="fate">{words[0]}</span>'
-        items.append(
-            f'{prose(step.comments)}<li class="waiting"><span class="sign" aria-hidden="true">◌</span>{named}</li>'
-        )
+        items.append(f'{prose(step.comments)}<li class="waiting">{sign("◌")}{named}</li>')
     return f'<ol class="fates">{"".join(items)}</ol>'
 
 
@@ -148,7 +146,7 @@ def _looks(block: Block, declared: Declared) -> str:
             grids.append(f'<div class="look" data-line="{step.number}">{html_of(grid)}</div>')
         elif isinstance(step.reply, PendingReply):
             grids.append(
-                f'<p class="pending" data-line="{step.number}"><span class="sign" aria-hidden="true">○</span> <b>{clean(key)}</b> '
+                f'<p class="pending" data-line="{step.number}">{sign("○")} <b>{clean(key)}</b> '
                 f"{where} is pending: row {step.reply.row} writes it last before, and is unsettled</p>"
             )
     return f'<div class="grids">{"".join(grids)}</div>'
@@ -163,15 +161,13 @@ def _asked(step: Step) -> str:
     table = ""
     if isinstance(step.reply, Rows):
         items = "".join(
-            f'<li><span class="id">{row.row}</span>{command(row.text)}'
+            f"<li>{row_id(row.row)}{command(row.text)}"
             f'<span class="fate">{row.status.value}, edition {row.edition}</span></li>'
             for row in step.reply.rows
         )
         table = f'<ol class="fates">{items}</ol>'
     elif isinstance(step.reply, Faults):
-        items = "".join(
-            f'<li><span class="id">{fault.row}</span>{clean(cause(fault))}</li>' for fault in step.reply.faults
-        )
+        items = "".join(f"<li>{row_id(fault.row)}{clean(cause(fault))}</li>" for fault in step.reply.faults)
         table = f'<ol class="fates">{items}</ol>' if items else ""
         more = "" if items else " <em>no settled row is refused</em>"
     return _line(step, more) + table

@@ -2,7 +2,7 @@
 
 from __future__ import annotations
 
-from pevudlo.page_html import clean, command, plural
+from pevudlo.page_html import clean, command, plural, row_id, sign
 from pevudlo.record import Step, Touched
 from pevudlo.replies import Row
 
@@ -61,8 +61,8 @@ def row_list(touched: Touched) -> str:
     for row in touched.rows:
         fate = fate_of(row, touched)
         items.append(
-            f'<li class="{fate}"><span class="sign" aria-hidden="true">{_SIGNS[fate]}</span>'
-            f'<span class="id">{row.row}</span>{command(row.text)}<span class="fate">{_WORDS[fate]}</span></li>'
+            f'<li class="{fate}">{sign(_SIGNS[fate])}'
+            f'{row_id(row.row)}{command(row.text)}<span class="fate">{_WORDS[fate]}</span></li>'
         )
     many = " many" if len(touched.rows) > 8 else ""
     return f'<ol class="fates{many}">{"".join(items)}</ol>'
@@ -93,8 +93,7 @@ def ranges(touched: Touched) -> str:
         ends = (
             f"row {rows[0].row}" if len(rows) == 1 else f"rows {rows[0].row} to {rows[-1].row}, {len(rows):,} of them"
         )
-        sign = f'<span class="sign" aria-hidden="true">{_SIGNS[fate]}</span>'
-        items.append(f'<li class="{fate}">{sign} {ends}: {_WORDS[fate]}</li>')
+        items.append(f'<li class="{fate}">{sign(_SIGNS[fate])} {ends}: {_WORDS[fate]}</li>')
     more = f"<li>{plural(len(runs) - 200, 'range')} more</li>" if len(runs) > 200 else ""
     return f'<ol class="fates">{"".join(items)}{more}</ol>'
 

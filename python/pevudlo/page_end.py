@@ -2,7 +2,7 @@
 
 from __future__ import annotations
 
-from pevudlo.page_html import cause, command, pending, plural
+from pevudlo.page_html import cause, command, pending, plural, row_id, sign
 from pevudlo.record import Recorder
 from pevudlo.replies import Row, Status
 from pevudlo.written import written_keys
@@ -21,7 +21,7 @@ def end_section(recorder: Recorder) -> str:
     parts = [f'<p class="verdict">{_sentence(len(rows), len(open_rows))}</p>']
     if faults:
         items = "".join(
-            f'<li class="refused"><span class="sign" aria-hidden="true">✕</span><span class="id">{row.row}</span>'
+            f'<li class="refused">{sign("✕")}{row_id(row.row)}'
             f'{command(row.text)}<span class="fate">{cause(faults[row.row])}</span></li>'
             for row in rows
             if row.row in faults
@@ -34,7 +34,7 @@ def end_section(recorder: Recorder) -> str:
         more = len(open_rows) - MOST_PENDING
         last = f"<li>and {more:,} more</li>" if more > 0 else ""
         parts.append(f'<ol class="fates open">{items}{last}</ol>')
-    return f'<section class="block end" id="end"><h2><span class="sign" aria-hidden="true">■</span>At the end</h2>{"".join(parts)}</section>'
+    return f'<section class="block end" id="end"><h2>{sign("■")}At the end</h2>{"".join(parts)}</section>'
 
 
 def _sentence(count: int, unsettled: int) -> str:
@@ -42,7 +42,8 @@ def _sentence(count: int, unsettled: int) -> str:
     if not unsettled:
         return "The one row is settled." if count == 1 else f"All {count:,} rows are settled."
     verb = "is" if unsettled == 1 else "are"
-    return f"<b>{unsettled:,} of {plural(count, 'row')}</b> {verb} unsettled: what they write is pending, and has no number."
+    first = f"<b>{unsettled:,} of {plural(count, 'row')}</b> {verb} unsettled"
+    return f"{first}: what they write is pending, and has no number."
 
 
 def _open_row(row: Row, recorder: Recorder) -> str:
@@ -51,6 +52,6 @@ def _open_row(row: Row, recorder: Recorder) -> str:
     looks = [recorder.looker.look(key, f"after {row.row}") for key in keys]
     shown = "".join(pending(look) for look in looks if look.numbers is None)
     return (
-        f'<li class="unsettled"><span class="sign" aria-hidden="true">○</span><span class="id">{row.row}</span>'
+        f'<li class="unsettled">{sign("○")}{row_id(row.row)}'
         f'{command(row.text)}<span class="fate">{row.status.value}</span>{shown}</li>'
     )

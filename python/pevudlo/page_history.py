@@ -6,7 +6,7 @@ from collections.abc import Sequence
 from dataclasses import dataclass
 
 from pevudlo.page_edits import fate_of
-from pevudlo.page_html import clean, command
+from pevudlo.page_html import clean, command, row_id
 from pevudlo.record import Step
 from pevudlo.replies import Row
 
@@ -56,20 +56,22 @@ def history_table(moments: Sequence[Moment]) -> str:
     rows = _all_rows(moments)
     if not rows or len(moments) > MOST_COLUMNS or len(rows) > MOST_ROWS:
         return ""
-    heads = "".join(
-        f'<th scope="col" class="{"run" if moment.is_run else "edit"}"><a href="#{moment.anchor}" '
-        f'title="{clean(moment.text[:200])}">{"ran" if moment.is_run else "edit"}<small>line {moment.step_number}</small>'
-        "</a></th>"
-        for moment in moments
-    )
+    heads = "".join(map(_head, moments))
     lines = []
     for row in rows:
         cells = "".join(_cell(moment, row) for moment in moments)
-        lines.append(f'<tr><th scope="row"><span class="id">{row.row}</span>{command(row.text)}</th>{cells}</tr>')
+        lines.append(f'<tr><th scope="row">{row_id(row.row)}{command(row.text)}</th>{cells}</tr>')
     return (
         '<div class="wide"><table class="history"><caption>What each edit and each run did to each row</caption>'
         f'<thead><tr><td></td>{heads}</tr></thead><tbody>{"".join(lines)}</tbody></table></div>'
     )
+
+
+def _head(moment: Moment) -> str:
+    """The head of a column, which leads to where the moment is told."""
+    kind, word = ("run", "ran") if moment.is_run else ("edit", "edit")
+    link = f'<a href="#{moment.anchor}" title="{clean(moment.text[:200])}">'
+    return f'<th scope="col" class="{kind}">{link}{word}<small>line {moment.step_number}</small></a></th>'
 
 
 def _cell(moment: Moment, row: Row) -> str:

@@ -25,6 +25,16 @@ def command(text: str) -> str:
     return f"<code><b>{clean(word)}</b>{space}{clean(rest)}</code>"
 
 
+def sign(text: str) -> str:
+    """A sign for the eye alone: a word beside it says the same."""
+    return f'<span class="sign" aria-hidden="true">{text}</span>'
+
+
+def row_id(row: int | str) -> str:
+    """The id of a row."""
+    return f'<span class="id">{row}</span>'
+
+
 def plural(count: int, word: str) -> str:
     """`1 row`, `2 rows`."""
     return f"{count:,} {word}{'' if count == 1 else 's'}"

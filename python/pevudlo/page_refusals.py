@@ -5,6 +5,7 @@ from __future__ import annotations
 from dataclasses import dataclass
 
 from pevudlo.declared import Declared
+from pevudlo.faults import FAULTS
 from pevudlo.replies import Refused
 
 
@@ -16,4 +17,5 @@ class Explainer:
 
     def explain(self, line: str, reply: Refused) -> str:
         """One refusal in words."""
-        return f"fault {reply.number}"
+        fault = FAULTS.get(reply.number)
+        return fault.words(reply.detail) if fault else f"fault {reply.number}"

@@ -7,7 +7,7 @@ from collections.abc import Mapping
 from pevudlo.declared import Declared
 from pevudlo.grids import Grid, differing, html_of
 from pevudlo.looks import Change, Look, RowRun
-from pevudlo.page_html import cause, clean, command, pending, plural, prose
+from pevudlo.page_html import cause, clean, command, pending, plural, prose, row_id, sign
 from pevudlo.record import Ran, Step
 from pevudlo.replies import Row
 
@@ -44,10 +44,7 @@ def row_body(run: RowRun, declared: Declared) -> str:
     """Behind a row: its cause where it was refused, the keys that it changed, and folded those that it left."""
     parts = []
     if run.fault is not None:
-        parts.append(
-            f'<p class="cause"><span class="sign" aria-hidden="true">✕</span> refused, {clean(cause(run.fault))}. '
-            "It stores nothing.</p>"
-        )
+        parts.append(f'<p class="cause">{sign("✕")} refused, {clean(cause(run.fault))}. ' "It stores nothing.</p>")
     if run.changes is None:
         return "".join(parts) + '<p class="quiet">Not drawn: the numbers of this page are too many.</p>'
     shown = [change_grid(change, run.context, declared) for change in run.changes if not is_plain(change)]
@@ -70,8 +67,8 @@ def row_card(run: RowRun, comments: Comments, declared: Declared) -> str:
     state = ("refused", "✕", "refused") if refused else ("ran", "✓", "settled")
     return (
         f'{prose(comments.get(run.row.row, ()))}<article class="row {state[0]}" aria-label="row {run.row.row}">'
-        f'<header><span class="id">{run.row.row}</span>{command(run.row.text)}'
-        f'<span class="state"><span class="sign" aria-hidden="true">{state[1]}</span> {state[2]}</span></header>'
+        f"<header>{row_id(run.row.row)}{command(run.row.text)}"
+        f'<span class="state">{sign(state[1])} {state[2]}</span></header>'
         f"<div>{row_body(run, declared)}</div></article>"
     )
 
@@ -79,15 +76,12 @@ def row_card(run: RowRun, comments: Comments, declared: Declared) -> str:
 def kept_card(rows: list[Row]) -> str:
     """Rows that lie beside each other and kept their results."""
     if len(rows) == 1:
-        named = f'<span class="id">{rows[0].row}</span>{command(rows[0].text)}'
+        named = f"{row_id(rows[0].row)}{command(rows[0].text)}"
     else:
-        items = "".join(f'<li><span class="id">{row.row}</span>{command(row.text)}</li>' for row in rows)
+        items = "".join(f"<li>{row_id(row.row)}{command(row.text)}</li>" for row in rows)
         named = f"<details><summary>{plural(len(rows), 'row')}</summary><ol>{items}</ol></details>"
     word = "keeps its result" if len(rows) == 1 else "keep their results"
-    return (
-        f'<div class="row kept">{named}<span class="state"><span class="sign" aria-hidden="true">●</span> '
-        f"{word}</span></div>"
-    )
+    return f'<div class="row kept">{named}<span class="state">{sign("●")} ' f"{word}</span></div>"
 
 
 def ran_section(step: Step, ran: Ran, comments: Comments, declared: Declared) -> str:
