@@ -5,6 +5,7 @@ from __future__ import annotations
 import os
 import shutil
 import subprocess
+from functools import cache
 from pathlib import Path
 from typing import Callable, Iterable
 
@@ -44,12 +45,18 @@ def by_repository(looked: list[str], root: Path = ROOT) -> Path | None:
     if not (is_program(front) and (root / "dist" / "sums").is_file()):
         looked.append(f"{root} is no repository of it")
         return None
+    program = said_by(front)
+    if program is None:
+        looked.append(f"{front} --where names no program")
+    return program
+
+
+@cache
+def said_by(front: Path) -> Path | None:
+    """What `--where` answers: asked once, since it reads all sources."""
     ran = subprocess.run([front, "--where"], stdout=subprocess.PIPE, stdin=subprocess.DEVNULL, text=True)
     program = Path(ran.stdout.strip())
-    if ran.returncode != 0 or not is_program(program):
-        looked.append(f"{front} --where ended with status {ran.returncode}")
-        return None
-    return program
+    return program if ran.returncode == 0 and is_program(program) else None
 
 
 def by_path(looked: list[str]) -> Path | None:
