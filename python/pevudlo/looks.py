@@ -11,12 +11,12 @@ from collections.abc import Sequence
 from dataclasses import dataclass
 from typing import Union
 
-from pevudlo.declared import Declared
+from pevudlo.board import Board
 from pevudlo.grids import MOST_CELLS
+from pevudlo.keys import axes_of, context_of, width_of
 from pevudlo.pipe import Pipe
 from pevudlo.replies import PendingReply, Reply, Row, RowFault, Rows, Faults, Values, parse
 from pevudlo.shapes import processors_of
-from pevudlo.written import set_named_in, written_keys
 
 MOST_NUMBERS = 400_000
 """How many numbers a record looks at; a picture counts as few of them."""
@@ -83,9 +83,9 @@ def _code_of(width: int) -> str:
 class Looker:
     """Asks a pipe for looks. What it asks changes nothing in the program."""
 
-    def __init__(self, pipe: Pipe, declared: Declared, numbers: int = MOST_NUMBERS, listed: int = MOST_LISTED) -> None:
+    def __init__(self, pipe: Pipe, board: Board, numbers: int = MOST_NUMBERS, listed: int = MOST_LISTED) -> None:
         self.pipe = pipe
-        self.declared = declared
+        self.board = board
         self.numbers_left = numbers
         self.listed_left = listed
         self._earlier: dict[tuple[int, str], bytes] = {}
@@ -103,7 +103,7 @@ class Looker:
         if isinstance(reply, PendingReply):
             return Look(key, place, None, reply.row)
         assert isinstance(reply, Values), reply
-        return Look(key, place, packed(reply.numbers, self.declared.width_of(key)), None)
+        return Look(key, place, packed(reply.numbers, width_of(self.board, key)), None)
 
     def rows(self) -> tuple[Row, ...] | None:
         """The rows in program order, or none where the record asks for no more lists."""
@@ -127,7 +127,7 @@ class Looker:
         found = []
         place = "start"
         for row in rows:
-            keys = written_keys(row.text, self.declared.set_of)
+            keys = self.board.keys_written(row.text)
             if row.row in ran:
                 found.append(self._run(row, place, keys, latest, faults.get(row.row)))
             if row.row not in ran or found[-1].changes is None:
@@ -142,7 +142,7 @@ class Looker:
         """What one row did. `latest` has keys whose last writer was looked at, as they stand before the row."""
         if not self._may_look(keys):
             return RowRun(row, None, None, fault)
-        context_key = set_named_in(row.text, self.declared.set_of) + ".context"
+        context_key = context_of(self.board, row.text)
         for key in (context_key, *keys):
             if key not in latest:
                 latest[key] = self.look(key, place)
@@ -156,7 +156,7 @@ class Looker:
 
     def _may_look(self, keys: tuple[str, ...]) -> bool:
         """Whether these keys may still be looked at; then they count."""
-        counts = (processors_of(self.declared.axes_of(key)) for key in keys)
+        counts = (processors_of(axes_of(self.board, key)) for key in keys)
         wanted = sum(count if count <= MOST_CELLS else PICTURE_COUNTS for count in counts)
         if wanted > self.numbers_left:
             self.numbers_left = 0
@@ -169,4 +169,4 @@ class Looker:
         earlier = self._earlier.get((row, now.key))
         if now.numbers is not None:
             self._earlier[(row, now.key)] = zlib.compress(memoryview(now.numbers), 1)
-        return None if earlier is None else unpacked(zlib.decompress(earlier), self.declared.width_of(now.key))
+        return None if earlier is None else unpacked(zlib.decompress(earlier), width_of(self.board, now.key))

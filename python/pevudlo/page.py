@@ -16,8 +16,7 @@ from pevudlo.page_blocks_html import body_of, heading_of
 from pevudlo.page_end import end_section
 from pevudlo.page_frame import document
 from pevudlo.page_history import Moment, history_table, moment_of
-from pevudlo.page_html import Explain, plural, prose, sign
-from pevudlo.page_refusals import Explainer
+from pevudlo.page_html import plural, prose, sign
 from pevudlo.pipe import Pipe, PipeError
 from pevudlo.program import NotFound, find
 from pevudlo.record import Recorder, Step
@@ -35,7 +34,6 @@ class Page:
 
     title: str
     recorder: Recorder
-    explain: Explain
     intro: tuple[tuple[str, ...], ...] = ()
     sections: list[str] = field(default_factory=list)
     links: list[str] = field(default_factory=list)
@@ -84,7 +82,7 @@ class Page:
                 return
         anchor = f"part-{len(self.links) + 1}"
         mark, heading = heading_of(block)
-        body = body_of(block, self.recorder.declared, self.comments, self.explain)
+        body = body_of(block, self.recorder.board, self.comments)
         if block.kind in (Kind.ROWS, Kind.RAN):
             self.comments.clear()
         moment = moment_of(block.steps[0], anchor)
@@ -104,11 +102,11 @@ class Page:
 
     def _summary(self) -> str:
         """What there is, in a line."""
-        declared = self.recorder.declared
+        board = self.recorder.board
         parts = [
             plural(self.commands, "command"),
-            plural(len(declared.sets), "set"),
-            plural(len(declared.fields), "field"),
+            plural(len(board.sets), "set"),
+            plural(len(board.fields), "field"),
         ]
         edits = sum(not moment.is_run for moment in self.moments)
         if edits:
@@ -123,8 +121,7 @@ class Page:
 
 def page_of(title: str, lines: Iterable[str], pipe: Pipe) -> Page:
     """The page of a script that is run by this pipe."""
-    recorder = Recorder(pipe)
-    page = Page(title, recorder, Explainer(recorder.declared).explain)
+    page = Page(title, Recorder(pipe))
     page.fill(lines)
     return page
 

@@ -4,15 +4,16 @@ from __future__ import annotations
 
 from collections.abc import Callable
 
-from pevudlo.declared import Declared
+from pevudlo.board import Board
 from pevudlo.grids import Grid, html_of, shape_text
+from pevudlo.keys import axes_of, width_of
 from pevudlo.looks import Look
 from pevudlo.page_blocks import Block, Kind
 from pevudlo.page_edits import edit_body
-from pevudlo.page_html import Explain, cause, clean, command, look_grid, plural, prose, refusal, row_id, sign
+from pevudlo.page_html import cause, clean, command, look_grid, plural, prose, refusal, row_id, sign
 from pevudlo.page_rows import Comments, ran_section
 from pevudlo.record import Step
-from pevudlo.replies import Faults, PendingReply, Refused, Rows, Values
+from pevudlo.replies import Faults, PendingReply, Rows, Values
 
 WORDS_OF_VERDICTS = {
     "kept": "its result is the row's, and settles it",
@@ -52,21 +53,21 @@ def _heading_of_run(step: Step) -> str:
     return f"{plural(count, 'row')} ran again" + (f", {kept:,} kept" if kept else ", none kept")
 
 
-def body_of(block: Block, declared: Declared, comments: Comments, explain: Explain) -> str:
+def body_of(block: Block, board: Board, comments: Comments) -> str:
     """The block as HTML, without its heading."""
     step = block.steps[0]
     if block.kind is Kind.EDIT:
-        return prose(step.comments) + _line(step) + _given(block, declared) + edit_body(step)
+        return prose(step.comments) + _line(step) + _given(block, board) + edit_body(step)
     if block.kind is Kind.RAN:
-        section = ran_section(step, step.ran, comments, declared) if step.ran else ""
+        section = ran_section(step, step.ran, comments, board) if step.ran else ""
         return prose(step.comments) + _line(step) + section
     shows: dict[Kind, Callable[[], str]] = {
-        Kind.DECLARED: lambda: _declared(block, declared),
-        Kind.GIVEN: lambda: prose(step.comments) + _given(block, declared),
+        Kind.DECLARED: lambda: _declared(block, board),
+        Kind.GIVEN: lambda: prose(step.comments) + _given(block, board),
         Kind.ROWS: lambda: _rows(block),
-        Kind.LOOKS: lambda: prose(step.comments) + _looks(block, declared),
+        Kind.LOOKS: lambda: prose(step.comments) + _looks(block, board),
         Kind.ORDERS: lambda: "".join(prose(each.comments) + _asked(each) for each in block.steps),
-        Kind.REFUSED: lambda: "".join(_refused(each, explain) for each in block.steps),
+        Kind.REFUSED: lambda: "".join(_refused(each) for each in block.steps),
     }
     return shows[block.kind]()
 
@@ -81,31 +82,29 @@ def _line(step: Step, more: str = "") -> str:
     )
 
 
-def _declared(block: Block, declared: Declared) -> str:
+def _declared(block: Block, board: Board) -> str:
     """Sets with their axes, and the fields of each with their widths."""
     parts = [prose(step.comments) for step in block.steps]
     names = [step.text.split(" ")[1] for step in block.steps]
     sets = [
         name
-        for name in declared.sets
-        if name in names or any(declared.fields[n].set == name for n in names if n in declared.fields)
+        for name in board.sets
+        if name in names or any(board.fields[n].set == name for n in names if n in board.fields)
     ]
     for name in sets:
         fields = [
-            (each, declared.fields[each])
-            for each in names
-            if each in declared.fields and declared.fields[each].set == name
+            (each, board.fields[each]) for each in names if each in board.fields and board.fields[each].set == name
         ]
         items = "".join(f"<li><b>{clean(each)}</b> {plural(field.width, 'bit')}</li>" for each, field in fields)
         parts.append(
-            f'<div class="set"><p><b>{clean(name)}</b> {shape_text(declared.sets[name])}</p>'
+            f'<div class="set"><p><b>{clean(name)}</b> {shape_text(board.sets[name])}</p>'
             + (f"<ul>{items}</ul>" if items else "")
             + "</div>"
         )
     return "".join(parts)
 
 
-def _given(block: Block, declared: Declared) -> str:
+def _given(block: Block, board: Board) -> str:
     """Input data as grids: each key once, with what changed since before the block."""
     firsts: dict[str, Look] = {}
     lasts: dict[str, Look] = {}
@@ -114,7 +113,7 @@ def _given(block: Block, declared: Declared) -> str:
             firsts.setdefault(step.given[0].key, step.given[0])
             lasts[step.given[1].key] = step.given[1]
     marks = block.kind is Kind.EDIT
-    grids = [look_grid(look, declared, firsts[key] if marks else None) for key, look in lasts.items()]
+    grids = [look_grid(look, board, firsts[key] if marks else None) for key, look in lasts.items()]
     return f'<div class="grids">{"".join(grids)}</div>' if grids else ""
 
 
@@ -135,14 +134,14 @@ def _rows(block: Block) -> str:
     return f'<ol class="fates">{"".join(items)}</ol>'
 
 
-def _looks(block: Block, declared: Declared) -> str:
+def _looks(block: Block, board: Board) -> str:
     """Keys that the script shows."""
     grids = []
     for step in block.steps:
         _, key, place = step.text.split(" ", 2)
         where = {"start": "at the start", "end": "at the end"}.get(place, place.replace("after", "after row"))
         if isinstance(step.reply, Values):
-            grid = Grid(key, declared.axes_of(key), declared.width_of(key), step.reply.numbers, place=where)
+            grid = Grid(key, axes_of(board, key), width_of(board, key), step.reply.numbers, place=where)
             grids.append(f'<div class="look" data-line="{step.number}">{html_of(grid)}</div>')
         elif isinstance(step.reply, PendingReply):
             grids.append(
@@ -173,7 +172,7 @@ def _asked(step: Step) -> str:
     return _line(step, more) + table
 
 
-def _refused(step: Step, explain: Explain) -> str:
+def _refused(step: Step) -> str:
     """A refused line."""
-    assert isinstance(step.reply, Refused)
-    return prose(step.comments) + refusal(step.text, step.number, step.lines, step.reply, explain)
+    assert step.explanation is not None
+    return prose(step.comments) + refusal(step.explanation, step.lines[0], step.number)

@@ -5,7 +5,6 @@ from __future__ import annotations
 from pevudlo.page_html import cause, command, pending, plural, row_id, sign
 from pevudlo.record import Recorder
 from pevudlo.replies import Row, Status
-from pevudlo.written import written_keys
 
 MOST_PENDING = 60
 """Of how many unsettled rows the keys are looked at."""
@@ -48,7 +47,7 @@ def _sentence(count: int, unsettled: int) -> str:
 
 def _open_row(row: Row, recorder: Recorder) -> str:
     """An unsettled row with its keys, as the program shows them just after it."""
-    keys = written_keys(row.text, recorder.declared.set_of)
+    keys = recorder.board.keys_written(row.text)
     looks = [recorder.looker.look(key, f"after {row.row}") for key in keys]
     shown = "".join(pending(look) for look in looks if look.numbers is None)
     return (

@@ -2,16 +2,16 @@
 
 from __future__ import annotations
 
-from collections.abc import Callable, Iterable
+from collections.abc import Iterable
 from html import escape
 
-from pevudlo.declared import Declared
+from pevudlo.board import Board
 from pevudlo.grids import Grid, differing, html_of
+from pevudlo.hints import Explanation
+from pevudlo.keys import axes_of, width_of
 from pevudlo.looks import Look
-from pevudlo.replies import Cause, Refused, RowFault
-
-Explain = Callable[[str, Refused], str]
-"""Says in words why a line was refused."""
+from pevudlo.replies import Cause, RowFault
+from pevudlo.visible import caret_lines, visible
 
 
 def clean(text: str) -> str:
@@ -60,12 +60,12 @@ def pending(look: Look) -> str:
     )
 
 
-def look_grid(look: Look, declared: Declared, before: Look | None = None, place: str = "") -> str:
+def look_grid(look: Look, board: Board, before: Look | None = None, place: str = "") -> str:
     """A key at a place as a grid, with what isn't as in `before` marked; or the word pending."""
     if look.numbers is None:
         return pending(look)
     changed = differing(look.numbers, before.numbers) if before and before.numbers is not None else frozenset()
-    axes, width = declared.axes_of(look.key), declared.width_of(look.key)
+    axes, width = axes_of(board, look.key), width_of(board, look.key)
     return html_of(Grid(look.key, axes, width, look.numbers, changed, place=place))
 
 
@@ -76,14 +76,16 @@ def cause(fault: RowFault) -> str:
     return f"bad address: processor {fault.processor} holds an address outside its set"
 
 
-def refusal(text: str, number: int, lines: tuple[str, ...], reply: Refused, explain: Explain) -> str:
-    """A line that the program refused: the line, a caret where it leaves the grammar, and why."""
-    caret = ""
-    if reply.number == 20 and reply.detail is not None and reply.detail <= 4 * 80:
-        caret = f'\n<span class="caret" aria-hidden="true">{" " * (reply.detail - 1)}^</span>'
-    shown = text if len(text) <= 400 else text[:400] + " .."
+def refusal(explanation: Explanation, reply: str, number: int = 0) -> str:
+    """A line that the program refused: the line, a caret where it leaves the grammar, why, and a hint."""
+    line, column = explanation.line, explanation.column
+    shown = clean(visible(line if len(line) <= 400 else line[:397] + "..."))
+    if column is not None:
+        cut, caret = caret_lines(line, column)
+        shown = f'{clean(cut)}\n<span class="caret" aria-hidden="true">{clean(caret)}</span>'
+    hint = f'<p class="hint">{clean(explanation.hint)}</p>' if explanation.hint else ""
+    place = f"<b>Line {number}</b> is refused" if number else "<b>Refused</b>"
     return (
-        f'<div class="refused"><p><span class="sign" aria-hidden="true">✕</span> <b>Line {number}</b> is refused '
-        f"<code>{clean(' '.join(lines))}</code></p><pre>{clean(shown)}{caret}</pre>"
-        f'<p class="why">{clean(explain(text, reply))}</p></div>'
+        f'<div class="refused"><p>{sign("✕")} {place}: {clean(explanation.text)} <code>{clean(reply)}</code></p>'
+        f"<pre>{shown}</pre>{hint}</div>"
     )

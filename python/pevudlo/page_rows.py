@@ -4,8 +4,9 @@ from __future__ import annotations
 
 from collections.abc import Mapping
 
-from pevudlo.declared import Declared
+from pevudlo.board import Board
 from pevudlo.grids import Grid, differing, html_of
+from pevudlo.keys import axes_of, width_of
 from pevudlo.looks import Change, Look, RowRun
 from pevudlo.page_html import cause, clean, command, pending, plural, prose, row_id, sign
 from pevudlo.record import Ran, Step
@@ -22,7 +23,7 @@ def unselected_of(context: Look | None, key: str) -> frozenset[int]:
     return frozenset(place for place, bit in enumerate(context.numbers) if bit == 0)
 
 
-def change_grid(change: Change, context: Look | None, declared: Declared) -> str:
+def change_grid(change: Change, context: Look | None, board: Board) -> str:
     """A key behind a row, with what the row changed marked, and what an earlier run left otherwise."""
     now, before = change.after.numbers, change.before.numbers
     if now is None:
@@ -31,7 +32,7 @@ def change_grid(change: Change, context: Look | None, declared: Declared) -> str
     other = differing(now, change.earlier) if change.earlier is not None else frozenset()
     key = change.after.key
     unselected = unselected_of(context, key)
-    return html_of(Grid(key, declared.axes_of(key), declared.width_of(key), now, changed, other, unselected))
+    return html_of(Grid(key, axes_of(board, key), width_of(board, key), now, changed, other, unselected))
 
 
 def is_plain(change: Change) -> bool:
@@ -40,20 +41,20 @@ def is_plain(change: Change) -> bool:
     return same and (change.earlier is None or change.earlier == change.after.numbers)
 
 
-def row_body(run: RowRun, declared: Declared) -> str:
+def row_body(run: RowRun, board: Board) -> str:
     """Behind a row: its cause where it was refused, the keys that it changed, and folded those that it left."""
     parts = []
     if run.fault is not None:
         parts.append(f'<p class="cause">{sign("✕")} refused, {clean(cause(run.fault))}. ' "It stores nothing.</p>")
     if run.changes is None:
         return "".join(parts) + '<p class="quiet">Not drawn: the numbers of this page are too many.</p>'
-    shown = [change_grid(change, run.context, declared) for change in run.changes if not is_plain(change)]
+    shown = [change_grid(change, run.context, board) for change in run.changes if not is_plain(change)]
     plain = [change for change in run.changes if is_plain(change)]
     if shown:
         parts.append(f'<div class="grids">{"".join(shown)}</div>')
     if plain:
         names = ", ".join(clean(change.after.key) for change in plain)
-        grids = "".join(change_grid(change, run.context, declared) for change in plain)
+        grids = "".join(change_grid(change, run.context, board) for change in plain)
         parts.append(
             f'<details class="plain"><summary>as before the row: {names}</summary>'
             f'<div class="grids">{grids}</div></details>'
@@ -61,7 +62,7 @@ def row_body(run: RowRun, declared: Declared) -> str:
     return "".join(parts)
 
 
-def row_card(run: RowRun, comments: Comments, declared: Declared) -> str:
+def row_card(run: RowRun, comments: Comments, board: Board) -> str:
     """One row that ran."""
     refused = run.fault is not None
     state = ("refused", "✕", "refused") if refused else ("ran", "✓", "settled")
@@ -69,7 +70,7 @@ def row_card(run: RowRun, comments: Comments, declared: Declared) -> str:
         f'{prose(comments.get(run.row.row, ()))}<article class="row {state[0]}" aria-label="row {run.row.row}">'
         f"<header>{row_id(run.row.row)}{command(run.row.text)}"
         f'<span class="state">{sign(state[1])} {state[2]}</span></header>'
-        f"<div>{row_body(run, declared)}</div></article>"
+        f"<div>{row_body(run, board)}</div></article>"
     )
 
 
@@ -84,7 +85,7 @@ def kept_card(rows: list[Row]) -> str:
     return f'<div class="row kept">{named}<span class="state">{sign("●")} ' f"{word}</span></div>"
 
 
-def ran_section(step: Step, ran: Ran, comments: Comments, declared: Declared) -> str:
+def ran_section(step: Step, ran: Ran, comments: Comments, board: Board) -> str:
     """All rows after a line that ran some: those that ran with their keys, the others in a line."""
     runs = {run.row.row: run for run in ran.runs}
     parts = []
@@ -95,7 +96,7 @@ def ran_section(step: Step, ran: Ran, comments: Comments, declared: Declared) ->
             if kept:
                 parts.append(kept_card(kept))
                 kept = []
-            parts.append(row_card(runs[row.row], comments, declared))
+            parts.append(row_card(runs[row.row], comments, board))
         elif row.row in ran.kept and others:
             kept.append(row)
     if kept:

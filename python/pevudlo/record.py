@@ -5,7 +5,8 @@ from __future__ import annotations
 from collections.abc import Iterable, Iterator
 from dataclasses import dataclass, replace
 
-from pevudlo.declared import Declared
+from pevudlo.board import Board
+from pevudlo.hints import Explanation, explained
 from pevudlo.looks import Look, Looker, RowRun
 from pevudlo.pipe import Pipe
 from pevudlo.replies import OrderTaken, Refused, Reply, Row, Settled, Status, Verdict, Word, parse
@@ -41,7 +42,8 @@ class Step:
     """A command of a script: its line's number from 1, its text, and the lines of its reply.
 
     `comments` are the comments above it, a tuple of lines a paragraph. `given` is the key of an `input` at the start,
-    before and after it. `unlisted` says that the rows weren't asked for, since they are too many.
+    before and after it. `unlisted` says that the rows weren't asked for, since they are too many. `explanation` is of a
+    refused line, by what was declared then.
     """
 
     number: int
@@ -53,6 +55,7 @@ class Step:
     touched: Touched | None = None
     ran: Ran | None = None
     unlisted: bool = False
+    explanation: Explanation | None = None
 
     @property
     def word(self) -> str:
@@ -66,11 +69,11 @@ class Step:
 
 
 class Recorder:
-    """Hands lines to a program, and looks at what they did. `declared` grows as it goes."""
+    """Hands lines to a program, and looks at what they did. `board` grows as it goes."""
 
     def __init__(self, pipe: Pipe, looker: Looker | None = None) -> None:
-        self.looker = looker or Looker(pipe, Declared())
-        self.declared = self.looker.declared
+        self.looker = looker or Looker(pipe, Board())
+        self.board = self.looker.board
         self.closing: tuple[tuple[str, ...], ...] = ()
         self._pipe = pipe
         self._orders: dict[int, int] = {}
@@ -97,9 +100,9 @@ class Recorder:
         was = self._rows_before(words[0])
         lines = tuple(self._pipe.ask(line))
         step = Step(number, line, lines, parse(lines))
-        if step.is_refused:
-            return step
-        self.declared.note(line)
+        if isinstance(step.reply, Refused):
+            return replace(step, explanation=explained(line, step.reply, self.board))
+        self.board.note(line, lines[0])
         if before is not None:
             step = replace(step, given=(before, self.looker.look(before.key, "start")))
         if words[0] in ("input", "insert", "delete", "replace"):
@@ -112,7 +115,7 @@ class Recorder:
 
     def _start_of(self, words: list[str]) -> Look | None:
         """The key of an `input` as it is before it."""
-        is_input = words[0] == "input" and len(words) > 2 and self.declared.is_key(words[1])
+        is_input = words[0] == "input" and len(words) > 2 and self.board.set_of(words[1]) is not None
         return self.looker.look(words[1], "start") if is_input else None
 
     def _rows_before(self, word: str) -> tuple[Row, ...] | None:
