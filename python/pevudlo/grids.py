@@ -49,6 +49,8 @@ class Grid:
 
 def differing(now: Sequence[int], before: Sequence[int]) -> frozenset[int]:
     """The processors whose numbers aren't the same."""
+    if now == before:
+        return _NOTHING
     return frozenset(place for place, (one, two) in enumerate(zip(now, before)) if one != two)
 
 
@@ -177,7 +179,7 @@ def _html_picture(grid: Grid) -> str:
     parts = [_image(grid, grid.values, f"{grid.key}: {summary_of(grid)}", grid.unselected, "")]
     for marked, word in ((grid.changed, "changed"), (grid.other, "other than before"), (grid.unselected, "unselected")):
         if 0 < len(marked) < count:
-            mask = [int(place in marked) for place in range(count)]
+            mask = bytes(place in marked for place in range(count))
             parts.append(_image(grid, mask, f"{grid.key}: bright where {word}", _NOTHING, word))
     return f"<figcaption>{_caption_of(grid)} <em>{summary_of(grid)}</em></figcaption><div>{''.join(parts)}</div>"
 

@@ -37,14 +37,22 @@ class Picture:
 
 def picture_of(axes: tuple[int, ...], values: Sequence[int], unselected: frozenset[int] = frozenset()) -> Picture:
     """The heat picture of one value a processor, by the axes of their set."""
-    least, greatest = min(values), max(values)
-    scale = max(1, greatest - least)
-    levels = bytearray((value - least) * (STEPS - 1) // scale for value in values)
-    if least == greatest and least > 0:
-        levels = bytearray([STEPS - 1]) * len(values)
+    levels = _levels_of(values)
     for processor in unselected:
         levels[processor] += STEPS
     return _mosaic(axes, levels)
+
+
+def _levels_of(values: Sequence[int]) -> bytearray:
+    """A brightness for each value. Where all are the same, zeros are dark and others bright."""
+    least, greatest = min(values), max(values)
+    if least == greatest:
+        return bytearray([STEPS - 1 if least else 0]) * len(values)
+    scale = greatest - least
+    if isinstance(values, bytes):
+        table = bytes(max(0, min(STEPS - 1, (value - least) * (STEPS - 1) // scale)) for value in range(256))
+        return bytearray(values.translate(table))
+    return bytearray((value - least) * (STEPS - 1) // scale for value in values)
 
 
 def _mosaic(axes: tuple[int, ...], levels: bytearray) -> Picture:
@@ -85,7 +93,7 @@ def _band(tiles: list[list[range]], side: int, levels: bytearray) -> list[bytes]
 def _address(rows: list[bytes]) -> str:
     """The rows of places in the palette as a PNG, as a data address."""
     size = struct.pack(">IIBBBBB", len(rows[0]), len(rows), 8, 3, 0, 0, 0)
-    body = zlib.compress(b"".join(b"\0" + row for row in rows), 9)
+    body = zlib.compress(b"".join(b"\0" + row for row in rows), 6)
     parts = [_chunk(b"IHDR", size), _chunk(b"PLTE", _palette()), _chunk(b"tRNS", b"\xff" * GAP + b"\0")]
     png = b"\x89PNG\r\n\x1a\n" + b"".join(parts) + _chunk(b"IDAT", body) + _chunk(b"IEND", b"")
     return "data:image/png;base64," + base64.b64encode(png).decode("ascii")
