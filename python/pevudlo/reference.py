@@ -6,18 +6,41 @@ words, and an example to paste with the result that it shows.
 
 from __future__ import annotations
 
+from dataclasses import dataclass
+
 from pevudlo import reference_arithmetic, reference_commands, reference_faults, reference_flags
 from pevudlo import reference_lines, reference_mail
 from pevudlo.reference_entry import Entry, Kind
 
-ENTRIES: tuple[Entry, ...] = (
-    *reference_commands.ENTRIES,
-    *reference_arithmetic.ENTRIES,
-    *reference_flags.ENTRIES,
-    *reference_lines.ENTRIES,
-    *reference_mail.ENTRIES,
-    *reference_faults.ENTRIES,
+
+@dataclass(frozen=True)
+class Family:
+    """Entries that belong together, with a title."""
+
+    title: str
+    entries: tuple[Entry, ...]
+
+
+FAMILIES: tuple[Family, ...] = (
+    Family("Commands", reference_commands.ENTRIES),
+    Family("Sums and differences", reference_arithmetic.SUMS),
+    Family("Products and quotients", reference_arithmetic.PRODUCTS),
+    Family("The greater and the lesser", reference_arithmetic.CHOICES),
+    Family("Bits", reference_arithmetic.OF_BITS),
+    Family("Comparisons", reference_arithmetic.COMPARISONS),
+    Family("Moves", reference_arithmetic.OF_MOVES),
+    Family("Coordinates and addresses", reference_arithmetic.PLACES),
+    Family("The test flag", reference_flags.OF_TEST),
+    Family("The context flag", reference_flags.OF_CONTEXT),
+    Family("Neighbours", reference_lines.NEIGHBOURS),
+    Family("Scans", reference_lines.SCANS),
+    Family("Spreads", reference_lines.SPREADS),
+    Family("Reduces", reference_lines.REDUCES),
+    Family("By address", reference_mail.ENTRIES),
+    Family("Faults", reference_faults.ENTRIES),
 )
+
+ENTRIES: tuple[Entry, ...] = tuple(entry for family in FAMILIES for entry in family.entries)
 
 LETTERS = {
     "D": "the destination, a field",
@@ -41,8 +64,8 @@ WORDS = {
     "NAME": "1 to 16 letters, digits, `-` and `_`, the first one a letter; not `none`",
     "AXES": "lengths with an x between each two: `4`, `2x2`, `8x4x2`",
     "KEY": "a field's name, or a set's with `.context`, `.test`, `.carry` or `.overflow`",
-    "NUM": "a whole number without leading zeros",
-    "VAL": "a whole number without leading zeros",
+    "NUM": "a whole number below 2^64, without leading zeros",
+    "VAL": "a whole number below 2^128, without leading zeros",
     "INSTR": "an instruction in its one spelling",
 }
 """What the words of a command's spelling stand for."""

@@ -291,5 +291,3 @@ PLACES = (
         worked(GRID, "my-send-address-1L c 8", {"c": "0 1 2 3 4 5 6 0"}),
     ),
 )
-
-ENTRIES: tuple[Entry, ...] = SUMS + PRODUCTS + CHOICES + OF_BITS + COMPARISONS + OF_MOVES + PLACES

@@ -35,11 +35,14 @@ def on_context(name: str, operand: str, does: str, key: str, values: str) -> Ent
     return instruction(name, said, flags, worked(CONTEXT, f"{name} {operand}", {key: values}))
 
 
-ENTRIES: tuple[Entry, ...] = (
+OF_TEST: tuple[Entry, ...] = (
     on_test("set-test", "S", "Test becomes 1.", "S.test", "1 1 0 1"),
     on_test("clear-test", "S", "Test becomes 0.", "S.test", "0 0 0 1"),
     on_test("load-test", "f", "Test becomes the bit F.", "S.test", "1 0 0 1"),
     on_test("store-test", "f", "Stores the test flag in the bit F.", "f", "0 1 1 0"),
+)
+
+OF_CONTEXT: tuple[Entry, ...] = (
     on_context("set-context", "S", "Context becomes 1: all processors are selected.", "S.context", "1 1 1 1"),
     on_context("clear-context", "S", "Context becomes 0: no processor is selected.", "S.context", "0 0 0 0"),
     on_context("invert-context", "S", "Context becomes the other bit.", "S.context", "0 0 1 1"),

@@ -14,16 +14,6 @@ input v 0 10 11 12 13 20 21 22 23
 input G.context 3 0
 """
 
-MAKES = {
-    "u-add": "adds",
-    "logior": "makes the or of bits of",
-    "logand": "makes the and of bits of",
-    "logxor": "makes the exclusive or of bits of",
-    "u-max": "finds the greatest of",
-    "u-min": "finds the least of",
-}
-"""What each combiner does with numbers."""
-
 COMBINES_TO = {
     "u-add": "the sum",
     "logior": "the or of bits",
@@ -74,9 +64,10 @@ def scan(combiner: str, upward: str, downward: str, overflow: str = "") -> Entry
     """A scan upward over the whole line into d, and one downward that begins anew at each segment, into e."""
     name = f"scan-with-{combiner}-1L"
     does = (
-        f"Goes along axis X in the direction, and {MAKES[combiner]} the values of A of the selected processors from "
-        "the start of the segment to each selected one. `inclusive` counts its own value, `exclusive` doesn't: the "
-        f"first one gets {UNITS[combiner]} then. A segment begins where G is 1; with `none` the line is one segment."
+        f"Stores in D of each selected processor {COMBINES_TO[combiner]} of the values of A of the selected processors "
+        "from the start of its segment to itself, along axis X in the direction. `inclusive` counts its own value, "
+        f"`exclusive` doesn't: the first one of a segment gets {UNITS[combiner]} then. A segment begins where G is 1, "
+        "whatever the context there; with `none` the line is one segment."
     )
     shows = {"d": upward, "e": downward} | ({"S.overflow after 1": overflow} if overflow else {})
     rows = f"{name} d v 0 4 upward inclusive none ; {name} e v 0 4 downward exclusive g"
@@ -142,9 +133,9 @@ SCANS = (
     scan("u-min", "3 1 1 1 1 0 1 1", "1 1 1 15 2 0 6 15"),
     instruction(
         "scan-with-copy-1L",
-        "Stores the value of A of the first selected processor of the segment in D, in each selected processor of it. "
-        "First is meant along axis X in the direction. A segment begins where G is 1; with `none` the line is one "
-        "segment.",
+        "Stores in D of each selected processor the value of A of the first selected processor of its segment, along "
+        "axis X in the direction. A segment begins where G is 1, whatever the context there; with `none` the line is "
+        "one segment.",
         "",
         worked(
             line_data("copy"),
@@ -178,5 +169,3 @@ REDUCES = (
     reduce("u-max", "0 0 0 0 0 0 9 0"),
     reduce("u-min", "0 0 0 0 0 0 2 0"),
 )
-
-ENTRIES: tuple[Entry, ...] = NEIGHBOURS + SCANS + SPREADS + REDUCES
