@@ -97,7 +97,7 @@ def get_from_news(world: World, length: int) -> str:
 
 
 def scan_with_u_add(world: World, length: int) -> str:
-    """Sums along axis 0 of the selected processors, from the segment's start on: the sum, less that before the start."""
+    """Sums along axis 0 of the selected, from the start of the segment on: the sum, less that before the start."""
     chosen = world.arrays["S.context"] == 1
     sums = numpy.cumsum(numpy.where(chosen, world.low("a", length), 0), axis=-1)
     places = numpy.arange(world.axes[0])
