@@ -1,0 +1,205 @@
+"""`explain`: each reply stands at its line, refusals are in words, and the exit status is the program's."""
+
+from __future__ import annotations
+
+import os
+import re
+import signal
+import subprocess
+import sys
+import time
+from pathlib import Path
+
+import pytest
+from random_lines import RandomLines
+
+from pevudlo.program import find
+
+REPOSITORY = Path(__file__).resolve().parents[2]
+SCRIPTS = sorted(REPOSITORY.glob("examples/*.paris")) + sorted(REPOSITORY.glob("rows/*/*.paris"))
+AT_LINE = re.compile(r"^([^\s:]+):(\d+): (.*)$")
+
+
+def run(*words: str | Path, stdin: bytes = b"", timeout: float = 60) -> subprocess.CompletedProcess[str]:
+    """Runs `python3 -m pevudlo explain` on words."""
+    environment = {**os.environ, "PARIS_FRONT": str(find()), "PYTHONPATH": str(REPOSITORY / "python")}
+    return subprocess.run(
+        [sys.executable, "-P", "-m", "pevudlo", "explain", *map(str, words)],
+        input=stdin.decode("utf-8", "surrogateescape"),
+        capture_output=True,
+        text=True,
+        errors="surrogateescape",
+        timeout=timeout,
+        env=environment,
+    )
+
+
+def blocks_of(said: str) -> list[tuple[int, str, list[str]]]:
+    """What `explain` says, but for the last line: a line's number, what stands behind it, and the lines below."""
+    blocks: list[tuple[int, str, list[str]]] = []
+    for line in said.split("\n")[:-2]:
+        match = AT_LINE.match(line)
+        if match and not line.startswith(" "):
+            blocks.append((int(match[2]), match[3], []))
+        else:
+            blocks[-1][2].append(line)
+    return blocks
+
+
+def replies_of(transcript: list[str]) -> list[list[str]]:
+    """A transcript cut into replies."""
+    replies: list[list[str]] = []
+    while transcript:
+        word, _, number = transcript[0].partition(" ")
+        size = 1 + (int(number) if word in ("rows", "faults") else 0)
+        replies.append(transcript[:size])
+        transcript = transcript[size:]
+    return replies
+
+
+def numbered_commands(lines: list[str]) -> list[tuple[int, str]]:
+    return [(number, line) for number, line in enumerate(lines, start=1) if line and not line.startswith("#")]
+
+
+def assert_matches(said: str, lines: list[str], replies: list[list[str]]) -> None:
+    """Each reply stands at the number of its line, whole where it is no grid, and grids have its numbers."""
+    blocks, commands = blocks_of(said), numbered_commands(lines)
+    assert len(blocks) == len(commands) == len(replies)
+    for (number, head, more), (at, line), reply in zip(blocks, commands, replies):
+        assert number == at, line
+        if reply[0].startswith("values "):
+            assert head.startswith(f"values of {line.split(' ')[1]} "), line
+            numbers = [text for each in more if not each.rstrip().endswith(":") for text in each.split()]
+            # A long line of one axis has the first processor before each of its parts.
+            numbers = [text for text in numbers if not text.endswith(":")]
+            assert numbers == reply[0].split()[1:], line
+            continue
+        assert head == reply[0] or head.startswith(f"{reply[0]}: "), line
+        if reply[0].startswith("rows "):
+            assert [each.strip() for each in more] == reply[1:], line
+        if reply[0].startswith("faults "):
+            assert [" ".join(each.split(":")[0].split()) for each in more] == reply[1:], line
+        if reply[0].startswith("refused "):
+            assert len(more) >= 2 and more[-1].strip(), f"no hint for {line!r}"
+
+
+def refused_lines(lines: list[str], replies: list[list[str]]) -> list[int]:
+    return [number for (number, _), reply in zip(numbered_commands(lines), replies) if reply[0].startswith("refused")]
+
+
+def last_line(commands: int, refused: list[int]) -> str:
+    count = "1 command" if commands == 1 else f"{commands} commands"
+    if not refused:
+        return f"{count}, none refused"
+    where = "line" if len(refused) == 1 else "lines"
+    return f"{count}, {len(refused)} refused: {where} {', '.join(map(str, refused))}"
+
+
+@pytest.mark.parametrize("path", SCRIPTS, ids=lambda path: str(path.relative_to(REPOSITORY)))
+def test_each_script_has_the_replies_of_its_transcript(path: Path) -> None:
+    lines = path.read_text().split("\n")
+    replies = replies_of(path.with_suffix(".expected").read_text().splitlines())
+    ran = run(path)
+    assert ran.stderr == ""
+    assert_matches(ran.stdout, lines, replies)
+    refused = refused_lines(lines, replies)
+    assert ran.returncode == bool(refused)
+    assert ran.stdout.split("\n")[-2] == f"{path}: {last_line(len(replies), refused)}"
+
+
+def test_ten_thousand_random_lines(tmp_path: Path) -> None:
+    lines = RandomLines(20).lines(10_000)
+    path = tmp_path / "random.paris"
+    path.write_bytes("\n".join(lines).encode("utf-8", "surrogateescape"))
+    plain = subprocess.run([find()], stdin=path.open("rb"), capture_output=True, timeout=60)
+    replies = replies_of(plain.stdout.decode("ascii").splitlines())
+    refused = refused_lines(lines, replies)
+    # The lines are worth trying: each reply comes often.
+    words = [reply[0].split(" ")[0] for reply in replies]
+    for word in ("ok", "row", "order", "kept", "stale", "values", "pending", "rows", "faults", "settled"):
+        assert words.count(word) >= 20, word
+    met = {reply[0].split(" ")[1] for reply in replies if reply[0].startswith("refused")}
+    assert met >= {"1", "2", "3", "4", "6", "7", "8", "9", "10", "12", "13", "14", "15", "20", "22"}
+    ran = run(path)
+    assert (ran.returncode, ran.stderr) == (1, "")
+    assert_matches(ran.stdout, lines, replies)
+    assert ran.stdout.split("\n")[-2] == f"{path}: {last_line(len(replies), refused)}"
+    assert not re.search(r"[\x00-\x09\x0b-\x1f\x7f-\x9f\udc80-\udcff]", ran.stdout)
+
+
+def test_stop_ends_at_the_first_refusal(tmp_path: Path) -> None:
+    path = tmp_path / "stops.paris"
+    path.write_text("set S 4\n# more\nshw a\nset T 4\n")
+    for words in ([str(path), "--stop"], ["--stop", str(path)]):
+        ran = run(*words)
+        assert ran.returncode == 1
+        assert [number for number, _, _ in blocks_of(ran.stdout)] == [1, 3]
+        assert ran.stdout.split("\n")[-2].endswith("2 commands, 1 refused: line 3; stopped at the first refusal")
+    assert [number for number, _, _ in blocks_of(run(path).stdout)] == [1, 3, 4]
+
+
+def test_a_refusal_with_caret_and_hint(tmp_path: Path) -> None:
+    path = tmp_path / "wrong.paris"
+    path.write_text("set S 4\nfield a S 8\nshow a edn\ninput a 0 300")
+    said = run(path).stdout.split("\n")
+    at = said.index(f"{path}:3: refused 20 8: the line is not in the grammar, from column 8 on")
+    assert said[at + 1 : at + 3] == ["    show a edn", "           ^"]
+    assert "did you mean `end`" in said[at + 3]
+    assert f"{path}:4: refused 9 0: the value for processor 0 does not fit the width" in said
+    assert "300" in said[-3] and "255" in said[-3]
+
+
+def test_words(tmp_path: Path) -> None:
+    for words in ("", "a b", "--stop", "--stop --stop a", "--nope a"):
+        ran = run(*words.split())
+        assert (ran.returncode, ran.stdout) == (2, "")
+        assert ran.stderr.startswith("usage: ")
+    ran = run(tmp_path / "none")
+    assert ran.returncode == 2 and "can't read" in ran.stderr
+    assert run(tmp_path).returncode == 2
+    ran = run("-", stdin=b"set S 4\n")
+    assert ran.stdout == "-:1: ok\n-: 1 command, none refused\n"
+
+
+def test_a_program_that_ends(tmp_path: Path) -> None:
+    program = tmp_path / "fake"
+    program.write_text("#!/bin/sh\nread line; echo 'no memory' >&2; exit 4\n")
+    program.chmod(0o755)
+    path = tmp_path / "one.paris"
+    path.write_text("settle\n")
+    words = [sys.executable, "-P", "-m", "pevudlo", "explain", str(path)]
+    environment = {**os.environ, "PARIS_FRONT": str(program), "PYTHONPATH": str(REPOSITORY / "python")}
+    ran = subprocess.run(words, capture_output=True, text=True, timeout=60, env=environment)
+    assert ran.returncode == 4
+    assert "exit status 4: no memory" in ran.stderr
+
+
+def test_ctrl_c(tmp_path: Path) -> None:
+    """Ctrl-C while rows are settled ends it with status 130, and leaves no child."""
+    path = tmp_path / "long.paris"
+    rows = "insert end u-truncate-3-1L a a a 64\n" * 4_000
+    path.write_text(f"set S 65536\nfield a S 64\n{rows}settle\n")
+    environment = {**os.environ, "PARIS_FRONT": str(find()), "PYTHONPATH": str(REPOSITORY / "python")}
+    words = [sys.executable, "-u", "-P", "-m", "pevudlo", "explain", str(path)]
+    ran = subprocess.Popen(words, stdout=subprocess.PIPE, stderr=subprocess.PIPE, text=True, env=environment)
+    assert ran.stdout is not None
+    for line in ran.stdout:
+        if line.startswith(f"{path}:4002: "):
+            break
+    children = Path(f"/proc/{ran.pid}/task/{ran.pid}/children").read_text().split()
+    assert len(children) == 1
+    time.sleep(0.2)
+    ran.send_signal(signal.SIGINT)
+    ran.communicate(timeout=20)
+    assert ran.returncode == 130
+    assert not Path(f"/proc/{children[0]}").exists()
+
+
+def test_who_stops_reading(tmp_path: Path) -> None:
+    path = tmp_path / "long.paris"
+    path.write_text("settle\n" * 20_000)
+    environment = {**os.environ, "PARIS_FRONT": str(find()), "PYTHONPATH": str(REPOSITORY / "python")}
+    words = f"{sys.executable} -P -m pevudlo explain {path} | head -n 1"
+    ran = subprocess.run(["bash", "-c", words], capture_output=True, text=True, timeout=60, env=environment)
+    assert ran.stdout == f"{path}:1: settled 0\n"
+    assert ran.stderr == ""
