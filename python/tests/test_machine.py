@@ -1,0 +1,410 @@
+"""Machine: worked rows and gallery give their transcripts, values keep their set's shape, refusals are raised."""
+
+from __future__ import annotations
+
+import os
+import signal
+import subprocess
+import sys
+from pathlib import Path
+from typing import Any, Iterator
+
+import numpy
+import pytest
+
+from pevudlo import (
+    END,
+    START,
+    Ended,
+    Machine,
+    Pending,
+    Place,
+    Refusal,
+    Row,
+    Status,
+    WrongShape,
+    after,
+    signed,
+    unsigned,
+)
+from pevudlo.arrays import ValueArray
+from pevudlo.replies import Cause, OrderTaken, RowFault, Verdict, Word
+from pevudlo.values import input_lines
+
+REPOSITORY = Path(__file__).resolve().parents[2]
+SCRIPTS = sorted(REPOSITORY.glob("examples/*.paris")) + sorted(REPOSITORY.glob("rows/*/*.paris"))
+
+
+@pytest.fixture
+def machine() -> Iterator[Machine]:
+    with Machine() as made:
+        made.set("S", 4)
+        made.field("a", "S", 8)
+        made.field("b", "S", 8)
+        made.field("c", "S", 8)
+        yield made
+
+
+def numbers(values: object) -> list[int]:
+    assert isinstance(values, ValueArray)
+    return [int(number) for number in values.ravel().tolist()]
+
+
+def place_of(words: list[str]) -> tuple[Place, list[str]]:
+    if words[0] == "after":
+        return after(int(words[1])), words[2:]
+    return {"start": START, "end": END}[words[0]], words[1:]
+
+
+def edited(machine: Machine, words: list[str]) -> str:
+    """The reply to an edit, made by Machine's calls."""
+    match words:
+        case ["set", name, axes]:
+            machine.set(name, *map(int, axes.split("x")))
+        case ["field", name, of, width]:
+            machine.field(name, of, int(width))
+        case ["input", key, first, *values]:
+            machine[key, int(first) :] = [int(value) for value in values]
+        case ["insert", *rest]:
+            place, text = place_of(rest)
+            return f"row {machine.insert(' '.join(text), place)}"
+        case ["delete", row]:
+            machine.delete(int(row))
+        case ["replace", row, *text]:
+            machine.replace(int(row), " ".join(text))
+        case _:
+            return looked(machine, words)
+    return "ok"
+
+
+def looked(machine: Machine, words: list[str]) -> str:
+    """The reply to a command that is no edit, made by Machine's calls."""
+    match words:
+        case ["take"]:
+            order = machine.take()
+            return f"order {order.order} row {order.row} edition {order.edition}" if order else "nothing"
+        case ["bring", order_number]:
+            verdict = machine.bring(int(order_number))
+            return verdict.word.value if verdict.edition is None else f"{verdict.word.value} {verdict.edition}"
+        case ["release"]:
+            machine.release()
+            return "ok"
+        case ["show", key, *rest]:
+            values = machine.show(key, place_of(rest)[0])
+            if isinstance(values, Pending):
+                return f"pending {values.row}"
+            return "values " + " ".join(map(str, numbers(values)))
+        case ["list"]:
+            rows = machine.rows()
+            return "\n".join(
+                [f"rows {len(rows)}"] + [f"{r.row} edition {r.edition} {r.status.value} {r.text}" for r in rows]
+            )
+        case ["faults"]:
+            faults = machine.faults()
+            return "\n".join([f"faults {len(faults)}"] + [f"{f.row} {f.cause.value} {f.processor}" for f in faults])
+        case ["settle"]:
+            return f"settled {machine.settle()}"
+    raise AssertionError(words)
+
+
+@pytest.mark.parametrize("path", SCRIPTS, ids=lambda path: str(path.relative_to(REPOSITORY)))
+def test_each_script_gives_its_transcript(path: Path) -> None:
+    written = []
+    with Machine() as machine:
+        for line in path.read_text().split("\n"):
+            if not line or line.startswith("#"):
+                continue
+            replies = machine.raw(line) if is_no_call(line) else None
+            if replies is None:
+                try:
+                    replies = [edited(machine, line.split(" "))]
+                except Refusal as refusal:
+                    detail = refusal.explanation.detail
+                    replies = [f"refused {refusal.number}" + (f" {detail}" if detail is not None else "")]
+                    assert refusal.line == line and refusal.hint
+            written += replies
+        status = machine.close()
+    transcript = path.with_suffix(".expected").read_text()
+    assert "\n".join([*written, ""] if written else [""]) == transcript
+    assert status == any(line.startswith("refused") for line in transcript.split("\n"))
+
+
+def is_no_call(line: str) -> bool:
+    """Whether no call writes such a line: it leaves the grammar before an instruction."""
+    words = line.split(" ")
+    if words[0] == "insert":
+        return words[1] not in ("start", "end", "after") or (words[1] == "after" and not words[2].isdigit())
+    sizes = {
+        "set": 3,
+        "field": 4,
+        "delete": 2,
+        "bring": 2,
+        "take": 1,
+        "release": 1,
+        "list": 1,
+        "faults": 1,
+        "settle": 1,
+    }
+    if words[0] in sizes:
+        return len(words) != sizes[words[0]] or not all(word[0:1].isalnum() for word in words)
+    if words[0] == "show":
+        return not (words[2:] in (["start"], ["end"]) or (words[2:3] == ["after"] and len(words) == 4))
+    return words[0] not in ("input", "replace") or not all(word.isdigit() for word in words[2:3])
+
+
+def test_most_scripts_are_made_by_calls() -> None:
+    lines = [line for path in SCRIPTS for line in path.read_text().split("\n") if line and not line.startswith("#")]
+    assert sum(map(is_no_call, lines)) < 30 < 1_000 < len(lines)
+
+
+def test_values_in_the_shape_of_the_axes() -> None:
+    with Machine() as machine:
+        machine.set("G", 4, 2, 2)
+        machine.field("x", "G", 8)
+        machine.field("at", "G", 8)
+        for axis in range(3):
+            machine.insert(f"my-news-coordinate-1L at {axis} 8")
+            machine.settle()
+            at = machine["at"]
+            assert isinstance(at, ValueArray) and at.shape == (2, 2, 4) and at.dtype == numpy.uint64
+            assert all(at[place] == place[2 - axis] for place in numpy.ndindex(2, 2, 4))
+        whole = numpy.arange(16).reshape(2, 2, 4)
+        for values in (
+            range(16),
+            list(range(16)),
+            whole,
+            whole.tolist(),
+            whole.astype(numpy.int8),
+            whole[:, :, ::-1][:, :, ::-1],
+        ):
+            machine["x"] = [0] * 16
+            machine["x"] = values
+            assert numpy.array_equal(numpy.asarray(machine["x"]), whole)
+        machine["x"] = whole.T.copy().T
+        assert numbers(machine["x"]) == list(range(16))
+        machine["G.context"] = whole % 2 == 0
+        assert numbers(machine["G.context"]) == [1, 0] * 8
+
+
+def test_values_from_a_processor_on(machine: Machine) -> None:
+    machine["a"] = [1, 2, 3, 4]
+    machine["a", 2:] = [7]
+    assert numbers(machine["a"]) == [1, 2, 7, 4]
+    machine["a", -2:] = numpy.array([8, 9])
+    machine["a", 0] = 5
+    assert numbers(machine["a"]) == [5, 2, 8, 9]
+    machine["a", 1:3] = (10, 11)
+    assert numbers(machine["a"]) == [5, 10, 11, 9]
+    before = numbers(machine["a"])
+    for index in (slice(0, 2), slice(0, None, 2), slice(0, 0)):
+        with pytest.raises(ValueError):
+            machine["a", index] = [1]
+    with pytest.raises(IndexError):
+        machine["a", -5] = 1
+    with pytest.raises(Refusal) as refusal:
+        machine["a", 3:] = [1, 2]
+    assert refusal.value.number == 8
+    assert numbers(machine["a"]) == before
+
+
+@pytest.mark.parametrize(
+    "values, error",
+    [
+        ([1, 2, 3], WrongShape),
+        ([1, 2, 3, 4, 5], WrongShape),
+        ([[1, 2], [3, 4]], WrongShape),
+        ([[1, 2], [3]], WrongShape),
+        ([1, [2], 3, 4], WrongShape),
+        (numpy.zeros((4, 1), dtype=int), WrongShape),
+        ([1, 2, 3, -4], ValueError),
+        ([], ValueError),
+        ([1, 2, 3, 4.0], TypeError),
+        (numpy.zeros(4), TypeError),
+        ([1, 2, None, 4], TypeError),
+        ("1234", TypeError),
+        ({1, 2, 3, 4}, TypeError),
+        (7, TypeError),
+    ],
+)
+def test_values_that_are_none(machine: Machine, values: Any, error: type[Exception]) -> None:
+    machine["a"] = [9, 9, 9, 9]
+    with pytest.raises(error):
+        machine["a"] = values
+    assert numbers(machine["a"]) == [9, 9, 9, 9]
+
+
+def test_values_that_are_pending_are_no_numbers(machine: Machine) -> None:
+    row = machine.insert("u-add-3-1L c a b 8")
+    assert machine["c"] == Pending(row)
+    assert isinstance(machine["a"], ValueArray)
+    with pytest.raises(TypeError):
+        signed(machine["c"], 8)
+    with pytest.raises(TypeError):
+        int(machine["c"])  # type: ignore[arg-type]
+    assert machine.settle() == 1
+    assert numbers(machine["c"]) == [0, 0, 0, 0]
+    assert numbers(machine.show("c", START)) == numbers(machine.show("c", after(row))) == [0] * 4
+
+
+def test_rows_orders_and_verdicts(machine: Machine) -> None:
+    first = machine.insert("u-add-3-1L c a b 8")
+    second = machine.insert("u-move-constant-1L b 5 8", START)
+    third = machine.insert("set-test S", after(second))
+    assert (first, second, third) == (1, 2, 3)
+    assert [row.row for row in machine.rows()] == [2, 3, 1]
+    order = machine.take()
+    assert order == OrderTaken(1, 2, 6)
+    machine.replace(third, "clear-test S")
+    assert machine.rows()[:2] == (
+        Row(2, 6, Status.OUT, "u-move-constant-1L b 5 8"),
+        Row(3, 8, Status.WAITING, "clear-test S"),
+    )
+    assert order is not None and machine.bring(order) == Verdict(Word.KEPT)
+    assert machine.bring(1) == Verdict(Word.REPEATED)
+    machine.delete(second)
+    assert machine.bring(1) == Verdict(Word.GONE)
+    machine.release()
+    assert machine.settle() == 2
+    assert machine.take() is None
+    with pytest.raises(Refusal) as refusal:
+        machine.bring(9)
+    assert (refusal.value.number, refusal.value.name) == (22, "NoOrder")
+
+
+def test_faults(machine: Machine) -> None:
+    machine["a"] = [0, 0, 1, 9]
+    row = machine.insert("send-1L c a b 8 none")
+    machine["S.context", 3] = 0
+    machine.settle()
+    assert machine.faults() == (RowFault(row, Cause.COLLISION, 0),)
+    machine["S.context", 3] = 1
+    machine.settle()
+    assert machine.faults() == (RowFault(row, Cause.BAD_ADDRESS, 3),)
+
+
+def test_a_refusal_says_all_of_it(machine: Machine) -> None:
+    with pytest.raises(Refusal) as error:
+        machine.insert("u-add-3-1L c a x 8")
+    refusal = error.value
+    assert (refusal.number, refusal.name, refusal.column) == (7, "NoField", None)
+    assert refusal.text == "no field has this name, or no set has the name before the dot"
+    assert refusal.line == "insert end u-add-3-1L c a x 8"
+    assert "`x` isn't declared" in refusal.hint and "`a`, `b` and `c`" in refusal.hint
+    with pytest.raises(Refusal) as error:
+        machine.insert("u-add c a b 8")
+    assert (error.value.number, error.value.column) == (20, 12)
+    for line in ("show a\nlist", ""):
+        with pytest.raises(ValueError):
+            machine.insert(line) if line else machine._tell(line)
+
+
+def test_large_inputs_are_cut_into_lines() -> None:
+    values = [(v * 0x9E3779B97F4A7C15) % 2**64 for v in range(65_536)]
+    lines = input_lines("abcdefghijklmnop", 0, values)
+    assert len(lines) > 1 and all(len(line) < 65_536 for line in lines)
+    assert [int(word) for line in lines for word in line.split(" ")[3:]] == values
+    firsts = [int(line.split(" ")[2]) for line in lines]
+    assert firsts == [sum(len(line.split(" ")) - 3 for line in lines[:at]) for at in range(len(lines))]
+    with Machine() as machine:
+        machine.set("S", 256, 256)
+        machine.field("abcdefghijklmnop", "S", 64)
+        machine["abcdefghijklmnop"] = numpy.array(values, dtype=numpy.uint64).reshape(256, 256)
+        assert numbers(machine["abcdefghijklmnop"]) == values
+
+
+@pytest.mark.parametrize("count, wide, number", [(65_536, 65_530, 9), (65_537, None, 8), (65_537, 3, 8)])
+def test_a_large_input_that_is_refused_changes_nothing(count: int, wide: int | None, number: int) -> None:
+    with Machine() as machine:
+        machine.set("S", 65_536)
+        machine.field("a", "S", 32)
+        machine.insert("u-move-1L a a 32")
+        machine.settle()
+        values = [4_000_000_000] * count
+        if wide is not None:
+            values[wide] = 2**32
+        with pytest.raises(Refusal) as error:
+            machine["a", 0:] = values
+        assert error.value.number == number
+        assert number == 8 or error.value.explanation.detail == wide
+        assert set(numbers(machine.show("a", START))) == {0}
+        assert machine.rows()[0].status is Status.SETTLED
+
+
+def test_arrays_are_looks_and_what_is_computed_is_plain(machine: Machine) -> None:
+    machine["a"] = [1, 2, 3, 250]
+    values = machine["a"]
+    assert isinstance(values, ValueArray)
+    with pytest.raises(ValueError):
+        values[0] = 7
+    assert type(values + 1) is numpy.ndarray and (values + 1).tolist() == [2, 3, 4, 251]
+    assert int(values.sum()) == 256 and type(values.max()) is not ValueArray
+    assert repr(values) == "array([  1,   2,   3, 250], dtype=uint64)"
+    html = values._repr_html_()
+    assert html is not None and "<table" in html and ">250<" in html
+    part = values[1:]
+    assert isinstance(part, ValueArray) and part._repr_html_() is None
+
+
+def test_rows_as_html(machine: Machine) -> None:
+    machine.insert("u-add-3-1L c a b 8")
+    machine.settle()
+    machine.insert("set-test S")
+    html = machine.rows()._repr_html_()
+    assert "2 rows" in html and "<code>u-add-3-1L c a b 8</code>" in html
+    assert html.index("settled") < html.index("waiting")
+
+
+def test_signed_and_unsigned() -> None:
+    assert signed(200, 8) == -56 and unsigned(-56, 8) == 200
+    assert signed([[0, 127], [128, 255]], 8) == [[0, 127], [-128, -1]]
+    array = numpy.array([0, 2**63 - 1, 2**63, 2**64 - 1], dtype=numpy.uint64)
+    assert signed(array, 64).dtype == numpy.int64
+    assert signed(array, 64).tolist() == [0, 2**63 - 1, -(2**63), -1]
+    assert unsigned(numpy.array([-1, 1, -(2**63)]), 64).tolist() == [2**64 - 1, 1, 2**63]
+    assert signed([2**100 - 1], 100) == [-1] and unsigned([-1], 100) == [2**100 - 1]
+    assert signed(1, 1) == -1
+    for wrong in (256, -1):
+        with pytest.raises(ValueError):
+            signed(wrong, 8)
+    for wrong in (256, -129):
+        with pytest.raises(ValueError):
+            unsigned(wrong, 8)
+
+
+def test_a_killed_child() -> None:
+    with Machine() as machine:
+        machine.set("S", 4)
+        os.kill(machine.process, signal.SIGKILL)
+        with pytest.raises(Ended) as error:
+            machine.rows()
+        assert error.value.status == -signal.SIGKILL
+        with pytest.raises(Ended):
+            machine.settle()
+
+
+def test_without_numpy_values_are_lists() -> None:
+    script = """
+import sys
+sys.path.insert(0, sys.argv[1])
+class Without:
+    def find_spec(self, name, path=None, target=None):
+        if name.split(".")[0] == "numpy":
+            raise ModuleNotFoundError(name)
+sys.meta_path.insert(0, Without())
+import pevudlo, pevudlo.values
+pevudlo.values.find_spec = lambda name: None
+with pevudlo.Machine() as machine:
+    machine.set("S", 2, 2)
+    machine.field("a", "S", 8)
+    machine["a"] = [[1, 2], [3, 200]]
+    assert machine["a"] == [[1, 2], [3, 200]], machine["a"]
+    assert pevudlo.signed(machine["a"], 8) == [[1, 2], [3, -56]]
+    assert ">200<" in machine["a"]._repr_html_()
+    machine["a"] = range(4)
+    print(machine["a"])
+assert "numpy" not in sys.modules
+"""
+    ran = subprocess.run(
+        [sys.executable, "-c", script, str(REPOSITORY / "python")], capture_output=True, text=True, timeout=60
+    )
+    assert (ran.stdout, ran.stderr) == ("[[0, 1], [2, 3]]\n", "")
