@@ -1,0 +1,41 @@
+"""The examples of docs/PYTHON.md, run as they stand there, and the program that measures."""
+
+from __future__ import annotations
+
+import doctest
+import re
+import subprocess
+import sys
+from pathlib import Path
+
+from pevudlo import Machine, find
+
+REPOSITORY = Path(__file__).resolve().parents[2]
+DOCUMENT = REPOSITORY / "docs/PYTHON.md"
+
+
+def test_the_examples_give_what_the_document_says() -> None:
+    text = DOCUMENT.read_text(encoding="utf-8")
+    examples = "\n".join(re.findall(r"```python\n(.*?)```", text, re.S))
+    test = doctest.DocTestParser().get_doctest(examples, {}, "docs/PYTHON.md", str(DOCUMENT), 0)
+    assert len(test.examples) == text.count("\n>>> ")
+    assert doctest.DocTestRunner(optionflags=doctest.IGNORE_EXCEPTION_DETAIL).run(test).failed == 0
+    for value in test.globs.values():
+        if isinstance(value, Machine):
+            value.close()
+
+
+def test_the_document_names_each_call() -> None:
+    text = DOCUMENT.read_text(encoding="utf-8").split("## Calls and commands")[1].split("\n## ")[0]
+    calls = [name for name in vars(Machine) if not name.startswith("_")]
+    for name in set(calls) - {"close", "process"}:
+        assert re.search(rf"`(machine\.)?{name}\b", text), name
+
+
+def test_bench_measures() -> None:
+    find()
+    ran = subprocess.run([sys.executable, REPOSITORY / "bench/pipe", "1"], capture_output=True, text=True, timeout=60)
+    assert ran.returncode in (0, 1) and ran.stderr == ""
+    head, _, *lines = ran.stdout.splitlines()
+    assert head.startswith("| what |") and len(lines) == 4
+    assert all(re.fullmatch(r"\|[^|]+\|( \d+\.\d (us|ms) \|){3} 200 (us|ms) \|", line) for line in lines)
