@@ -189,6 +189,8 @@ def _image(grid: Grid, values: Sequence[int], words: str, unselected: frozenset[
     picture = picture_of(grid.axes, values, unselected)
     scale = max(1, (128 if label else 256) // max(picture.width, picture.height))
     size = f'width="{picture.width * scale}" height="{picture.height * scale}"'
+    if not label and picture.width * picture.height == len(values):
+        size += f' data-across="{picture.width}"'
     name = f"<small>{escape(label)}</small>" if label else ""
     return (
         f'<span class="pv-picture"><img src="{picture.address}" {size} alt="{escape(words, quote=True)}">{name}</span>'

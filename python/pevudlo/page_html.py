@@ -2,6 +2,7 @@
 
 from __future__ import annotations
 
+import re
 from collections.abc import Iterable
 from html import escape
 
@@ -83,7 +84,8 @@ def refusal(explanation: Explanation, reply: str, number: int = 0) -> str:
     if column is not None:
         cut, caret = caret_lines(line, column)
         shown = f'{clean(cut)}\n<span class="caret" aria-hidden="true">{clean(caret)}</span>'
-    hint = f'<p class="hint">{clean(explanation.hint)}</p>' if explanation.hint else ""
+    quoted = re.sub("`([^`]*)`", r"<code>\1</code>", clean(explanation.hint))
+    hint = f'<p class="hint">{quoted}</p>' if quoted else ""
     place = f"<b>Line {number}</b> is refused" if number else "<b>Refused</b>"
     return (
         f'<div class="refused"><p>{sign("✕")} {place}: {clean(explanation.text)} <code>{clean(reply)}</code></p>'

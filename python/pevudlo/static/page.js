@@ -55,16 +55,17 @@
   for (const link of document.querySelectorAll("nav a[href^='#']")) links.set(link.hash.slice(1), link);
   if (links.size && "IntersectionObserver" in window) {
     const seen = new Set();
+    const parts = [...document.querySelectorAll("main section[id]")];
     const observer = new IntersectionObserver((entries) => {
       for (const entry of entries) entry.isIntersecting ? seen.add(entry.target) : seen.delete(entry.target);
-      const first = [...document.querySelectorAll("main > section[id]")].find((part) => seen.has(part));
+      const first = parts.find((part) => seen.has(part));
       for (const [id, link] of links) {
-        const here = first && first.id === id;
+        const here = Boolean(first) && first.id === id;
         link.classList.toggle("here", here);
         here ? link.setAttribute("aria-current", "true") : link.removeAttribute("aria-current");
       }
     }, { rootMargin: "-10% 0px -60% 0px" });
-    for (const part of document.querySelectorAll("main > section[id]")) observer.observe(part);
+    for (const part of parts) observer.observe(part);
   }
 
   window.parisPage = {

@@ -1,0 +1,205 @@
+"""`prompt [FILE]`: lines are told to a program one by one, with history, completion and help."""
+
+from __future__ import annotations
+
+import sys
+from collections.abc import Callable
+from pathlib import Path
+
+from pevudlo.explain import ending
+from pevudlo.program import NotFound, find
+from pevudlo.prompt_files import path_of, read_lines, write_lines
+from pevudlo.prompt_help import OWN, OWN_WORDS, help_for
+from pevudlo.prompt_lines import Reader, Terminal, Piped, is_terminal
+from pevudlo.prompt_session import Session, Stopped
+from pevudlo.prompt_show import WAYS, View, answer_lines, is_told
+from pevudlo.visible import visible
+
+USAGE = "usage: paris prompt [FILE]"
+WELCOME = "`help` says what there is, and the key Tab completes words. `quit` or Ctrl-D ends."
+
+
+def spelling_of(name: str) -> str:
+    """How a word of the prompt is written, said where it was written otherwise."""
+    return f"it is written `{OWN[name].spelling}`"
+
+
+class Prompt:
+    """Answers lines. `show` gets each line of text that is answered."""
+
+    def __init__(self, session: Session, show: Callable[[str], None], may_warn: bool) -> None:
+        self.session = session
+        self.view = View()
+        self._show = show
+        self._may_warn = may_warn
+        self._warned = False
+
+    def say(self, *lines: str) -> None:
+        """Shows lines of text."""
+        for line in lines:
+            self._show(line)
+
+    def handle(self, line: str) -> bool:
+        """Answers one line. Whether the prompt goes on."""
+        word, _, rest = line.partition(" ")
+        if word == "quit" and not rest:
+            return not self.may_quit()
+        self._warned = False
+        try:
+            if word in WAYS:
+                self.show_by(word, rest)
+            elif word in OWN:
+                self.own(word, rest)
+            else:
+                self.tell(line)
+        except Stopped as stopped:
+            self.say(f"no program runs: {stopped}", self.kept_words())
+        return True
+
+    def may_quit(self) -> bool:
+        """Whether the prompt may end: at once where all is saved, else when it is asked a second time."""
+        if self.session.is_saved or self._warned or not self._may_warn:
+            return True
+        self._warned = True
+        self.say(f"{self.count_words()} not saved: `save FILE` saves them, and `quit` once more ends the prompt")
+        return False
+
+    def count_words(self) -> str:
+        """How many commands were accepted."""
+        count = self.session.commands
+        return "1 accepted command is" if count == 1 else f"{count} accepted commands are"
+
+    def kept_words(self) -> str:
+        """What can be done after the program has ended."""
+        return f"{self.count_words()} kept: `again` starts the program with them, `save FILE` saves them"
+
+    def own(self, word: str, rest: str) -> None:
+        """Answers a word of the prompt's own, but for ways to show and `quit`."""
+        if word == "help":
+            self.say(*help_for(rest.strip()))
+        elif word in ("load", "save") and rest:
+            (self.load if word == "load" else self.save)(path_of(rest))
+        elif word == "again" and not rest:
+            self.session.start()
+            self.say(f"the program is started again, and {self.count_words()} told")
+        elif word == "new" and not rest:
+            self.session.begin()
+            self.say("nothing is declared")
+        else:
+            self.say(spelling_of(word))
+
+    def tell(self, line: str) -> None:
+        """Tells the program a line, and shows its reply."""
+        answer = self.session.tell(line)
+        if answer is not None:
+            self.say(*answer_lines(answer, self.session.board, self.view))
+
+    def show_by(self, way: str, rest: str) -> None:
+        """Shows values in a way from now on, or one key once."""
+        view = self.view.by(way)
+        if not rest:
+            self.view = view
+            self.say(view.words())
+            return
+        line = f"show {rest}" if " " in rest else f"show {rest} end"
+        answer = self.session.tell(line)
+        if answer is not None:
+            self.say(*answer_lines(answer, self.session.board, view))
+
+    def load(self, path: Path) -> None:
+        """Tells the lines of a file. Says what was refused, and what the file shows."""
+        name = visible(str(path))
+        try:
+            lines = read_lines(path)
+        except OSError as error:
+            self.say(f"can't read {name}: {error.strerror}")
+            return
+        was_empty = not self.session.accepted
+        commands, refused = 0, []
+        try:
+            for number, answer in self.session.tell_all(lines):
+                commands += 1
+                if answer.explanation is not None:
+                    refused.append(number)
+                if is_told(answer):
+                    head, *more = answer_lines(answer, self.session.board, self.view)
+                    self.say(f"{name}:{number}: {head}", *more)
+        finally:
+            self.say(f"{name}: {ending(commands, refused, False)}")
+        if was_empty:
+            self.session.saved = list(self.session.accepted)
+
+    def save(self, path: Path) -> None:
+        """Saves the accepted commands."""
+        try:
+            write_lines(path, self.session.accepted)
+        except OSError as error:
+            self.say(f"can't write {visible(str(path))}: {error.strerror}")
+            return
+        self.session.saved = list(self.session.accepted)
+        self.say(f"{visible(str(path))}: {self.count_words()} saved")
+
+
+def talk(prompt: Prompt, reader: Reader) -> None:
+    """Reads lines and answers them until their end, or until `quit`."""
+    while True:
+        try:
+            line = reader.read()
+        except KeyboardInterrupt:
+            # The line is dropped, and a new one begins.
+            prompt.say("")
+            continue
+        if line is None:
+            if prompt.may_quit():
+                return
+            continue
+        if not prompt.handle(line):
+            return
+
+
+def run(session: Session, file: str | None) -> None:
+    """The prompt, from the file's lines on where one is named. Raises Stopped where no program can be started."""
+    reader: Reader = Terminal(lambda: session.board) if is_terminal() else Piped()
+    prompt = Prompt(session, lambda line: print(line, flush=True), is_terminal())
+    try:
+        session.begin()
+        if is_terminal():
+            prompt.say(WELCOME)
+        if file is not None:
+            try:
+                prompt.load(path_of(file))
+            except Stopped as stopped:
+                prompt.say(f"no program runs: {stopped}", prompt.kept_words())
+        talk(prompt, reader)
+    finally:
+        session.close()
+        reader.close()
+
+
+def main(words: list[str]) -> int:
+    """Runs the command. The exit status is 2 where the words are wrong, the file can't be read, or there is no "
+    "program."""
+    if words == ["--help"]:
+        print(USAGE)
+        for word in OWN_WORDS:
+            print(f"  {word.spelling}: {word.does}")
+        return 0
+    if len(words) > 1 or words and words[0].startswith("-"):
+        print(USAGE, file=sys.stderr)
+        return 2
+    try:
+        if words:
+            read_lines(path_of(words[0]))
+        session = Session(find())
+    except OSError as error:
+        print(f"paris prompt: can't read {visible(words[0])}: {error.strerror}", file=sys.stderr)
+        return 2
+    except NotFound as error:
+        print(f"paris prompt: {error}", file=sys.stderr)
+        return 2
+    try:
+        run(session, words[0] if words else None)
+    except Stopped as stopped:
+        print(f"paris prompt: no program runs: {stopped}", file=sys.stderr)
+        return 2
+    return 0

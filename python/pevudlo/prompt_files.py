@@ -1,0 +1,64 @@
+"""Scripts that the prompt loads and saves, and the history of its lines."""
+
+from __future__ import annotations
+
+import os
+import tempfile
+from collections.abc import Iterator
+from pathlib import Path
+
+MOST_HISTORY = 1000
+
+
+def path_of(name: str) -> Path:
+    """The path of a file by the name that a user types, `~` for the home folder."""
+    return Path(os.path.expanduser(name))
+
+
+def read_lines(path: Path) -> list[str]:
+    """The lines of a script, without line feeds. Bytes that aren't UTF-8 are surrogates. Raises OSError."""
+    text = path.read_bytes().decode("utf-8", "surrogateescape")
+    lines = text.split("\n")
+    return lines[:-1] if lines[-1] == "" else lines
+
+
+def write_lines(path: Path, lines: list[str]) -> None:
+    """Writes a script. What a file of this name held stays beside it, with `~` behind its name. Raises OSError.
+
+    The file has its name only when it is whole.
+    """
+    text = "".join(f"{line}\n" for line in lines).encode("utf-8", "surrogateescape")
+    if path.exists() and not path.is_file():
+        path.write_bytes(text)
+        return
+    target = path.resolve()
+    handle, name = tempfile.mkstemp(dir=target.parent, prefix=f".{target.name}.")
+    try:
+        with os.fdopen(handle, "wb") as file:
+            file.write(text)
+        os.chmod(name, target.stat().st_mode & 0o777 if target.is_file() else 0o666 & ~umask())
+        if target.is_file():
+            os.replace(target, target.with_name(f"{target.name}~"))
+        os.replace(name, target)
+    except BaseException:
+        Path(name).unlink(missing_ok=True)
+        raise
+
+
+def umask() -> int:
+    """The bits that new files don't get."""
+    mask = os.umask(0)
+    os.umask(mask)
+    return mask
+
+
+def history_path() -> Path:
+    """Where the history is kept from one prompt to the next."""
+    state = os.environ.get("XDG_STATE_HOME") or os.path.expanduser("~/.local/state")
+    return Path(state) / "pevudlo" / "history"
+
+
+def split_lines(text: str) -> Iterator[str]:
+    """The lines of a text that was typed or pasted at once, without spaces at their ends."""
+    for line in text.split("\n"):
+        yield line.rstrip(" ")

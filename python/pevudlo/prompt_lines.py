@@ -1,0 +1,100 @@
+"""Where the prompt's lines come from: a terminal with a line editor, or a pipe or file."""
+
+from __future__ import annotations
+
+import sys
+from abc import ABC, abstractmethod
+from collections import deque
+from collections.abc import Callable
+from types import ModuleType
+
+from pevudlo.board import Board
+from pevudlo.prompt_complete import offers
+from pevudlo.prompt_files import MOST_HISTORY, history_path, split_lines
+
+readline: ModuleType | None
+try:
+    import readline
+except ImportError:
+    # Some Pythons are built without it. Lines can be typed all the same.
+    readline = None
+
+PROMPT = "paris> "
+
+
+def is_terminal() -> bool:
+    """Whether a user sits at both ends."""
+    return sys.stdin.isatty() and sys.stdout.isatty()
+
+
+class Reader(ABC):
+    """Gives lines."""
+
+    @abstractmethod
+    def read(self) -> str | None:
+        """The next line, or None at the end. Raises KeyboardInterrupt where the user drops the line."""
+
+    def close(self) -> None:
+        """Ends the reading."""
+
+
+class Piped(Reader):
+    """The lines of standard input. Bytes that aren't UTF-8 are surrogates."""
+
+    def read(self) -> str | None:
+        raw = sys.stdin.buffer.readline()
+        return raw.decode("utf-8", "surrogateescape").removesuffix("\n") if raw else None
+
+
+class Terminal(Reader):
+    """A line editor with completion, and a history that is kept for the next prompt."""
+
+    def __init__(self, board: Callable[[], Board]) -> None:
+        self._board = board
+        self._waiting: deque[str] = deque()
+        if readline is not None:
+            readline.set_completer_delims(" ")
+            readline.set_completer(self._complete)
+            libedit = "libedit" in (readline.__doc__ or "")
+            readline.parse_and_bind("bind ^I rl_complete" if libedit else "tab: complete")
+            self._load_history()
+
+    def read(self) -> str | None:
+        while not self._waiting:
+            try:
+                # What is pasted may be several lines.
+                self._waiting.extend(split_lines(input(PROMPT)))
+            except EOFError:
+                print()
+                return None
+            except UnicodeDecodeError:
+                print("the line isn't UTF-8")
+        return self._waiting.popleft()
+
+    def close(self) -> None:
+        if readline is None:
+            return
+        path = history_path()
+        try:
+            path.parent.mkdir(parents=True, exist_ok=True)
+            readline.set_history_length(MOST_HISTORY)
+            readline.write_history_file(path)
+        except OSError:
+            # The history is a convenience: where there is no room for it, it is lost.
+            return
+
+    def _load_history(self) -> None:
+        """Reads the history that an earlier prompt has left."""
+        assert readline is not None
+        readline.clear_history()
+        try:
+            readline.read_history_file(history_path())
+        except OSError:
+            return
+
+    def _complete(self, text: str, state: int) -> str | None:
+        """Offer number `state` for the word before the cursor, or None behind the last."""
+        assert readline is not None
+        line = readline.get_line_buffer()[: readline.get_endidx()]
+        found = offers(line, self._board())
+        return found[state] if state < len(found) else None

@@ -1,0 +1,316 @@
+"use strict";
+(() => {
+  const base = location.pathname;
+  const at = (id) => document.getElementById(id);
+  const html = new Map();
+  let version = 0;
+  let caret = "end";
+  let orders = { rows: [], inputs: [], values: [] };
+
+  // Fragments of the session, each in an element of its own, which is filled again where it is another.
+  function fill(element, text) {
+    if (element.shown === text) return false;
+    if (element.querySelector(".editing")) { element.waits = text; return false; }
+    element.shown = text;
+    element.innerHTML = text;
+    parisPage.refresh(element);
+    return true;
+  }
+
+  function place(container, names, known) {
+    let next = container.firstElementChild;
+    for (const name of names) {
+      let element = known.get(name);
+      if (!element) {
+        element = document.createElement("div");
+        element.dataset.name = name;
+        known.set(name, element);
+      }
+      const old = element.querySelector("article");
+      const was = old && old.className;
+      if (fill(element, html.get(name) || "") && was) {
+        const now = element.querySelector("article");
+        if (now && now.className !== was) now.classList.add("turned");
+      }
+      if (next && next.classList.contains("caret")) next = next.nextElementSibling;
+      if (element === next) next = next.nextElementSibling;
+      else container.insertBefore(element, next);
+    }
+  }
+
+  const elements = { rows: new Map(), inputs: new Map(), values: new Map() };
+
+  function drop(kind) {
+    const wanted = new Set(orders[kind]);
+    for (const [name, element] of elements[kind]) {
+      if (!wanted.has(name)) { element.remove(); elements[kind].delete(name); }
+    }
+  }
+
+  function placeKeys(kind) {
+    const names = orders[kind] || [];
+    const idle = names.filter((name) => (html.get(name) || "").includes(" data-zero>"));
+    const rest = names.filter((name) => !idle.includes(name));
+    place(at(kind), rest, elements[kind]);
+    place(at("idle-" + kind), idle, elements[kind]);
+    at("idle-" + kind).parentElement.hidden = !idle.length;
+  }
+
+  const form = at("caret-here").content.firstElementChild.cloneNode(true);
+
+  function placeCaret() {
+    const rows = at("rows");
+    if (caret === "start") rows.prepend(form);
+    else {
+      const row = elements.rows.get("row-" + caret.slice(6));
+      if (row) row.after(form); else rows.append(form);
+    }
+    at("place").textContent = caret.replace("after", "after row").replace(/^(start|end)$/, "at the $1");
+  }
+
+  function apply(news) {
+    const focus = focused();
+    version = news.version;
+    caret = news.caret;
+    orders = news.orders;
+    for (const [name, text] of Object.entries(news.html)) html.set(name, text);
+    for (const name of ["head", "log", "trouble"]) fill(at(name), html.get(name) || "");
+    if (html.get("edit")) fill(at("edit"), html.get("edit"));
+    document.body.classList.toggle("ended", Boolean(html.get("trouble")));
+    for (const kind of ["rows", "inputs", "values"]) drop(kind);
+    place(at("rows"), orders.rows || [], elements.rows);
+    placeKeys("inputs");
+    placeKeys("values");
+    placeCaret();
+    for (const grid of at("inputs-part").querySelectorAll("figure")) ready(grid);
+    refocus(focus);
+    document.body.dataset.version = version;
+  }
+
+  // What is new is asked for once at a time.
+  let asks = false;
+  let again = false;
+  async function refresh() {
+    if (asks) { again = true; return; }
+    asks = true;
+    try {
+      const answer = await fetch(base + "state?seen=" + version, { cache: "no-store" });
+      if (answer.ok) apply(await answer.json());
+    } catch { lost(); }
+    asks = false;
+    if (again) { again = false; refresh(); }
+  }
+
+  function lost() {
+    at("trouble").shown = null;
+    fill(at("trouble"), "<div class='refused' role='alert'><p><b>Nobody answers.</b> Was it ended by Ctrl-C?</p></div>");
+  }
+
+  const news = new EventSource(base + "news");
+  news.addEventListener("message", (event) => { if (Number(event.data) !== version) refresh(); });
+  news.addEventListener("error", () => { if (news.readyState === EventSource.CLOSED) lost(); });
+
+  async function ask(name, body) {
+    try {
+      const answer = await fetch(base + name, {
+        method: "POST", headers: { "Content-Type": "application/json" }, body: JSON.stringify(body || {}),
+      });
+      if (answer.status === 413) return { refused: "<p class='refused'>The line is too long.</p>" };
+      return await answer.json();
+    } catch { lost(); return { wrong: "nobody answers" }; }
+  }
+
+  const command = (line) => ask("command", { line });
+
+  // Says under an input why its command was refused; else the input is done with.
+  function answered(answer, where, done) {
+    const wrong = answer.refused || "";
+    where.innerHTML = wrong;
+    if (!wrong && answer.wrong) where.textContent = answer.wrong;
+    if (!wrong && !answer.wrong && !answer.stopped) done();
+  }
+
+  function places() {
+    const rows = (orders.rows || []).map((name) => "after " + name.slice(4));
+    return ["start", ...rows.slice(0, -1), "end"];
+  }
+
+  function step(by) {
+    const all = places();
+    const now = all.includes(caret) ? all.indexOf(caret) : all.length - 1;
+    const next = all[Math.max(0, Math.min(all.length - 1, now + by))];
+    if (next !== caret) ask("caret", { place: next }).then(() => form.scrollIntoView({ block: "nearest" }));
+  }
+
+  // A row's instruction turns into an input.
+  function edit(row) {
+    const button = row.querySelector("button.text");
+    const text = button.textContent;
+    const editor = document.createElement("form");
+    editor.className = "editing";
+    editor.innerHTML = "<input name='row' autocomplete='off' spellcheck='false' aria-label='The instruction'><div class='answer'></div>";
+    const input = editor.querySelector("input");
+    input.value = text;
+    const close = () => {
+      if (!editor.isConnected) return;
+      editor.replaceWith(button);
+      const outer = row.parentElement;
+      if (outer && outer.waits !== undefined) { const waits = outer.waits; delete outer.waits; fill(outer, waits); }
+    };
+    editor.addEventListener("submit", async (event) => {
+      event.preventDefault();
+      answered(await command(`replace ${row.dataset.row} ${input.value}`), editor.querySelector(".answer"), close);
+    });
+    input.addEventListener("keydown", (event) => { if (event.key === "Escape") { close(); button.focus(); } });
+    button.replaceWith(editor);
+    input.focus();
+  }
+
+  const acts = {
+    edit: (button) => edit(button.closest("article")),
+    delete: (button) => command("delete " + button.closest("article").dataset.row),
+    after: (button) => ask("caret", { place: "after " + button.closest("article").dataset.row }),
+    up: () => step(-1),
+    down: () => step(1),
+    order: () => ask("order"),
+    settle: () => command("settle"),
+    restart: () => ask("restart"),
+  };
+  document.addEventListener("click", (event) => {
+    const button = event.target.closest("[data-act]");
+    if (button) acts[button.dataset.act](button);
+  });
+
+  form.addEventListener("submit", async (event) => {
+    event.preventDefault();
+    const input = form.elements.row;
+    answered(await command(`insert ${caret} ${input.value}`), form.querySelector(".answer"), () => { input.value = ""; });
+  });
+
+  const lines = [];
+  let line = 0;
+  at("command").addEventListener("submit", async (event) => {
+    event.preventDefault();
+    const input = at("line");
+    if (!input.value) return;
+    lines.push(input.value);
+    line = lines.length;
+    answered(await command(input.value), at("refused"), () => { input.value = ""; });
+  });
+  at("line").addEventListener("keydown", (event) => {
+    if (event.key !== "ArrowUp" && event.key !== "ArrowDown") return;
+    line = Math.max(0, Math.min(lines.length, line + (event.key === "ArrowUp" ? -1 : 1)));
+    at("line").value = lines[line] || "";
+    event.preventDefault();
+  });
+
+  document.addEventListener("keydown", (event) => {
+    if (event.target.closest("input, td, summary, select, textarea") || event.ctrlKey || event.metaKey || event.altKey) return;
+    if (event.key === "ArrowUp" || event.key === "ArrowDown") { step(event.key === "ArrowUp" ? -1 : 1); event.preventDefault(); }
+  });
+
+  // Cells of input data.
+  const cellsOf = (grid) => [...grid.querySelectorAll("td:not(.pv-corner)")];
+
+  function ready(grid) {
+    if (grid.isReady) return;
+    grid.isReady = true;
+    cellsOf(grid).forEach((cell, place) => { cell.tabIndex = place ? -1 : 0; });
+  }
+
+  function focused() {
+    const cell = document.activeElement;
+    if (!cell || cell.tagName !== "TD") return null;
+    const grid = cell.closest("figure");
+    return { key: grid.dataset.key, place: cellsOf(grid).indexOf(cell), cell };
+  }
+
+  function refocus(was) {
+    if (!was || was.cell.isConnected) return;
+    const holder = at("inputs-part").querySelector(`[data-input="${CSS.escape(was.key)}"] figure`);
+    const cell = holder && cellsOf(holder)[was.place];
+    if (cell) cell.focus();
+  }
+
+  // The number that a text is in the unit that is shown, or null.
+  function numberOf(text, bits) {
+    const unit = document.querySelector("[name=unit]:checked").value;
+    const forms = { unsigned: /^[0-9]+$/, signed: /^-?[0-9]+$/, hex: /^[0-9a-f]+$/i, bits: /^[01]+$/ };
+    if (!forms[unit].test(text)) return null;
+    if (unit === "hex") return BigInt("0x" + text);
+    if (unit === "bits") return BigInt("0b" + text);
+    const value = BigInt(text);
+    return value < 0n ? value + (1n << BigInt(bits)) : value;
+  }
+
+  function change(cell) {
+    const grid = cell.closest("figure");
+    const key = grid.dataset.key;
+    const bits = Number(grid.dataset.bits);
+    const processor = cellsOf(grid).indexOf(cell);
+    if (bits === 1) return command(`input ${key} ${processor} ${cell.textContent.startsWith("0") ? 1 : 0}`);
+    if (cell.querySelector("input")) return null;
+    const text = cell.firstChild.data;
+    const input = document.createElement("input");
+    input.className = "editing";
+    input.value = text;
+    input.setAttribute("aria-label", `${key}, processor ${processor}`);
+    cell.replaceChildren(input);
+    input.select();
+    input.focus();
+    let isDone = false;
+    const close = () => {
+      if (isDone) return;
+      isDone = true;
+      const outer = cell.closest("[data-name]");
+      outer.shown = null;
+      cell.replaceChildren(text);
+      const waits = outer.waits;
+      delete outer.waits;
+      fill(outer, waits === undefined ? html.get(outer.dataset.name) : waits);
+      for (const each of outer.querySelectorAll("figure")) ready(each);
+      const again = cellsOf(outer)[processor];
+      if (again) again.focus();
+    };
+    input.addEventListener("blur", close);
+    input.addEventListener("keydown", async (event) => {
+      event.stopPropagation();
+      if (event.key === "Escape") close();
+      if (event.key !== "Enter") return;
+      const value = numberOf(input.value.trim(), bits);
+      if (value === null || value < 0n) { input.setAttribute("aria-invalid", "true"); return; }
+      const answer = await command(`input ${key} ${processor} ${value}`);
+      at("refused").innerHTML = answer.refused || "";
+      if (answer.refused) input.setAttribute("aria-invalid", "true"); else close();
+    });
+    return null;
+  }
+
+  at("inputs-part").addEventListener("click", (event) => {
+    const cell = event.target.closest("td:not(.pv-corner)");
+    if (cell) { change(cell); return; }
+    const image = event.target.closest("img[data-across]");
+    if (!image) return;
+    const across = Number(image.dataset.across);
+    const box = image.getBoundingClientRect();
+    const side = box.width / across;
+    const processor = Math.floor((event.clientY - box.top) / side) * across + Math.floor((event.clientX - box.left) / side);
+    at("line").value = `input ${image.closest("figure").dataset.key} ${processor} `;
+    at("line").focus();
+  });
+  at("inputs-part").addEventListener("keydown", (event) => {
+    const cell = event.target.closest("td");
+    if (!cell || event.target !== cell) return;
+    const cells = cellsOf(cell.closest("figure"));
+    const across = cell.parentElement.querySelectorAll("td:not(.pv-corner)").length;
+    const by = { ArrowLeft: -1, ArrowRight: 1, ArrowUp: -across, ArrowDown: across }[event.key];
+    if (by) {
+      const next = cells[cells.indexOf(cell) + by];
+      if (next) next.focus();
+      event.preventDefault();
+    } else if (event.key === "Enter" || event.key === " ") {
+      change(cell);
+      event.preventDefault();
+    }
+  });
+})();

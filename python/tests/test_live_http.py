@@ -1,0 +1,219 @@
+"""The server of a live session: who is answered, and who is refused without being read."""
+
+from __future__ import annotations
+
+import http.client
+import io
+import json
+import socket
+import threading
+import time
+from collections.abc import Iterator
+
+import pytest
+from pages import answers, script_of
+
+from pevudlo.live_http import HOST, MOST_BYTES, Server
+from pevudlo.live_session import Session
+from pevudlo.program import find
+
+TEN_MEGABYTES = 10_000_000
+
+
+@pytest.fixture(scope="module")
+def server() -> Iterator[Server]:
+    session = Session(find())
+    session.load(script_of("first-sum"))
+    with Server(session, "first-sum") as served:
+        thread = threading.Thread(target=served.serve_forever, args=(0.05,), daemon=True)
+        thread.start()
+        yield served
+        served.shutdown()
+        thread.join(10)
+    session.close()
+
+
+def asked(
+    server: Server, method: str, name: str, body: bytes | None = None, **headers: str | None
+) -> tuple[int, bytes, dict[str, str]]:
+    """Status, body and headers of an answer. A header that is None is left out."""
+    sent = {"Host": server.host, "Origin": server.origin, "Content-Type": "application/json"}
+    for key, value in headers.items():
+        sent.pop(key.replace("_", "-"), None)
+        if value is not None:
+            sent[key.replace("_", "-")] = value
+    connection = http.client.HTTPConnection(HOST, server.server_address[1], timeout=10)
+    try:
+        connection.putrequest(method, name, skip_host=True, skip_accept_encoding=True)
+        for key, value in sent.items():
+            connection.putheader(key, value)
+        if body is not None and "Content-Length" not in sent:
+            connection.putheader("Content-Length", str(len(body)))
+        connection.endheaders(body)
+        answer = connection.getresponse()
+        return answer.status, answer.read(), dict(answer.getheaders())
+    finally:
+        connection.close()
+
+
+def page(server: Server, name: str = "") -> str:
+    return f"/{server.token}/{name}"
+
+
+def command(server: Server, line: str) -> tuple[int, dict[str, object]]:
+    status, data, _ = asked(server, "POST", page(server, "command"), json.dumps({"line": line}).encode())
+    return status, json.loads(data)
+
+
+def test_listens_on_the_loopback_address_alone(server: Server) -> None:
+    assert server.server_address[0] == "127.0.0.1"
+    assert len(server.token) >= 32 and server.token in server.address
+
+
+def test_the_page_and_its_state(server: Server) -> None:
+    status, data, headers = asked(server, "GET", page(server), Origin=None)
+    assert status == 200 and data.startswith(b"<!doctype html>")
+    assert headers["Cache-Control"] == "no-store" and headers["Referrer-Policy"] == "no-referrer"
+    status, data, _ = asked(server, "GET", page(server, "state"))
+    state = json.loads(data)
+    assert status == 200 and state["orders"]["rows"] == ["row-1"]
+    status, data, _ = asked(server, "GET", page(server, f"state?seen={state['version']}"))
+    assert json.loads(data)["html"] == {}
+
+
+@pytest.mark.parametrize("path", ["/", "/state", "/wrong/", "/wrong/state", "//", "/etc/passwd", "/../../etc/passwd"])
+@pytest.mark.parametrize("method", ["GET", "POST"])
+def test_without_the_token_nothing_is_answered(server: Server, path: str, method: str) -> None:
+    status, data, _ = asked(server, method, path, b"{}" if method == "POST" else None)
+    assert (status, data) == (403, b"403 Forbidden\n")
+
+
+def test_a_token_that_is_almost_right_is_wrong(server: Server) -> None:
+    for token in (server.token[:-1], server.token + "a", server.token.swapcase(), ""):
+        assert asked(server, "GET", f"/{token}/state")[0] == 403
+
+
+@pytest.mark.parametrize("host", ["evil.example", "localhost", "127.0.0.1", "127.0.0.1:1", "evil.example:80", None])
+def test_another_host_is_refused(server: Server, host: str | None) -> None:
+    assert asked(server, "GET", page(server, "state"), Host=host)[0] == 403
+    assert asked(server, "POST", page(server, "command"), b'{"line": "settle"}', Host=host)[0] == 403
+
+
+@pytest.mark.parametrize("origin", ["http://evil.example", "null", "http://127.0.0.1", "http://127.0.0.1:1", "file://"])
+def test_another_origin_is_refused(server: Server, origin: str) -> None:
+    assert asked(server, "GET", page(server, "state"), Origin=origin)[0] == 403
+    assert asked(server, "POST", page(server, "command"), b'{"line": "settle"}', Origin=origin)[0] == 403
+
+
+def test_a_command_wants_an_origin(server: Server) -> None:
+    assert asked(server, "POST", page(server, "command"), b'{"line": "settle"}', Origin=None)[0] == 403
+    assert asked(server, "GET", page(server, "state"), Sec_Fetch_Site="cross-site")[0] == 403
+
+
+def test_refused_requests_change_nothing(server: Server) -> None:
+    before = server.session.version
+    for origin in ("http://evil.example", None):
+        asked(server, "POST", page(server, "command"), b'{"line": "input a 0 1"}', Origin=origin)
+    asked(server, "POST", "/wrong/command", b'{"line": "input a 0 1"}')
+    assert server.session.version == before
+
+
+def test_ten_megabytes_are_refused_without_being_read(server: Server) -> None:
+    head = (
+        f"POST {page(server, 'command')} HTTP/1.1\r\nHost: {server.host}\r\nOrigin: {server.origin}\r\n"
+        f"Content-Type: application/json\r\nContent-Length: {TEN_MEGABYTES}\r\n\r\n"
+    )
+    with socket.create_connection((HOST, server.server_address[1]), timeout=10) as connection:
+        connection.sendall(head.encode() + b'{"line": "')
+        data = b""
+        while more := connection.recv(4096):
+            data += more
+        assert data.startswith(b"HTTP/1.1 413 ")
+        sent = 0
+        with pytest.raises(OSError):
+            while sent < TEN_MEGABYTES:
+                sent += connection.send(b"a" * 65536)
+    assert asked(server, "GET", page(server, "state"))[0] == 200
+
+
+def test_the_limit_is_a_line_of_65536_bytes(server: Server) -> None:
+    line = "# " + "a" * 65534
+    body = json.dumps({"line": line}).encode()
+    assert len(body) <= MOST_BYTES
+    status, data, _ = asked(server, "POST", page(server, "command"), body)
+    assert status == 400 and b"one command is wanted" in data
+    assert asked(server, "POST", page(server, "command"), b"a" * (MOST_BYTES + 1))[0] == 413
+
+
+@pytest.mark.parametrize(
+    ("body", "headers", "status"),
+    [
+        (b"{}", {"Content_Type": "text/plain"}, 415),
+        (b"{}", {"Content_Length": "-1"}, 411),
+        (b"{}", {"Content_Length": "x"}, 411),
+        (b"{}", {"Content_Length": "9" * 30}, 413),
+        (b"{}", {"Transfer_Encoding": "chunked"}, 411),
+        (b"[]", {}, 400),
+        (b"{", {}, 400),
+        (b'{"line": 1}', {}, 400),
+        (b"[" * 60000, {}, 400),
+        (b"{}", {}, 400),
+        (b'{"line": "set S 4\\nsettle"}', {}, 400),
+        (b'{"line": ""}', {}, 400),
+    ],
+)
+def test_bodies_that_are_no_command(server: Server, body: bytes, headers: dict[str, str], status: int) -> None:
+    assert asked(server, "POST", page(server, "command"), body, **headers)[0] == status
+
+
+@pytest.mark.parametrize("name", ["nothing", "static/page.js", "../live_http.py", "%2e%2e/%2e%2e/etc/passwd"])
+def test_no_file_is_served(server: Server, name: str) -> None:
+    assert asked(server, "GET", page(server, name))[0] == 404
+
+
+def test_other_methods_are_no_methods(server: Server) -> None:
+    for method in ("PUT", "DELETE", "OPTIONS", "HEAD"):
+        assert asked(server, method, page(server))[0] == 501
+
+
+def test_commands_are_answered_as_the_program_does(server: Server) -> None:
+    lines = script_of("first-sum")
+    more = ["input a 0 100", "shw", "settle", "show c end"]
+    replies = [reply[0] for reply in answers(lines + more)[len(lines) :]]
+    for line, reply in zip(more, replies):
+        status, answer = command(server, line)
+        assert status == 200 and answer["reply"] == [reply]
+        assert bool(answer["refused"]) == reply.startswith("refused")
+
+
+def test_news_are_told_to_all_who_listen(server: Server) -> None:
+    heads = f"GET {page(server, 'news')} HTTP/1.1\r\nHost: {server.host}\r\n\r\n"
+    listeners = [socket.create_connection((HOST, server.server_address[1]), timeout=10) for _ in range(2)]
+    try:
+        for listener in listeners:
+            listener.sendall(heads.encode())
+        files = [listener.makefile("rb") for listener in listeners]
+        for file in files:
+            until(file, b"data: %d\n" % server.session.version)
+        command(server, "input a 1 7")
+        for file in files:
+            until(file, b"data: %d\n" % server.session.version)
+    finally:
+        for listener in listeners:
+            listener.close()
+
+
+def until(file: io.BufferedReader, line: bytes) -> None:
+    """Reads lines up to this one, or fails when the socket's time is over."""
+    for _ in range(100):
+        if file.readline() == line:
+            return
+    raise AssertionError(f"{line!r} didn't come")
+
+
+def test_a_slow_request_blocks_nobody(server: Server) -> None:
+    with socket.create_connection((HOST, server.server_address[1]), timeout=10) as slow:
+        slow.sendall(b"GET / HTTP/1.1\r\nHost: ")
+        begun = time.monotonic()
+        assert asked(server, "GET", page(server, "state"))[0] == 200
+        assert time.monotonic() - begun < 5

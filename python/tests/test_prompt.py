@@ -1,0 +1,247 @@
+"""The prompt without a terminal: lines come from a pipe. Views, words of its own, files, and what Tab would offer."""
+
+from __future__ import annotations
+
+import os
+import subprocess
+import sys
+from pathlib import Path
+
+import pytest
+
+from pevudlo.board import Board, Declared
+from pevudlo.grammar import COMMANDS
+from pevudlo.program import ROOT, find
+from pevudlo.prompt_complete import offers
+from pevudlo.prompt_files import read_lines, write_lines
+from pevudlo.prompt_help import OWN, help_for
+from pevudlo.reference import ENTRIES
+
+BASE = ["set S 4", "field a S 8", "input a 0 1 200 3 16"]
+
+
+def prompt(lines: list[str], *words: str, program: Path | None = None) -> subprocess.CompletedProcess[str]:
+    """Runs the prompt on lines that come from a pipe."""
+    environment = {**os.environ, "PARIS_FRONT": str(program or find()), "PYTHONPATH": str(ROOT / "python")}
+    return subprocess.run(
+        [sys.executable, "-P", "-m", "pevudlo", "prompt", *words],
+        input="".join(f"{line}\n" for line in lines),
+        capture_output=True,
+        text=True,
+        timeout=60,
+        env=environment,
+    )
+
+
+def answers(lines: list[str], before: list[str] | None = None, *words: str) -> list[str]:
+    """What is answered to lines, after others whose answers are left out."""
+    before = BASE if before is None else before
+    ran = prompt([*before, *lines], *words)
+    assert (ran.returncode, ran.stderr) == (0, "")
+    silent = len(prompt(before, *words).stdout.split("\n")) - 1
+    return ran.stdout.split("\n")[silent:-1]
+
+
+def test_no_word_of_its_own_is_a_command() -> None:
+    assert not set(OWN) & set(COMMANDS)
+
+
+def test_values_are_shown_in_each_way() -> None:
+    head = "a at the end (S 4, 8 bits{})"
+    assert answers(["show a end"]) == [head.format(""), "    1 200   3  16"]
+    assert answers(["hex a"]) == [head.format(", in hex"), "  01 c8 03 10"]
+    assert answers(["signed a end"]) == [head.format(", signed"), "    1 -56   3  16"]
+    assert answers(["bits a start"])[1] == "  00000001 11001000 00000011 00010000"
+    assert answers(["line a"]) == ["values 1 200 3 16"]
+
+
+def test_a_way_without_a_key_stays_and_one_with_a_key_does_not() -> None:
+    assert answers(["hex", "show a end", "signed a", "line", "show a end", "unsigned", "show a end"]) == [
+        "values are shown as a grid, in hex",
+        "a at the end (S 4, 8 bits, in hex)",
+        "  01 c8 03 10",
+        "a at the end (S 4, 8 bits, signed)",
+        "    1 -56   3  16",
+        "values are shown as a line, in hex",
+        "values 01 c8 03 10",
+        "values are shown as a line, unsigned",
+        "values 1 200 3 16",
+    ]
+
+
+def test_a_grid_has_the_axes_of_its_set() -> None:
+    grid = ["set G 4x2", "field g G 8", "input g 0 1 2 3 4 5 6 7 88"]
+    assert answers(["grid g"], grid) == ["g at the end (G 4x2, 8 bits)", "   1  2  3  4", "   5  6  7 88"]
+
+
+def test_a_row_s_place_can_be_looked_at_in_a_way() -> None:
+    rows = [*BASE, "insert end u-move-constant-1L a 10 8", "insert end u-move-constant-1L a 20 8", "settle"]
+    assert answers(["hex a after 1"], rows) == ["a after row 1 (S 4, 8 bits, in hex)", "  0a 0a 0a 0a"]
+    assert answers(["hex a after 9"], rows)[0] == "refused 10: no row has this id"
+    assert answers(["hex b"], rows)[0].startswith("refused 7: ")
+
+
+@pytest.mark.parametrize("line", ["load", "save", "again now", "new game"])
+def test_a_word_that_is_written_otherwise_is_said(line: str) -> None:
+    assert answers([line]) == [f"it is written `{OWN[line.split(' ')[0]].spelling}`"]
+
+
+def test_help_finds_numbers_parts_and_likely_words() -> None:
+    assert help_for("12") == help_for("BadLength") == help_for("badlength")
+    assert help_for("12")[0] == "refused 12   (fault BadLength)"
+    parts = help_for("scan-with-u")
+    assert " ".join(parts[1:]).split() == ["scan-with-u-add-1L", "scan-with-u-max-1L", "scan-with-u-min-1L"]
+    assert help_for("setle") == ["there is no help for `setle`: did you mean `settle`?"]
+    assert help_for("xyzzy") == ["there is no help for `xyzzy`"]
+
+
+def test_new_begins_with_nothing_declared() -> None:
+    assert answers(["new", "show a end", "set S 8"]) == [
+        "nothing is declared",
+        *answers(["show a end"], []),
+        "ok",
+    ]
+
+
+def test_load_explains_what_is_refused_and_goes_on(tmp_path: Path) -> None:
+    script = tmp_path / "mistakes.paris"
+    script.write_text("# mistakes\nset S 4\n\nfield a S 80\nfield a S 8\nshow b end\nshow a end\n")
+    said = answers([f"load {script}"], [])
+    assert said[0] == f"{script}:4: refused 6: the width is 0 or above the greatest one"
+    assert [line.split(": ")[0] for line in said if line.startswith(str(script))] == [
+        *(f"{script}:{line}" for line in (4, 6, 7)),
+        str(script),
+    ]
+    assert said[-3:] == [
+        f"{script}:7: a at the end (S 4, 8 bits)",
+        "  0 0 0 0",
+        f"{script}: 5 commands, 2 refused: lines 4, 6",
+    ]
+
+
+def test_what_is_loaded_is_saved_with_its_comments_and_without_its_mistakes(tmp_path: Path) -> None:
+    script, copy = tmp_path / "one.paris", tmp_path / "two.paris"
+    script.write_text("# first\nset S 4\n\nfield a S 80\nfield a S 8\nshow a end\ntake\n# last\n")
+    prompt([f"save {copy}"], str(script))
+    assert copy.read_text() == "# first\nset S 4\n\nfield a S 8\n# last\n"
+
+
+def test_each_example_is_saved_as_a_script_of_the_same_replies(tmp_path: Path) -> None:
+    looks = ["list", "faults"]
+    scripts = sorted((ROOT / "examples").glob("*.paris"))
+    assert len(scripts) == 9
+    for script in scripts:
+        copy = tmp_path / script.name
+        wanted = answers(looks, [f"load {script}", f"save {copy}"])
+        assert wanted[0].startswith("rows ") and answers(looks, [f"load {copy}"]) == wanted
+
+
+def test_save_keeps_what_the_file_held_and_writes_whole_files(tmp_path: Path) -> None:
+    file = tmp_path / "a.paris"
+    write_lines(file, ["one", "caf\udce9"])
+    assert read_lines(file) == ["one", "caf\udce9"] and file.read_bytes() == b"one\ncaf\xe9\n"
+    file.chmod(0o640)
+    write_lines(file, ["two"])
+    assert file.read_text() == "two\n" and (tmp_path / "a.paris~").read_bytes() == b"one\ncaf\xe9\n"
+    assert file.stat().st_mode & 0o777 == 0o640
+    assert sorted(path.name for path in tmp_path.iterdir()) == ["a.paris", "a.paris~"]
+
+
+def test_a_file_that_cannot_be_read_or_written_is_said(tmp_path: Path) -> None:
+    assert answers([f"load {tmp_path}/none"]) == [f"can't read {tmp_path}/none: No such file or directory"]
+    assert answers([f"save {tmp_path}"]) == [f"can't write {tmp_path}: Is a directory"]
+    assert answers([f"save {tmp_path}/none/x"]) == [f"can't write {tmp_path}/none/x: No such file or directory"]
+    assert answers(["save /dev/full"]) == ["can't write /dev/full: No space left on device"]
+    ran = prompt([], f"{tmp_path}/none")
+    assert (
+        ran.returncode == 2 and ran.stderr == f"paris prompt: can't read {tmp_path}/none: No such file or directory\n"
+    )
+
+
+def test_wrong_words_have_a_usage_line_and_status_2() -> None:
+    for words in (["a", "b"], ["--grid"]):
+        ran = prompt([], *words)
+        assert (ran.returncode, ran.stdout, ran.stderr) == (2, "", "usage: paris prompt [FILE]\n")
+    ran = prompt([], "--help")
+    assert ran.returncode == 0 and all(word.spelling in ran.stdout for word in OWN.values())
+
+
+def test_a_program_that_ends_at_once_is_said(tmp_path: Path) -> None:
+    program = tmp_path / "ends"
+    program.write_text("#!/bin/sh\nread -r line\necho no memory >&2\nexit 4\n")
+    program.chmod(0o755)
+    ran = prompt(["set S 4", "show a end", "again", "set S 4", "quit"], program=program)
+    said = ran.stdout.split("\n")
+    ended = "no program runs: the program ended before its reply (exit status 4: no memory)"
+    kept = "0 accepted commands are kept: `again` starts the program with them, `save FILE` saves them"
+    again = "the program is started again, and 0 accepted commands are told"
+    assert said == [ended, kept, ended, kept, again, ended, kept, ""]
+    assert ran.returncode == 0
+
+
+def test_a_program_that_is_gone_is_said(tmp_path: Path) -> None:
+    program = tmp_path / "gone"
+    program.write_text("#!/nowhere/at/all\n")
+    program.chmod(0o755)
+    ran = prompt(["set S 4"], program=program)
+    assert ran.returncode == 2 and ran.stderr.startswith("paris prompt: no program runs: it can't be started: ")
+
+
+def board() -> Board:
+    made = Board()
+    made.sets = {"S": (4,), "G": (4, 2)}
+    made.fields = {"a": Declared("S", 8), "ab": Declared("S", 4), "f": Declared("S", 1), "g": Declared("G", 16)}
+    made.rows, made.orders = [3, 1], 2
+    return made
+
+
+@pytest.mark.parametrize(
+    ("line", "wanted"),
+    [
+        ("se", ["set ", "settle"]),
+        ("ta", ["take"]),
+        ("lo", ["load "]),
+        ("q", ["quit"]),
+        ("insert ", ["insert start ", "insert after ", "insert end "]),
+        ("insert after ", ["insert after 3 ", "insert after 1 "]),
+        ("delete ", ["delete 3", "delete 1"]),
+        ("bring ", ["bring 1", "bring 2"]),
+        ("set ", []),
+        ("field x ", ["field x S ", "field x G "]),
+        ("insert end send-with-l", [f"insert end send-with-{name}-1L " for name in ("logior", "logand", "logxor")]),
+        ("insert end u-add-3-1L a", ["insert end u-add-3-1L a ", "insert end u-add-3-1L ab "]),
+        ("insert end u-add-3-1L g ", ["insert end u-add-3-1L g g "]),
+        ("insert end u-add-3-1L a ab a ", ["insert end u-add-3-1L a ab a 4"]),
+        ("insert end load-test ", ["insert end load-test f"]),
+        ("insert end set-test ", ["insert end set-test S", "insert end set-test G"]),
+        ("insert end get-from-news-1L g g ", [f"insert end get-from-news-1L g g {axis} " for axis in (0, 1)]),
+        ("insert end get-from-news-1L g g 0 u", ["insert end get-from-news-1L g g 0 upward "]),
+        ("insert end send-1L a a a 8 ", ["insert end send-1L a a a 8 f", "insert end send-1L a a a 8 none"]),
+        ("show G.c", ["show G.context ", "show G.carry "]),
+        ("show a ", ["show a start", "show a after ", "show a end"]),
+        ("hex G.t", ["hex G.test"]),
+        ("signed ab a", ["signed ab after "]),
+        ("help rows", []),
+        ("help Rows", ["help RowsFull"]),
+        ("help sa", ["help save"]),
+        ("nonsense a", []),
+        ("insert end nonsense ", []),
+        ("settle ", []),
+    ],
+)
+def test_tab_offers_what_may_stand_there(line: str, wanted: list[str]) -> None:
+    begin = line.rpartition(" ")[0]
+    assert [f"{begin} {offer}".lstrip(" ") for offer in offers(line, board())] == wanted
+
+
+def test_tab_offers_every_name_to_help_and_every_instruction_to_insert() -> None:
+    assert set(offers("help ", board())) == {*OWN, *(entry.name for entry in ENTRIES)}
+    assert len(offers("insert end ", board())) == 77
+
+
+def test_tab_offers_files(tmp_path: Path) -> None:
+    (tmp_path / "one.paris").write_text("")
+    (tmp_path / "folder").mkdir()
+    assert offers(f"load {tmp_path}/", board()) == [f"{tmp_path}/folder/", f"{tmp_path}/one.paris"]
+    assert offers(f"save {tmp_path}/o", board()) == [f"{tmp_path}/one.paris"]
+    assert offers(f"load {tmp_path}/[", board()) == []
