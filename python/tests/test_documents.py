@@ -45,6 +45,6 @@ def test_explain_writes_what_the_document_says(tmp_path: Path) -> None:
     text = (REPOSITORY / "docs/PEOPLE.md").read_text(encoding="utf-8").split("\n## explain\n")[1]
     script, written = re.findall(r"```\n(.*?)```", text, re.S)[:2]
     (tmp_path / "wrong.paris").write_text(script)
-    words = [REPOSITORY / "paris", "explain", "wrong.paris"]
+    words = [str(REPOSITORY / "paris"), "explain", "wrong.paris"]
     ran = subprocess.run(words, capture_output=True, text=True, timeout=60, cwd=tmp_path)
     assert (ran.stdout, ran.stderr, ran.returncode) == (written, "", 1)
