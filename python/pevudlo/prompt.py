@@ -8,7 +8,7 @@ from pathlib import Path
 
 from pevudlo.explain import ending
 from pevudlo.program import NotFound, find
-from pevudlo.prompt_files import path_of, read_lines, write_lines
+from pevudlo.prompt_files import path_of, read_lines, why, write_lines
 from pevudlo.prompt_help import OWN, OWN_WORDS, help_for
 from pevudlo.prompt_lines import Reader, Terminal, Piped, is_terminal
 from pevudlo.prompt_session import Session, Stopped
@@ -42,7 +42,7 @@ class Prompt:
     def handle(self, line: str) -> bool:
         """Answers one line. Whether the prompt goes on."""
         word, _, rest = line.partition(" ")
-        if word == "quit" and not rest:
+        if line in ("quit", "exit"):
             return not self.may_quit()
         self._warned = False
         try:
@@ -111,8 +111,8 @@ class Prompt:
         name = visible(str(path))
         try:
             lines = read_lines(path)
-        except OSError as error:
-            self.say(f"can't read {name}: {error.strerror}")
+        except (OSError, ValueError) as error:
+            self.say(f"can't read {name}: {why(error)}")
             return
         was_empty = not self.session.accepted
         commands, refused = 0, []
@@ -133,8 +133,8 @@ class Prompt:
         """Saves the accepted commands."""
         try:
             write_lines(path, self.session.accepted)
-        except OSError as error:
-            self.say(f"can't write {visible(str(path))}: {error.strerror}")
+        except (OSError, ValueError) as error:
+            self.say(f"can't write {visible(str(path))}: {why(error)}")
             return
         self.session.saved = list(self.session.accepted)
         self.say(f"{visible(str(path))}: {self.count_words()} saved")
@@ -191,8 +191,8 @@ def main(words: list[str]) -> int:
         if words:
             read_lines(path_of(words[0]))
         session = Session(find())
-    except OSError as error:
-        print(f"paris prompt: can't read {visible(words[0])}: {error.strerror}", file=sys.stderr)
+    except (OSError, ValueError) as error:
+        print(f"paris prompt: can't read {visible(words[0])}: {why(error)}", file=sys.stderr)
         return 2
     except NotFound as error:
         print(f"paris prompt: {error}", file=sys.stderr)

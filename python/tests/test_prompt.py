@@ -6,15 +6,19 @@ import os
 import subprocess
 import sys
 from pathlib import Path
+from random import Random
 
 import pytest
+from random_lines import RandomLines
 
 from pevudlo.board import Board, Declared
 from pevudlo.grammar import COMMANDS
 from pevudlo.program import ROOT, find
+from pevudlo.prompt import Prompt
 from pevudlo.prompt_complete import offers
 from pevudlo.prompt_files import read_lines, write_lines
 from pevudlo.prompt_help import OWN, help_for
+from pevudlo.prompt_session import Session
 from pevudlo.reference import ENTRIES
 
 BASE = ["set S 4", "field a S 8", "input a 0 1 200 3 16"]
@@ -28,18 +32,34 @@ def prompt(lines: list[str], *words: str, program: Path | None = None) -> subpro
         input="".join(f"{line}\n" for line in lines),
         capture_output=True,
         text=True,
+        errors="surrogateescape",
         timeout=60,
         env=environment,
     )
 
 
-def answers(lines: list[str], before: list[str] | None = None, *words: str) -> list[str]:
-    """What is answered to lines, after others whose answers are left out."""
-    before = BASE if before is None else before
-    ran = prompt([*before, *lines], *words)
+def answers(lines: list[str], before: list[str] | None = None) -> list[str]:
+    """What is answered to lines in a prompt of this process, after others whose answers are left out."""
+    shown: list[str] = []
+    session = Session(find())
+    session.begin()
+    try:
+        answering = Prompt(session, shown.append, False)
+        for line in BASE if before is None else before:
+            assert answering.handle(line)
+        shown.clear()
+        for line in lines:
+            assert answering.handle(line)
+    finally:
+        session.close()
+    return shown
+
+
+def test_lines_that_come_from_a_pipe_are_answered_as_those_that_are_typed() -> None:
+    lines = [*BASE, "show a end", "hex a", "shw a", "help 12", "# a comment", "", "delete 1"]
+    ran = prompt([*lines, "quit", "set T 4"])
     assert (ran.returncode, ran.stderr) == (0, "")
-    silent = len(prompt(before, *words).stdout.split("\n")) - 1
-    return ran.stdout.split("\n")[silent:-1]
+    assert ran.stdout.split("\n")[:-1] == answers(lines, [])
 
 
 def test_no_word_of_its_own_is_a_command() -> None:
@@ -145,6 +165,54 @@ def test_save_keeps_what_the_file_held_and_writes_whole_files(tmp_path: Path) ->
     assert file.read_text() == "two\n" and (tmp_path / "a.paris~").read_bytes() == b"one\ncaf\xe9\n"
     assert file.stat().st_mode & 0o777 == 0o640
     assert sorted(path.name for path in tmp_path.iterdir()) == ["a.paris", "a.paris~"]
+
+
+def test_odd_bytes_are_written_as_escapes_and_end_nothing(tmp_path: Path) -> None:
+    ran = prompt(["help \udcff\x1b[31m", f"load {tmp_path}/\x00", f"save {tmp_path}/a\x00", "hex \x1b", "set S 4"])
+    said = ran.stdout.split("\n")
+    assert said[0] == "there is no help for `\\xff\\x1b[31m`"
+    assert said[1:3] == [
+        f"can't {way} {tmp_path}/{name}\\x00: embedded null byte" for way, name in (("read", ""), ("write", "a"))
+    ]
+    assert said[-2] == "ok" and "\x1b" not in ran.stdout
+
+
+def test_random_lines_are_answered_each(tmp_path: Path) -> None:
+    dice, lines = Random(3), RandomLines(3).lines(1500)
+    own = [
+        "help",
+        "help scan",
+        "help 5",
+        "grid",
+        "line",
+        "hex a",
+        "bits S.test end",
+        "signed b after 1",
+        "again",
+        "load x",
+    ]
+    shown: list[str] = []
+    session = Session(find())
+    session.begin()
+    try:
+        answering = Prompt(session, shown.append, False)
+        silent = 0
+        for line in lines:
+            for each in (line, dice.choice(own)) if dice.random() < 0.1 else (line,):
+                before = len(shown)
+                assert answering.handle(each)
+                silent += len(shown) == before
+                assert session.is_running
+        comments = sum(not line or line.startswith("#") for line in lines)
+        assert silent == comments
+        answering.handle(f"save {tmp_path / 'random.paris'}")
+        wanted = session.tell("list"), session.tell("faults"), session.tell("take")
+        session.begin()
+        answering.handle(f"load {tmp_path / 'random.paris'}")
+        assert (session.tell("list"), session.tell("faults"), session.tell("take")) == wanted
+        assert shown[-1].endswith(" commands, none refused")
+    finally:
+        session.close()
 
 
 def test_a_file_that_cannot_be_read_or_written_is_said(tmp_path: Path) -> None:
