@@ -16,7 +16,6 @@ from pevudlo.prompt_show import WAYS, View, answer_lines, is_told
 from pevudlo.visible import visible
 
 USAGE = "usage: paris prompt [--workers N] [FILE]"
-WELCOME = "`help` says what there is, and the key Tab completes words. `quit` or Ctrl-D ends."
 
 
 def spelling_of(name: str) -> str:
@@ -32,7 +31,7 @@ class Prompt:
         self.view = View()
         self._show = show
         self._may_warn = may_warn
-        self._warned = False
+        self._asked = ""
 
     def say(self, *lines: str) -> None:
         """Shows lines of text."""
@@ -43,8 +42,9 @@ class Prompt:
         """Answers one line. Whether the prompt goes on."""
         word, _, rest = line.partition(" ")
         if line in ("quit", "exit"):
-            return not self.may_quit()
-        self._warned = False
+            return not self.may_drop("ends the prompt")
+        if line != "new":
+            self._asked = ""
         try:
             if word in WAYS:
                 self.show_by(word, rest)
@@ -56,12 +56,12 @@ class Prompt:
             self.say(f"no program runs: {stopped}", self.kept_words())
         return True
 
-    def may_quit(self) -> bool:
-        """Whether the prompt may end: at once where all is saved, else when it is asked a second time."""
-        if self.session.is_saved or self._warned or not self._may_warn:
+    def may_drop(self, what: str) -> bool:
+        """Whether the accepted commands may be dropped: at once where all are saved, else when it is asked twice."""
+        if self.session.is_saved or self._asked == what or not self._may_warn:
             return True
-        self._warned = True
-        self.say(f"{self.count_words()} not saved: `save FILE` saves them, and `quit` once more ends the prompt")
+        self._asked = what
+        self.say(f"{self.count_words()} not saved: `save FILE` saves them, and the same once more {what}")
         return False
 
     def count_words(self) -> str:
@@ -83,8 +83,10 @@ class Prompt:
             self.session.start()
             self.say(f"the program is started again, and {self.count_words()} told")
         elif word == "new" and not rest:
-            self.session.begin()
-            self.say("nothing is declared")
+            if self.may_drop("begins anew"):
+                self._asked = ""
+                self.session.begin()
+                self.say("nothing is declared")
         else:
             self.say(spelling_of(word))
 
@@ -142,19 +144,21 @@ class Prompt:
 
 def talk(prompt: Prompt, reader: Reader) -> None:
     """Reads lines and answers them until their end, or until `quit`."""
-    while True:
+    goes_on = True
+    while goes_on:
         try:
             line = reader.read()
         except KeyboardInterrupt:
             # The line is dropped, and a new one begins.
             prompt.say("")
             continue
-        if line is None:
-            if prompt.may_quit():
-                return
-            continue
-        if not prompt.handle(line):
-            return
+        try:
+            goes_on = prompt.handle("quit" if line is None else line)
+        except KeyboardInterrupt:
+            prompt.session.interrupt()
+            prompt.say("", "no program runs: it was interrupted", prompt.kept_words())
+        if not prompt.session.is_running:
+            reader.drop()
 
 
 def run(session: Session, file: str | None) -> None:
@@ -163,8 +167,7 @@ def run(session: Session, file: str | None) -> None:
     prompt = Prompt(session, lambda line: print(line, flush=True), is_terminal())
     try:
         session.begin()
-        if is_terminal():
-            prompt.say(WELCOME)
+        prompt.say(*reader.welcome())
         if file is not None:
             try:
                 prompt.load(path_of(file))

@@ -3,6 +3,7 @@
 from __future__ import annotations
 
 import os
+import shutil
 import tempfile
 from collections.abc import Iterator
 from pathlib import Path
@@ -41,7 +42,7 @@ def write_lines(path: Path, lines: list[str]) -> None:
             file.write(text)
         os.chmod(name, target.stat().st_mode & 0o777 if target.is_file() else 0o666 & ~umask())
         if target.is_file():
-            os.replace(target, target.with_name(f"{target.name}~"))
+            shutil.copy2(target, target.with_name(f"{target.name}~"))
         os.replace(name, target)
     except BaseException:
         Path(name).unlink(missing_ok=True)

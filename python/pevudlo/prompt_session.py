@@ -73,9 +73,18 @@ class Session:
             self._told(line)
 
     def begin(self) -> None:
-        """Starts an empty program, to which nothing was told."""
-        self.accepted, self.saved = [], []
-        self.start()
+        """Starts a program to which nothing was told, and forgets the rest. Raises Stopped where none can be started."""
+        accepted, self.accepted = self.accepted, []
+        try:
+            self.start()
+        except Stopped:
+            self.accepted = accepted
+            raise
+        self.saved = []
+
+    def interrupt(self) -> None:
+        """Ends the program: what it was told last may not be in `accepted`."""
+        self._stop("it was interrupted")
 
     def tell(self, line: str) -> Answer | None:
         """Tells one line, and keeps it where it was accepted. None for a comment and for an empty line.
