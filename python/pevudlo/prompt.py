@@ -15,7 +15,7 @@ from pevudlo.prompt_session import Session, Stopped
 from pevudlo.prompt_show import WAYS, View, answer_lines, is_told
 from pevudlo.visible import visible
 
-USAGE = "usage: paris prompt [FILE]"
+USAGE = "usage: paris prompt [--workers N] [FILE]"
 WELCOME = "`help` says what there is, and the key Tab completes words. `quit` or Ctrl-D ends."
 
 
@@ -176,30 +176,49 @@ def run(session: Session, file: str | None) -> None:
         reader.close()
 
 
+def meant_by(words: list[str]) -> tuple[str | None, int] | None:
+    """The file, if one is named, and how many workers. None where the words are wrong."""
+    names, workers, rest = list[str](), "2", iter(words)
+    for word in rest:
+        if word == "--workers":
+            workers = next(rest, "")
+        elif word.startswith("--workers="):
+            workers = word.partition("=")[2]
+        else:
+            names.append(word)
+    if len(names) > 1 or names and names[0].startswith("-") or workers not in map(str, range(1, 17)):
+        return None
+    return (names[0] if names else None), int(workers)
+
+
 def main(words: list[str]) -> int:
-    """Runs the command. The exit status is 2 where the words are wrong, the file can't be read, or there is no "
-    "program."""
+    """Runs the command. The exit status is 2 where the words are wrong, the file can't be read, or no program is "
+    "there."""
     if words == ["--help"]:
         print(USAGE)
         for word in OWN_WORDS:
             print(f"  {word.spelling}: {word.does}")
         return 0
-    if len(words) > 1 or words and words[0].startswith("-"):
+    meant = meant_by(words)
+    if meant is None:
         print(USAGE, file=sys.stderr)
         return 2
+    file, workers = meant
     try:
-        if words:
-            read_lines(path_of(words[0]))
-        session = Session(find())
+        if file is not None:
+            read_lines(path_of(file))
     except (OSError, ValueError) as error:
-        print(f"paris prompt: can't read {visible(words[0])}: {why(error)}", file=sys.stderr)
-        return 2
-    except NotFound as error:
-        print(f"paris prompt: {error}", file=sys.stderr)
-        return 2
+        return ends_badly(f"can't read {visible(file or '')}: {why(error)}")
     try:
-        run(session, words[0] if words else None)
+        run(Session(find(), workers), file)
+    except NotFound as error:
+        return ends_badly(str(error))
     except Stopped as stopped:
-        print(f"paris prompt: no program runs: {stopped}", file=sys.stderr)
-        return 2
+        return ends_badly(f"no program runs: {stopped}")
     return 0
+
+
+def ends_badly(said: str) -> int:
+    """Says why there is no prompt, and gives the exit status."""
+    print(f"paris prompt: {said}", file=sys.stderr)
+    return 2

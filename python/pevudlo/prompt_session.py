@@ -28,8 +28,9 @@ class Session:
     After the program has ended, each call raises Stopped until `start` has been called. `accepted` stays.
     """
 
-    def __init__(self, program: Path) -> None:
+    def __init__(self, program: Path, workers: int = 2) -> None:
         self.program = program
+        self.workers = workers
         self.accepted: list[str] = []
         self.saved: list[str] = []
         self._board = Board()
@@ -63,7 +64,7 @@ class Session:
         """
         self.close()
         try:
-            self._talk = Talk(Pipe(self.program))
+            self._talk = Talk(Pipe(self.program, self.workers))
         except OSError as error:
             self._stop(f"it can't be started: {error.strerror}")
             raise Stopped(self._end) from error

@@ -3,6 +3,7 @@
 from __future__ import annotations
 
 import os
+import re
 import subprocess
 import sys
 from pathlib import Path
@@ -60,6 +61,24 @@ def test_lines_that_come_from_a_pipe_are_answered_as_those_that_are_typed() -> N
     ran = prompt([*lines, "quit", "set T 4"])
     assert (ran.returncode, ran.stderr) == (0, "")
     assert ran.stdout.split("\n")[:-1] == answers(lines, [])
+
+
+def test_the_document_s_prompt_answers_as_it_stands_there(tmp_path: Path, monkeypatch: pytest.MonkeyPatch) -> None:
+    text = (ROOT / "docs" / "PEOPLE.md").read_text().split("\n## prompt\n")[1]
+    (block,) = re.findall(r"^```\n(paris> .*?)^```$", text, re.M | re.S)
+    turns = [turn.rstrip("\n").split("\n") for turn in block.split("paris> ")[1:]]
+    monkeypatch.chdir(tmp_path)
+    told = [line for turn in turns for line in turn[1:]]
+    assert answers([turn[0] for turn in turns], []) == told
+    assert len(turns) == 9 and (tmp_path / "double.paris").is_file()
+
+
+def test_workers_are_as_many_as_said(tmp_path: Path) -> None:
+    program = tmp_path / "words"
+    program.write_text('#!/bin/sh\nread -r line\necho "$@" >&2\nexit 4\n')
+    program.chmod(0o755)
+    for words, wanted in ((), "2"), (("--workers", "5"), "5"), (("--workers=16",), "16"):
+        assert f"(exit status 4: --workers {wanted})" in prompt(["set S 4"], *words, program=program).stdout
 
 
 def test_no_word_of_its_own_is_a_command() -> None:
@@ -227,9 +246,9 @@ def test_a_file_that_cannot_be_read_or_written_is_said(tmp_path: Path) -> None:
 
 
 def test_wrong_words_have_a_usage_line_and_status_2() -> None:
-    for words in (["a", "b"], ["--grid"]):
+    for words in (["a", "b"], ["--grid"], ["--workers"], ["--workers", "17"], ["--workers=0"], ["--workers", "02"]):
         ran = prompt([], *words)
-        assert (ran.returncode, ran.stdout, ran.stderr) == (2, "", "usage: paris prompt [FILE]\n")
+        assert (ran.returncode, ran.stdout, ran.stderr) == (2, "", "usage: paris prompt [--workers N] [FILE]\n")
     ran = prompt([], "--help")
     assert ran.returncode == 0 and all(word.spelling in ran.stdout for word in OWN.values())
 
