@@ -73,7 +73,7 @@ class Session:
             self._told(line)
 
     def begin(self) -> None:
-        """Starts a program to which nothing was told, and forgets the rest. Raises Stopped where it can't be started."""
+        """Starts a program to which nothing was told, and forgets the rest. Raises Stopped where none starts."""
         accepted, self.accepted = self.accepted, []
         try:
             self.start()
