@@ -4,6 +4,7 @@ from __future__ import annotations
 
 import sys
 from contextlib import nullcontext
+from dataclasses import dataclass
 from typing import BinaryIO, ContextManager, Iterator
 
 from pevudlo.board import Board
@@ -14,7 +15,11 @@ from pevudlo.replies import Cause, Faults, OrderTaken, PendingReply, Refused, Ro
 from pevudlo.talk import Answer, Talk
 from pevudlo.visible import visible
 
-USAGE = "usage: paris explain FILE [--stop]"
+USAGE = "usage: paris explain [--workers N] FILE [--stop]"
+HELP = f"""{USAGE}
+
+Runs a script, and says of each line what came of it: values as grids, and refusals in words with what there is instead.
+FILE may be `-`, for standard input. --stop ends at the first refusal. The exit status is the program's."""
 INDENT = "    "
 VERDICTS = {
     Word.KEPT: "the result is the present row's, and settles it",
@@ -102,6 +107,36 @@ def explain(name: str, script: BinaryIO, pipe: Pipe, stop: bool = False) -> None
     print(f"{name}: {ending(commands, refused, stopped)}")
 
 
+@dataclass(frozen=True)
+class Meant:
+    """What the words of a command line ask for."""
+
+    name: str
+    stop: bool
+    workers: int
+
+
+def meant_by(words: list[str]) -> Meant | None:
+    """What the words ask for, or None where they are wrong."""
+    names: list[str] = []
+    stops, workers = 0, "2"
+    rest = iter(words)
+    for word in rest:
+        if word == "--stop":
+            stops += 1
+        elif word == "--workers":
+            workers = next(rest, "")
+        elif word.startswith("--workers="):
+            workers = word.partition("=")[2]
+        elif word == "-" or not word.startswith("-"):
+            names.append(word)
+        else:
+            return None
+    if len(names) != 1 or stops > 1 or workers not in map(str, range(1, 17)):
+        return None
+    return Meant(names[0], stops == 1, int(workers))
+
+
 def opened(name: str) -> ContextManager[BinaryIO]:
     """A script by its file's name, `-` for standard input. Raises OSError where it can't be read."""
     if name == "-":
@@ -111,22 +146,22 @@ def opened(name: str) -> ContextManager[BinaryIO]:
 
 def main(words: list[str]) -> int:
     """Runs the command. The exit status is the program's, or 2 where the words are wrong or the file can't be read."""
-    stop = "--stop" in words
-    names = [word for word in words if word != "--stop"]
     if words == ["--help"]:
-        print(USAGE)
+        print(HELP)
         return 0
-    if len(names) != 1 or words.count("--stop") > 1 or (names[0] != "-" and names[0].startswith("-")):
+    meant = meant_by(words)
+    if meant is None:
         print(USAGE, file=sys.stderr)
         return 2
+    name = visible(meant.name)
     try:
-        with opened(names[0]) as script, Pipe(find()) as pipe:
-            explain(visible(names[0]), script, pipe, stop)
+        with opened(meant.name) as script, Pipe(find(), meant.workers) as pipe:
+            explain(name, script, pipe, meant.stop)
             return pipe.close()
     except BrokenPipeError:
         raise
     except OSError as error:
-        print(f"paris explain: can't read {visible(names[0])}: {error.strerror}", file=sys.stderr)
+        print(f"paris explain: can't read {name}: {error.strerror}", file=sys.stderr)
         return 2
     except NotFound as error:
         print(f"paris explain: {error}", file=sys.stderr)

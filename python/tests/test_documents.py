@@ -39,3 +39,12 @@ def test_bench_measures() -> None:
     head, _, *lines = ran.stdout.splitlines()
     assert head.startswith("| what |") and len(lines) == 4
     assert all(re.fullmatch(r"\|[^|]+\|( \d+\.\d (us|ms) \|){3} 200 (us|ms) \|", line) for line in lines)
+
+
+def test_explain_writes_what_the_document_says(tmp_path: Path) -> None:
+    text = (REPOSITORY / "docs/PEOPLE.md").read_text(encoding="utf-8").split("\n## explain\n")[1]
+    script, written = re.findall(r"```\n(.*?)```", text, re.S)[:2]
+    (tmp_path / "wrong.paris").write_text(script)
+    words = [str(REPOSITORY / "paris"), "explain", "wrong.paris"]
+    ran = subprocess.run(words, capture_output=True, text=True, timeout=60, cwd=tmp_path)
+    assert (ran.stdout, ran.stderr, ran.returncode) == (written, "", 1)

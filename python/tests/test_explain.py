@@ -150,14 +150,15 @@ def test_a_refusal_with_caret_and_hint(tmp_path: Path) -> None:
 
 
 def test_words(tmp_path: Path) -> None:
-    for words in ("", "a b", "--stop", "--stop --stop a", "--nope a"):
+    for words in ("", "a b", "--stop", "--stop --stop a", "--nope a", "--workers 17 a", "a --workers"):
         ran = run(*words.split())
         assert (ran.returncode, ran.stdout) == (2, "")
         assert ran.stderr.startswith("usage: ")
     ran = run(tmp_path / "none")
     assert ran.returncode == 2 and "can't read" in ran.stderr
     assert run(tmp_path).returncode == 2
-    ran = run("-", stdin=b"set S 4\n")
+    assert run("--help").returncode == 0 and run("--help").stdout.startswith("usage: paris explain ")
+    ran = run("-", "--workers", "3", stdin=b"set S 4\n")
     assert ran.stdout == "-:1: ok\n-: 1 command, none refused\n"
 
 

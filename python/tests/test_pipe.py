@@ -7,6 +7,7 @@ import signal
 import subprocess
 import sys
 import time
+from concurrent.futures import ThreadPoolExecutor
 from pathlib import Path
 
 import pytest
@@ -172,3 +173,40 @@ def test_ctrl_c_leaves_no_process(program: Path) -> None:
     said, error = holder.communicate(timeout=20)
     assert "KeyboardInterrupt" in error and "settled" not in said
     assert gone_in_time(child)
+
+
+def test_a_pipe_that_nobody_closes_leaves_no_process(program: Path) -> None:
+    held = "import sys; sys.path.insert(0, sys.argv[1]); from pevudlo.pipe import Pipe; from pathlib import Path\n"
+    held += "pipe = Pipe(Path(sys.argv[2])); print(pipe.process, pipe.ask('settle'))"
+    words = [sys.executable, "-c", held, str(REPOSITORY / "python"), str(program)]
+    ran = subprocess.run(words, capture_output=True, text=True, timeout=20)
+    process, reply = ran.stdout.strip().split(" ", 1)
+    assert reply == "['settled 0']"
+    assert gone_in_time(int(process))
+
+
+def test_threads_share_a_pipe(program: Path) -> None:
+    """Each thread gets the reply to its own line."""
+    with Pipe(program) as pipe, ThreadPoolExecutor(8) as threads:
+        pipe.ask("set S 1")
+        for name in range(8):
+            pipe.ask(f"field f{name} S 8")
+            pipe.ask(f"input f{name} 0 {name}")
+        wanted = [name % 8 for name in range(2_000)]
+        replies = list(threads.map(lambda name: pipe.ask(f"show f{name} end"), wanted))
+    assert replies == [[f"values {name}"] for name in wanted]
+
+
+def test_a_thread_that_kills_ends_one_that_waits(program: Path) -> None:
+    with Pipe(program) as pipe, ThreadPoolExecutor(1) as threads:
+        pipe.ask("set S 65536")
+        pipe.ask("field a S 64")
+        for _ in range(4_000):
+            pipe.ask("insert end u-truncate-3-1L a a a 64")
+        waits = threads.submit(pipe.ask, "settle")
+        time.sleep(0.2)
+        assert not waits.done()
+        pipe.kill()
+        with pytest.raises(Ended):
+            waits.result(timeout=20)
+    assert not is_alive(pipe.process)

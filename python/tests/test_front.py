@@ -1,0 +1,88 @@
+"""./paris: scripts as before, words that are wrong, and the programs for people."""
+
+from __future__ import annotations
+
+import os
+import subprocess
+from pathlib import Path
+
+import pytest
+
+REPOSITORY = Path(__file__).resolve().parents[2]
+PARIS = REPOSITORY / "paris"
+FIRST = REPOSITORY / "examples/first-sum.paris"
+TRANSCRIPT = (REPOSITORY / "examples/first-sum.expected").read_text()
+
+
+def paris(*words: str | Path, stdin: str = "", **variables: str) -> subprocess.CompletedProcess[str]:
+    environment = {name: value for name, value in os.environ.items() if name != "PARIS_FRONT"} | variables
+    return subprocess.run(
+        [PARIS, *words], input=stdin, capture_output=True, text=True, timeout=60, env=environment, cwd="/"
+    )
+
+
+def test_scripts() -> None:
+    for words in ("", "--workers 3", "--workers=1"):
+        ran = paris(*words.split(), FIRST)
+        assert (ran.returncode, ran.stdout, ran.stderr) == (0, TRANSCRIPT, "")
+    ran = paris(stdin=FIRST.read_text())
+    assert (ran.returncode, ran.stdout) == (0, TRANSCRIPT)
+    assert paris(stdin="delete 9\n").returncode == 1
+
+
+@pytest.mark.parametrize(
+    "words",
+    ["--nope", "a b", "--workers", "explain --nope x", "explain", "--workers 2 explain x", "--where explain x", "page"],
+)
+def test_wrong_words(words: str) -> None:
+    ran = paris(*words.split())
+    assert (ran.returncode, ran.stdout) == (2, "")
+    assert "usage: " in ran.stderr and ran.stderr.count("\n") == 1
+
+
+def test_help_and_where() -> None:
+    ran = paris("--help")
+    assert ran.returncode == 0 and ran.stdout.startswith("usage: paris ")
+    for word in ("explain FILE", "prompt [FILE]", "page FILE", "live [FILE]", "--workers N", "--where"):
+        assert word in ran.stdout.split("\n")[0]
+    ran = paris("--where")
+    assert ran.returncode == 0 and os.access(ran.stdout.strip(), os.X_OK)
+
+
+def test_a_file_that_cannot_be_read() -> None:
+    for words in (["/nope"], ["/"], ["explain", "/nope"], ["explain", "/"]):
+        ran = paris(*words)
+        assert (ran.returncode, ran.stdout) == (2, "")
+        assert "can't read" in ran.stderr
+
+
+def test_explain_has_the_programs_status_and_program() -> None:
+    ran = paris("explain", FIRST)
+    assert (ran.returncode, ran.stderr) == (0, "")
+    assert ran.stdout.split("\n")[-2] == f"{FIRST}: 11 commands, none refused"
+    ran = paris("explain", "-", stdin="show a end\n")
+    assert ran.returncode == 1 and ran.stdout.startswith("-:1: refused 7: no field has this name")
+    # The program is the repository's, whatever the variable says.
+    assert paris("explain", FIRST, PARIS_FRONT="/bin/false").returncode == 0
+
+
+def test_files_of_the_current_folder_are_no_modules(tmp_path: Path) -> None:
+    (tmp_path / "html.py").write_text("raise SystemExit(9)")
+    (tmp_path / "pevudlo.py").write_text("raise SystemExit(9)")
+    ran = subprocess.run([PARIS, "explain", FIRST], capture_output=True, text=True, timeout=60, cwd=tmp_path)
+    assert ran.returncode == 0
+
+
+def test_without_a_python_from_3_11_on(tmp_path: Path) -> None:
+    """Scripts run without Python; explain says what it wants."""
+    (tmp_path / "python3").write_text("#!/bin/sh\nexit 1\n")
+    (tmp_path / "python3").chmod(0o755)
+    front = PARIS.read_text().replace("/usr/bin/python3", str(tmp_path / "python3"))
+    copy = tmp_path / "paris"
+    copy.write_text(front.replace('root=$(cd "$(dirname', f'root={REPOSITORY} # $(cd "$(dirname'))
+    copy.chmod(0o755)
+    environment = {**os.environ, "PATH": f"{tmp_path}:{os.environ['PATH']}"}
+    ran = subprocess.run([copy, FIRST], capture_output=True, text=True, timeout=60, env=environment)
+    assert (ran.returncode, ran.stdout) == (0, TRANSCRIPT)
+    ran = subprocess.run([copy, "explain", FIRST], capture_output=True, text=True, timeout=60, env=environment)
+    assert ran.returncode == 2 and "Python from 3.11 on" in ran.stderr
