@@ -3,6 +3,7 @@
 from __future__ import annotations
 
 import os
+import shutil
 import tempfile
 from collections.abc import Iterator
 from pathlib import Path
@@ -16,29 +17,32 @@ def path_of(name: str) -> Path:
 
 
 def read_lines(path: Path) -> list[str]:
-    """The lines of a script, without line feeds. Bytes that aren't UTF-8 are surrogates. Raises OSError."""
+    """The lines of a script, without line feeds. Bytes that aren't UTF-8 are surrogates.
+
+    Raises OSError, or ValueError where no file can have such a name.
+    """
     text = path.read_bytes().decode("utf-8", "surrogateescape")
     lines = text.split("\n")
     return lines[:-1] if lines[-1] == "" else lines
 
 
 def write_lines(path: Path, lines: list[str]) -> None:
-    """Writes a script. What a file of this name held stays beside it, with `~` behind its name. Raises OSError.
+    """Writes a script. What a file of this name held stays beside it, with `~` behind its name.
 
-    The file has its name only when it is whole.
+    The file has its name only when it is whole. Raises OSError, or ValueError where no file can have such a name.
     """
     text = "".join(f"{line}\n" for line in lines).encode("utf-8", "surrogateescape")
     if path.exists() and not path.is_file():
         path.write_bytes(text)
         return
-    target = path.resolve()
+    target = Path(os.path.realpath(path))
     handle, name = tempfile.mkstemp(dir=target.parent, prefix=f".{target.name}.")
     try:
         with os.fdopen(handle, "wb") as file:
             file.write(text)
         os.chmod(name, target.stat().st_mode & 0o777 if target.is_file() else 0o666 & ~umask())
         if target.is_file():
-            os.replace(target, target.with_name(f"{target.name}~"))
+            shutil.copy2(target, target.with_name(f"{target.name}~"))
         os.replace(name, target)
     except BaseException:
         Path(name).unlink(missing_ok=True)
@@ -50,6 +54,11 @@ def umask() -> int:
     mask = os.umask(0)
     os.umask(mask)
     return mask
+
+
+def why(error: OSError | ValueError) -> str:
+    """Why a file can't be read or written, in a few words."""
+    return error.strerror if isinstance(error, OSError) and error.strerror else str(error)
 
 
 def history_path() -> Path:

@@ -8,6 +8,7 @@ from dataclasses import dataclass
 from pevudlo.hints_grammar import nearest
 from pevudlo.reference import ENTRIES, FAMILIES, find
 from pevudlo.reference_text import help_lines, wrapped
+from pevudlo.visible import visible
 
 
 @dataclass(frozen=True)
@@ -96,6 +97,6 @@ def help_for(word: str) -> list[str]:
         return [line for entry in found for line in help_lines(entry)]
     parts = [name for name in known_names() if word.lower() in name.lower()]
     if parts:
-        return [f"these have `{word}` in their names:", *named(parts)]
+        return [f"these have `{visible(word)}` in their names:", *named(parts)]
     near = nearest(word, known_names())
-    return [f"there is no help for `{word}`" + (f": did you mean `{near}`?" if near else "")]
+    return [f"there is no help for `{visible(word)}`" + (f": did you mean `{near}`?" if near else "")]

@@ -34,6 +34,13 @@ class Reader(ABC):
     def read(self) -> str | None:
         """The next line, or None at the end. Raises KeyboardInterrupt where the user drops the line."""
 
+    def welcome(self) -> list[str]:
+        """What is said before the first line."""
+        return []
+
+    def drop(self) -> None:
+        """Drops lines that were pasted and not read yet."""
+
     def close(self) -> None:
         """Ends the reading."""
 
@@ -58,6 +65,16 @@ class Terminal(Reader):
             libedit = "libedit" in (readline.__doc__ or "")
             readline.parse_and_bind("bind ^I rl_complete" if libedit else "tab: complete")
             self._load_history()
+
+    def welcome(self) -> list[str]:
+        if readline is None:
+            return [
+                "`help` says what there is. `quit` or Ctrl-D ends. This Python has no line editor, so Tab does nothing."
+            ]
+        return ["`help` says what there is, and the key Tab completes words. `quit` or Ctrl-D ends."]
+
+    def drop(self) -> None:
+        self._waiting.clear()
 
     def read(self) -> str | None:
         while not self._waiting:

@@ -154,20 +154,38 @@ def test_ctrl_d_ends_with_all_children(terminal: Terminal) -> None:
     assert not Path(f"/proc/{child}").exists()
 
 
-def test_the_end_is_asked_for_twice_where_commands_are_not_saved(terminal: Terminal, tmp_path: Path) -> None:
-    terminal.answer("set S 4")
-    for key in (CTRL_D, "quit\n"):
-        terminal.press(key)
-        assert "1 accepted command is not saved" in terminal.until(PROMPT)
-        assert terminal.answer("field a S 8")[0] in ("ok", "refused 3: a set or a field has this name")
-        terminal.answer("delete 1")
-        assert terminal.answer(f"save {tmp_path / 'one.paris'}")[0].endswith("saved")
-        terminal.answer("new")
-        terminal.answer("set S 4")
-    terminal.press("quit\n")
-    terminal.until(PROMPT)
-    terminal.press(CTRL_D)
+@pytest.mark.parametrize("key", [CTRL_D, "quit\n", "exit\n"], ids=["ctrl-d", "quit", "exit"])
+def test_the_end_is_asked_for_twice_where_commands_are_not_saved(terminal: Terminal, key: str, tmp_path: Path) -> None:
+    assert terminal.answer("set S 4") == ["ok"]
+    terminal.press(key)
+    assert "1 accepted command is not saved: `save FILE` saves them" in terminal.until(PROMPT)
+    # Another line comes between, so the next one is the first again.
+    assert terminal.answer("field a S 8") == ["ok"]
+    terminal.press(key)
+    assert "2 accepted commands are not saved" in terminal.until(PROMPT)
+    terminal.press(key)
     assert terminal.wait() == 0
+
+
+def test_the_end_comes_at_once_where_all_is_saved(terminal: Terminal, tmp_path: Path) -> None:
+    assert terminal.answer("set S 4") == ["ok"]
+    assert terminal.answer("show S.test end")[1] == "  0 0 0 0"
+    assert terminal.answer(f"save {tmp_path / 'one.paris'}")[0].endswith("1 accepted command is saved")
+    terminal.press("quit\n")
+    assert terminal.wait() == 0
+
+
+def test_new_is_asked_for_twice_where_commands_are_not_saved(terminal: Terminal) -> None:
+    declare(terminal)
+    assert terminal.answer("new")[0].startswith("6 accepted commands are not saved")
+    assert terminal.answer("set S 4") == [
+        "refused 3: a set or a field has this name",
+        "  set S 4",
+        *terminal.answer("set S 4")[2:],
+    ]
+    assert terminal.answer("new")[0].startswith("6 accepted commands are not saved")
+    assert terminal.answer("new") == ["nothing is declared"]
+    assert terminal.answer("set S 4") == ["ok"]
 
 
 def test_lines_come_back_by_the_arrow_also_in_the_next_prompt(tmp_path: Path) -> None:

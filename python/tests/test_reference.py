@@ -4,8 +4,6 @@ from __future__ import annotations
 
 import re
 from collections.abc import Iterator
-from pathlib import Path
-
 import pytest
 from paris_model_book import Book, flags_written, keys_of
 from pevudlo.faults import FAULTS
@@ -206,20 +204,3 @@ def test_steps_say_replies_that_are_left_out() -> None:
         ("field f1 S 1", ("row 1",)),
         ("field f2 S 1", ("row 2",)),
     ]
-
-
-def transcripts() -> list[Path]:
-    found = sorted([*(ROOT / "examples").glob("*.paris"), *(ROOT / "rows").glob("*/*.paris")])
-    return [path for path in found if "refused" not in path.with_suffix(".expected").read_text()]
-
-
-def stem_of(path: Path) -> str:
-    return path.stem
-
-
-@pytest.mark.parametrize("path", transcripts(), ids=stem_of)
-def test_the_model_gives_the_transcripts(path: Path) -> None:
-    book = Book()
-    lines = [line for line in path.read_text().split("\n") if line and not line.startswith("#")]
-    replies = [reply for line in lines for reply in book.answer(line)]
-    assert replies == path.with_suffix(".expected").read_text().split("\n")[:-1]
