@@ -22,6 +22,7 @@ MOST_CELLS = 1024
 
 _SHADES = " .:-=+*#%@"
 _NOTHING: frozenset[int] = frozenset()
+_PART = 256
 
 
 @dataclass(frozen=True)
@@ -49,9 +50,12 @@ class Grid:
 
 def differing(now: Sequence[int], before: Sequence[int]) -> frozenset[int]:
     """The processors whose numbers aren't the same."""
-    if now == before:
-        return _NOTHING
-    return frozenset(place for place, (one, two) in enumerate(zip(now, before)) if one != two)
+    found: list[int] = []
+    for start in range(0, len(now), _PART):
+        part, other = now[start : start + _PART], before[start : start + _PART]
+        if part != other:
+            found += [start + place for place, (one, two) in enumerate(zip(part, other)) if one != two]
+    return frozenset(found)
 
 
 def style() -> str:
@@ -179,8 +183,10 @@ def _html_picture(grid: Grid) -> str:
     parts = [_image(grid, grid.values, f"{grid.key}: {summary_of(grid)}", grid.unselected, "")]
     for marked, word in ((grid.changed, "changed"), (grid.other, "other than before"), (grid.unselected, "unselected")):
         if 0 < len(marked) < count:
-            mask = bytes(place in marked for place in range(count))
-            parts.append(_image(grid, mask, f"{grid.key}: bright where {word}", _NOTHING, word))
+            mask = bytearray(count)
+            for place in marked:
+                mask[place] = 1
+            parts.append(_image(grid, bytes(mask), f"{grid.key}: bright where {word}", _NOTHING, word))
     return f"<figcaption>{_caption_of(grid)} <em>{summary_of(grid)}</em></figcaption><div>{''.join(parts)}</div>"
 
 

@@ -15,7 +15,7 @@ from pevudlo.page_blocks import Block, Kind, blocks_of
 from pevudlo.page_blocks_html import body_of, heading_of
 from pevudlo.page_end import end_section
 from pevudlo.page_frame import document
-from pevudlo.page_history import Moment, history_table, moment_of
+from pevudlo.page_history import MOST_COLUMNS, Moment, history_table, moment_of
 from pevudlo.page_html import plural, prose, sign
 from pevudlo.pipe import Pipe, PipeError
 from pevudlo.program import NotFound, find
@@ -40,6 +40,7 @@ class Page:
     moments: list[Moment] = field(default_factory=list)
     comments: dict[int, tuple[tuple[str, ...], ...]] = field(default_factory=dict)
     commands: int = 0
+    edits: int = 0
     refused: list[int] = field(default_factory=list)
 
     def fill(self, lines: Iterable[str]) -> None:
@@ -86,8 +87,9 @@ class Page:
         if block.kind in (Kind.ROWS, Kind.RAN):
             self.comments.clear()
         moment = moment_of(block.steps[0], anchor)
-        if moment is not None:
+        if moment is not None and len(self.moments) <= MOST_COLUMNS:
             self.moments.append(moment)
+        self.edits += block.kind is Kind.EDIT
         kind = block.kind.name.lower()
         link = f'<a href="#{anchor}"><span aria-hidden="true">{mark}</span>{heading}</a>'
         self.links.append(f'<li class="{kind}">{link}</li>')
@@ -108,9 +110,8 @@ class Page:
             plural(len(board.sets), "set"),
             plural(len(board.fields), "field"),
         ]
-        edits = sum(not moment.is_run for moment in self.moments)
-        if edits:
-            parts.append(plural(edits, "edit") + " of settled rows")
+        if self.edits:
+            parts.append(plural(self.edits, "edit") + " of settled rows")
         parts.append(f'<b class="bad">{len(self.refused):,} refused</b>' if self.refused else "none refused")
         return " · ".join(parts)
 

@@ -7,7 +7,7 @@ from dataclasses import dataclass
 
 from pevudlo.page_edits import fate_of
 from pevudlo.page_html import clean, command, row_id
-from pevudlo.record import Step
+from pevudlo.record import Ran, Step
 from pevudlo.replies import Row
 
 MOST_COLUMNS = 40
@@ -20,6 +20,9 @@ _CELLS = {
     "ran": ("✓", "ran"),
     "out": ("", "not there"),
 }
+
+
+_NO_ROWS = Ran((), (), frozenset(), False)
 
 
 @dataclass(frozen=True)
@@ -35,7 +38,9 @@ class Moment:
 
 
 def moment_of(step: Step, anchor: str) -> Moment | None:
-    """The moment that a step is, where it is one."""
+    """The moment that a step is, where it is one and the program isn't too long."""
+    if len((step.touched or step.ran or _NO_ROWS).rows) > MOST_ROWS:
+        return None
     if step.touched is not None:
         fates = {row.row: fate_of(row, step.touched) for row in step.touched.rows}
         return Moment(anchor, step.number, step.text, False, step.touched.rows, fates)
@@ -51,10 +56,10 @@ def moment_of(step: Step, anchor: str) -> Moment | None:
 
 def history_table(moments: Sequence[Moment]) -> str:
     """The table, where there is an edit to tell of and the table isn't too large."""
-    if not any(not moment.is_run for moment in moments):
+    if len(moments) > MOST_COLUMNS or not any(not moment.is_run for moment in moments):
         return ""
     rows = _all_rows(moments)
-    if not rows or len(moments) > MOST_COLUMNS or len(rows) > MOST_ROWS:
+    if not rows or len(rows) > MOST_ROWS:
         return ""
     heads = "".join(map(_head, moments))
     lines = []

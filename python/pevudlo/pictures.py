@@ -10,6 +10,7 @@ import struct
 import zlib
 from collections.abc import Sequence
 from dataclasses import dataclass
+from functools import cache
 
 from pevudlo.shapes import Sheet, near_square, sheets_of
 
@@ -104,6 +105,7 @@ def _chunk(kind: bytes, data: bytes) -> bytes:
     return struct.pack(">I", len(data)) + kind + data + struct.pack(">I", zlib.crc32(kind + data))
 
 
+@cache
 def _palette() -> bytes:
     """256 colours: the glow, the same in grey, and black for the rest."""
     colours = [_between(stops, step) for stops in (_GLOW, _GREY) for step in range(STEPS)]

@@ -29,6 +29,7 @@ pub mod Runs
 pub mod Settling
 pub mod Shows
 pub mod Searches
+pub mod Spans
 pub mod Swept
 pub mod Takes
 pub mod Targets

@@ -1,10 +1,12 @@
 -- Where the rows of a book stand, by place, and the search for unsettled rows.
-use Rattle.std.specs.Prelude.{ℕ, List, Bool, Option, map, drop, not}
-use Rattle.std.specs.List.{position_from}
+use Rattle.std.specs.Prelude.{◌≡◌, ◌<◌, ◌≤◌, ℕ, List, Bool, true, Option, Some, length, map, drop, not, slice_get}
+use Rattle.std.specs.List.{count_by, position_from}
+use Rattle.paris_names.specs.declared.limits.TheConstants.{MAX_ROWS}
 use Rattle.paris_events.specs.Rows.{is_settled}
 use Rattle.paris_events.specs.declared.rows.Status.{Status}
 use Rattle.paris_machine.specs.State.{Row}
 use Rattle.paris_book.specs.Entries.{Entry}
+use Rattle.paris_book.specs.declared.statuses.Span.{Span}
 
 abbrev pub status_in : Entry → Status
 status_in e = e.1.status
@@ -22,3 +24,13 @@ first_unsettled statuses from = position_from is_unsettled from (drop from statu
 -- the same place among rows
 abbrev pub next_unsettled : List Row → ℕ → Option ℕ
 next_unsettled rows from = position_from (λ (r : Row). is_unsettled r.status) from (drop from rows)
+
+abbrev pub Holds : Span → ℕ → Type 0
+Holds span i = (span.start ≤ i) × (i < span.end)
+
+-- the span counts the unsettled rows, and has the places of all of them
+pub record IsSpanned (statuses : List Status) (span : Span) : Type 0 where
+  pub few : length statuses ≤ MAX_ROWS
+  pub within : span.end ≤ length statuses
+  pub count : span.unsettled ≡ count_by is_unsettled statuses
+  pub held : (i : ℕ) (s : Status) → slice_get statuses i ≡ Some s → is_unsettled s ≡ true → Holds span i

@@ -17,7 +17,7 @@ use crate::book::Book;
 use crate::inputs::{
     declare_flags, declare_input, given_input, input_at, push_field, push_flags, set_input,
 };
-use crate::marks::{unsettle_all, unsettled_by_replace};
+use crate::marks::{end_edit, unsettled_by_replace};
 use crate::rows::RowData;
 use paris_events::{Edit, EditReply, Status};
 use paris_geometry::Geometry;
@@ -98,8 +98,7 @@ impl Book {
         };
         let ids = self.rows.affected(self.alloc, 0, &[key])?;
         set_input(&mut self.inputs, &key, input);
-        unsettle_all(&mut self.rows, ids.as_slice(), number);
-        self.edits = number;
+        end_edit(&mut self.rows, &mut self.edits, ids.as_slice());
         Ok(())
     }
 
@@ -132,8 +131,7 @@ impl Book {
         let number = self.edits + 1;
         let ids = self.rows.affected(self.alloc, place, plan.writes())?;
         let id = self.rows.insert_at(place, fresh_row(plan, number))?;
-        unsettle_all(&mut self.rows, ids.as_slice(), number);
-        self.edits = number;
+        end_edit(&mut self.rows, &mut self.edits, ids.as_slice());
         Ok(id)
     }
 
@@ -146,14 +144,12 @@ impl Book {
             × IsFaultOf (content_fault self.old (EditCase.Delete id)) fault) }
     {
         let below = self.place_of_spot(Spot::After(id))?;
-        let number = self.edits + 1;
         let ids = match self.rows.row(id) {
             Some(row) => self.rows.affected(self.alloc, below, row.plan.writes())?,
             None => unreachable!(),
         };
         self.rows.delete(id);
-        unsettle_all(&mut self.rows, ids.as_slice(), number);
-        self.edits = number;
+        end_edit(&mut self.rows, &mut self.edits, ids.as_slice());
         Ok(())
     }
 
@@ -181,8 +177,7 @@ impl Book {
         let number = self.edits + 1;
         let ids = unsettled_by_replace(self.alloc, &self.rows, id, below, &plan)?;
         self.rows.replace(id, fresh_row(plan, number))?;
-        unsettle_all(&mut self.rows, ids.as_slice(), number);
-        self.edits = number;
+        end_edit(&mut self.rows, &mut self.edits, ids.as_slice());
         Ok(())
     }
 

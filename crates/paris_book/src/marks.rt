@@ -1,8 +1,9 @@
 //! Rows that an edit makes unsettled.
 
-ghost use Rattle.std.specs.Prelude.{◌≡◌, ◌+◌, ◌≤◌, length, drop, map, Some, IsSome, IfOk};
+ghost use Rattle.std.specs.Prelude.{◌≡◌, ◌+◌, ◌<◌, ◌≤◌, length, drop, map, Some, IsSome, IfOk};
 ghost use Rattle.paris_names.specs.declared.keys.Key.{Key as AnyKey};
 ghost use Rattle.paris_names.specs.Keys.{has_key};
+ghost use Rattle.paris_names.specs.declared.limits.TheConstants.{MAX_EDITS};
 ghost use Rattle.paris_model.specs.Instructions.{writes};
 ghost use Rattle.paris_program.specs.Program.{IsProgram, place_of, row_of};
 ghost use Rattle.paris_depends.specs.Sweeps.{touched};
@@ -15,7 +16,7 @@ use paris_names::{Key, RowId, has_key};
 use std::alloc::{AllocError, Global};
 
 /// Makes the rows of these ids unsettled by the edit of this number.
-pub(crate) fn unsettle_all(rows: &mut Rows, ids: &[RowId], number: u64)
+fn unsettle_all(rows: &mut Rows, ids: &[RowId], number: u64)
     ensures rows { rows.new.rows ≡ unsettled_by_ids number (ids_in ids.now) rows.old.rows }
     ensures next_id { rows.new.next_id ≡ rows.old.next_id }
     ensures sound { IsProgram rows.old }
@@ -27,6 +28,18 @@ pub(crate) fn unsettle_all(rows: &mut Rows, ids: &[RowId], number: u64)
             rows.unsettle(place, number);
         }
     }
+}
+
+/// Ends an edit: it is the last one now, and the rows of these ids become unsettled by it.
+pub(crate) fn end_edit(rows: &mut Rows, edits: &mut u64, ids: &[RowId])
+    requires left { edits.old < MAX_EDITS }
+    ensures edits { edits.new ≡ edits.old + 1 }
+    ensures rows { rows.new.rows ≡ unsettled_by_ids (edits.old + 1) (ids_in ids.now) rows.old.rows }
+    ensures next_id { rows.new.next_id ≡ rows.old.next_id }
+    ensures sound { IsProgram rows.old }
+{
+    *edits += 1;
+    unsettle_all(rows, ids, *edits);
 }
 
 /// The keys that a plan or another one writes, each once.

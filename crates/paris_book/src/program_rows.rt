@@ -14,9 +14,8 @@ ghost use Rattle.paris_book.specs.Marks.{data_plan, ids_in, out_data, kept_data,
 ghost use Rattle.paris_book.specs.Statuses.{next_unsettled};
 
 use crate::rows::RowData;
-use crate::statuses::{count_unsettled, first_unsettled, put_status};
+use crate::statuses::Statuses;
 use paris_depends::{Index, Looks, affected, origin};
-use paris_events::Status;
 use paris_exec::Done;
 use paris_names::{Key, RowId};
 use paris_program::Program;
@@ -24,12 +23,12 @@ use std::alloc::{AllocError, Global};
 use std::marker::Model;
 
 /// The rows of a book in program order, with their index, and once more where each of them stands, so that a search for unsettled
-/// rows reads a byte a row. There are no more rows than a program may have. A clause sees the program.
+/// rows passes the others over. There are no more rows than a program may have. A clause sees the program.
 #[derive(Drop)]
 pub(crate) struct Rows {
     program: Program<RowData>,
     index: Index,
-    statuses: Vec<Status>,
+    statuses: Statuses,
 }
 
 impl Model for Rows {
@@ -41,7 +40,7 @@ impl Model for Rows {
 
     ghost view = { λ r. r.program };
 
-    ghost invariant = { λ r. IsIndexed r.program.rows r.index.rows r.statuses.items };
+    ghost invariant = { λ r. IsIndexed r.program.rows r.index.rows r.statuses };
 }
 
 /// Adds the row at a place to the index of all others, which has room for it.
@@ -67,7 +66,7 @@ impl Rows {
         Rows {
             program: Program::new(alloc),
             index: Index::new(alloc),
-            statuses: Vec::new(alloc),
+            statuses: Statuses::new(alloc),
         }
     }
 
@@ -78,7 +77,7 @@ impl Rows {
     {
         let program = self.program.copy_with(|row| row.copy())?;
         let index = self.index.copy()?;
-        let statuses = self.statuses.clone()?;
+        let statuses = self.statuses.copy()?;
         Ok(Rows {
             program,
             index,
@@ -150,7 +149,7 @@ impl Rows {
     pub(crate) fn count_unsettled(&self) -> usize
         ensures { result ≡ unsettled_rows (map machine_row self.now.rows) }
     {
-        count_unsettled(self.statuses.as_slice())
+        self.statuses.count_unsettled()
     }
 
     /// The first place from one on with an unsettled row. `None` where all rows from there on are settled.
@@ -159,7 +158,7 @@ impl Rows {
         ensures within { IfSome result (λ place. (from ≤ place) × (place < length self.now.rows)) }
         ensures few { length self.now.rows ≤ MAX_ROWS }
     {
-        first_unsettled(self.statuses.as_slice(), from)
+        self.statuses.first_unsettled(from)
     }
 
     /// Marks the row at a place as one of which an order is out.
@@ -170,7 +169,7 @@ impl Rows {
     {
         let row = self.program.at_mut(place);
         row.hand_out();
-        self.statuses[place] = row.status;
+        self.statuses.set(place, row.status);
     }
 
     /// Settles the row at a place by a result.
@@ -181,7 +180,7 @@ impl Rows {
     {
         let row = self.program.at_mut(place);
         row.keep(done);
-        self.statuses[place] = row.status;
+        self.statuses.set(place, row.status);
     }
 
     /// Makes the row at a place wait if an order of it is out.
@@ -192,7 +191,7 @@ impl Rows {
     {
         let row = self.program.at_mut(place);
         row.recall();
-        self.statuses[place] = row.status;
+        self.statuses.set(place, row.status);
     }
 
     /// Makes the row at a place unsettled by the edit of this number.
@@ -203,7 +202,7 @@ impl Rows {
     {
         let row = self.program.at_mut(place);
         row.unsettle(number);
-        self.statuses[place] = row.status;
+        self.statuses.set(place, row.status);
     }
 
     /// Puts a row at a place, before the rows that stand there, under the next id, and returns that id. Where memory is refused the
@@ -217,12 +216,10 @@ impl Rows {
     {
         self.program.room()?;
         self.index.room(&row.plan)?;
-        self.statuses.reserve(1)?;
-        let status = row.status;
+        self.statuses.insert(place, row.status)?;
         match self.program.insert_at(place, row) {
             Ok(id) => {
                 add_row(&mut self.index, &self.program, place);
-                put_status(&mut self.statuses, place, status);
                 Ok(id)
             }
             Err(_) => unreachable!(),
@@ -238,7 +235,7 @@ impl Rows {
         let place = self.program.place_of(id).unwrap();
         self.index.remove(id);
         self.program.delete(id);
-        let _status = self.statuses.remove(place);
+        self.statuses.remove(place);
     }
 
     /// Puts another row in place of the one with this id, under that id. Where memory is refused the rows are as before.
@@ -251,7 +248,7 @@ impl Rows {
         self.index.room(&row.plan)?;
         let place = self.program.place_of(id).unwrap();
         self.index.remove(id);
-        self.statuses[place] = row.status;
+        self.statuses.set(place, row.status);
         self.program.replace(id, row);
         add_row(&mut self.index, &self.program, place);
         Ok(())

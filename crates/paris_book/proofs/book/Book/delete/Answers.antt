@@ -1,4 +1,4 @@
-use Rattle.std.proofs.Common.{arith, length, ◌≡◌, ◌+◌, ◌++◌, sym, ap, ◌∙◌, take, drop, remove}
+use Rattle.std.proofs.Common.{arith, length, ◌≡◌, ◌+◌, ◌++◌, sym, ap, ap₂, ◌∙◌, take, drop, remove}
 use Rattle.paris_names.specs.Keys.{has_key}
 use Rattle.paris_model.specs.Instructions.{writes}
 use Rattle.paris_depends.proofs.FewKeys.{writes-few}
@@ -24,32 +24,32 @@ unreachable-requires c =
 target : (c : goal.After-drop-ids) → Target c.self.inside.rows.rows (find_row c.args.self.now c.args.id) c.args.id.0 c.in_ok-below.below
 target c = target_of c.self.inside.board c.self.inside.edits c.self.inside.rows.next_id (inputs_of c.self.inside.inputs) c.self.inside.rows.rows c.args.self.now c.args.id.0 c.in_ok-below.below c.self.view_is c.in_ok-below.ensures.ok
 
-rows_are : (c : goal.After-drop-ids) → c.unsettle_all.new.rows.rows ≡ take (target c).place c.self.inside.rows.rows ++ swept_entries (c.self.inside.edits + 1) (has_key (writes (target c).row.plan)) (drop ((target c).place + 1) c.self.inside.rows.rows)
+rows_are : (c : goal.After-drop-ids) → c.end_edit.new.rows.rows ≡ take (target c).place c.self.inside.rows.rows ++ swept_entries (c.self.inside.edits + 1) (has_key (writes (target c).row.plan)) (drop ((target c).place + 1) c.self.inside.rows.rows)
 rows_are c =
     let t = target c in
     let same = target_row c.self.inside.rows.rows (find_row c.args.self.now c.args.id) c.args.id.0 c.in_ok-below.below c.in-Some.row.now t c.in-Some.ensures.value in
-    delete_rows (c.self.inside.edits + 1) t.place (has_key (writes t.row.plan)) c.self.inside.rows.rows c.delete.new.self.rows c.unsettle_all.new.rows.rows (ids_in c.in_ok-ids-in-Some.ids.items)
+    delete_rows (c.self.inside.edits + 1) t.place (has_key (writes t.row.plan)) c.self.inside.rows.rows c.delete.new.self.rows c.end_edit.new.rows.rows (ids_in c.in_ok-ids-in-Some.ids.items)
     (c.delete.ensures.rows ∙ ap (remove c.self.inside.rows.rows) (target_place c.self.inside.rows.rows (find_row c.args.self.now c.args.id) c.args.id.0 c.in_ok-below.below t))
-    c.unsettle_all.ensures.sound.distinct
+    c.end_edit.ensures.sound.distinct
     (c.in_ok-ids-in-Some.ensures
     ∙ ap (λ ks. touched data_plan (has_key ks) (drop c.in_ok-below.below c.self.inside.rows.rows)) (c.writes.ensures ∙ ap (λ (x : RowData). writes x.plan) same)
     ∙ ap (λ k. touched data_plan (has_key (writes t.row.plan)) (drop k c.self.inside.rows.rows)) t.just_below)
-    (c.unsettle_all.ensures.rows ∙ ap (λ js. unsettled_by_ids (c.self.inside.edits + 1) (ids_in js) c.delete.new.self.rows) c.as_slice.ensures.value)
+    (c.end_edit.ensures.rows ∙ ap (λ js. unsettled_by_ids (c.self.inside.edits + 1) (ids_in js) c.delete.new.self.rows) c.as_slice.ensures.value)
 
 pub invariant_of-self : goal.invariant_of-self
 invariant_of-self c =
     let t = target c in
     let few = few_edits c.self.inside.board c.self.inside.edits c.self.inside.rows.next_id (inputs_of c.self.inside.inputs) c.self.inside.rows.rows c.args.self.now c.self.view_is c.requires.left in
     let behind = target_drop c.self.inside.rows.rows (find_row c.args.self.now c.args.id) c.args.id.0 c.in_ok-below.below t in
-    rw (c.unsettle_all.ensures.next_id, c.delete.ensures.next_id) (delete_whole c.self.inside.board c.self.inside.edits c.self.inside.rows.next_id (inputs_of c.self.inside.inputs) c.self.inside.rows.rows c.unsettle_all.new.rows.rows t.place (c.args.id.0, t.row) (drop (t.place + 1) c.self.inside.rows.rows) few behind c.self.invariant (rows_are c))
+    rw (c.end_edit.ensures.edits, c.end_edit.ensures.next_id, c.delete.ensures.next_id) (delete_whole c.self.inside.board c.self.inside.edits c.self.inside.rows.next_id (inputs_of c.self.inside.inputs) c.self.inside.rows.rows c.end_edit.new.rows.rows t.place (c.args.id.0, t.row) (drop (t.place + 1) c.self.inside.rows.rows) few behind c.self.invariant (rows_are c))
 
 pub returns-clause-ok : goal.returns-clause-ok
 returns-clause-ok c =
     let t = target c in
     let behind = target_drop c.self.inside.rows.rows (find_row c.args.self.now c.args.id) c.args.id.0 c.in_ok-below.below t in (
       ap delete_fault t.seen,
-      ap (λ next. state_of c.self.inside.board (c.self.inside.edits + 1) next (inputs_of c.self.inside.inputs) c.unsettle_all.new.rows.rows) (c.unsettle_all.ensures.next_id ∙ c.delete.ensures.next_id)
-          ∙ delete_view c.self.inside.board c.self.inside.edits c.self.inside.rows.next_id (inputs_of c.self.inside.inputs) c.self.inside.rows.rows c.unsettle_all.new.rows.rows c.args.self.now t.place (c.args.id.0, t.row) (drop (t.place + 1) c.self.inside.rows.rows) behind c.self.invariant (rows_are c) c.self.view_is
+      ap₂ (λ number next. state_of c.self.inside.board number next (inputs_of c.self.inside.inputs) c.end_edit.new.rows.rows) c.end_edit.ensures.edits (c.end_edit.ensures.next_id ∙ c.delete.ensures.next_id)
+          ∙ delete_view c.self.inside.board c.self.inside.edits c.self.inside.rows.next_id (inputs_of c.self.inside.inputs) c.self.inside.rows.rows c.end_edit.new.rows.rows c.args.self.now t.place (c.args.id.0, t.row) (drop (t.place + 1) c.self.inside.rows.rows) behind c.self.invariant (rows_are c) c.self.view_is
           ∙ ap (deleted_from c.args.self.now) (sym t.seen),
     )
 

@@ -1,4 +1,4 @@
-use Rattle.std.proofs.Common.{◌≡◌, ◌+◌, ◌++◌, ◌∷◌, Ok, sym, ap, ◌∙◌, subst, take, drop}
+use Rattle.std.proofs.Common.{◌≡◌, ◌+◌, ◌++◌, ◌∷◌, Ok, sym, ap, ap₂, ◌∙◌, subst, take, drop}
 use Rattle.paris_depends.specs.Sweeps.{touched}
 use Rattle.paris_instr.specs.Resolve.{IsFittedTo}
 use Rattle.paris_program.specs.Program.{with_row}
@@ -32,21 +32,21 @@ replace-requires c =
 target : (c : goal.After-drop-ids-2) → Target c.self.inside.rows.rows (find_row c.args.self.now c.args.id) c.args.id.0 c.args.below
 target c = target_of c.self.inside.board c.self.inside.edits c.self.inside.rows.next_id (inputs_of c.self.inside.inputs) c.self.inside.rows.rows c.args.self.now c.args.id.0 c.args.below c.self.view_is c.requires.there
 
-rows_are : (c : goal.After-drop-ids-2) → c.unsettle_all.new.rows.rows
+rows_are : (c : goal.After-drop-ids-2) → c.end_edit.new.rows.rows
     ≡ take (target c).place c.self.inside.rows.rows ++ (c.args.id.0, fresh_data c.args.plan (c.self.inside.edits + 1)) ∷ swept_entries (c.self.inside.edits + 1) (writes_either (target c).row.plan c.args.plan) (drop ((target c).place + 1) c.self.inside.rows.rows)
 rows_are c =
     let t = target c in
-    replace_rows c.self.inside.edits t.place c.args.id.0 (writes_either t.row.plan c.args.plan) c.args.plan t.row c.self.inside.rows.rows c.replace.new.self.rows c.unsettle_all.new.rows.rows (ids_in c.in_ok-ids.ids.items)
+    replace_rows c.self.inside.edits t.place c.args.id.0 (writes_either t.row.plan c.args.plan) c.args.plan t.row c.self.inside.rows.rows c.replace.new.self.rows c.end_edit.new.rows.rows (ids_in c.in_ok-ids.ids.items)
     t.at
     (c.in_ok-replace.ensures.ok
     ∙ ap (λ k. with_row c.self.inside.rows.rows k c.fresh_row.result) (target_place c.self.inside.rows.rows (find_row c.args.self.now c.args.id) c.args.id.0 c.args.below t)
     ∙ ap (with_row c.self.inside.rows.rows t.place) c.fresh_row.ensures)
-    c.unsettle_all.ensures.sound.distinct
+    c.end_edit.ensures.sound.distinct
     (c.in_ok-ids.ensures t.row t.by_id ∙ ap (λ k. touched data_plan (writes_either t.row.plan c.args.plan) (drop k c.self.inside.rows.rows)) t.just_below)
-    (c.unsettle_all.ensures.rows ∙ ap (λ js. unsettled_by_ids (c.self.inside.edits + 1) (ids_in js) c.replace.new.self.rows) c.as_slice.ensures.value)
+    (c.end_edit.ensures.rows ∙ ap (λ js. unsettled_by_ids (c.self.inside.edits + 1) (ids_in js) c.replace.new.self.rows) c.as_slice.ensures.value)
 
-next_is : (c : goal.After-drop-ids-2) → c.unsettle_all.new.rows.next_id ≡ c.self.inside.rows.next_id
-next_is c = c.unsettle_all.ensures.next_id ∙ c.replace.ensures.next_id
+next_is : (c : goal.After-drop-ids-2) → c.end_edit.new.rows.next_id ≡ c.self.inside.rows.next_id
+next_is c = c.end_edit.ensures.next_id ∙ c.replace.ensures.next_id
 
 pub invariant_of-self-2 : goal.invariant_of-self-2
 invariant_of-self-2 c =
@@ -54,12 +54,12 @@ invariant_of-self-2 c =
     let few = few_edits c.self.inside.board c.self.inside.edits c.self.inside.rows.next_id (inputs_of c.self.inside.inputs) c.self.inside.rows.rows c.args.self.now c.self.view_is c.requires.left in
     let fits = fitted_plan c.self.inside.board (inputs_of c.self.inside.inputs) c.args.plan c.self.invariant.shaped (subst (λ (s : State). IsFittedTo s.board c.args.plan) (sym c.self.view_is) c.requires.fitted) in
     let behind = target_drop c.self.inside.rows.rows (find_row c.args.self.now c.args.id) c.args.id.0 c.args.below t in
-    rw (next_is c) (replace_whole c.self.inside.board c.self.inside.edits c.self.inside.rows.next_id (inputs_of c.self.inside.inputs) c.self.inside.rows.rows c.unsettle_all.new.rows.rows t.place (c.args.id.0, t.row) (drop (t.place + 1) c.self.inside.rows.rows) c.args.plan few fits behind c.self.invariant (rows_are c))
+    rw (c.end_edit.ensures.edits, next_is c) (replace_whole c.self.inside.board c.self.inside.edits c.self.inside.rows.next_id (inputs_of c.self.inside.inputs) c.self.inside.rows.rows c.end_edit.new.rows.rows t.place (c.args.id.0, t.row) (drop (t.place + 1) c.self.inside.rows.rows) c.args.plan few fits behind c.self.invariant (rows_are c))
 
 pub returns-clause-ok : goal.returns-clause-ok
 returns-clause-ok c =
     let t = target c in
     let behind = target_drop c.self.inside.rows.rows (find_row c.args.self.now c.args.id) c.args.id.0 c.args.below t in
-    ap (λ next. state_of c.self.inside.board (c.self.inside.edits + 1) next (inputs_of c.self.inside.inputs) c.unsettle_all.new.rows.rows) (next_is c)
-    ∙ replace_view c.self.inside.board c.self.inside.edits c.self.inside.rows.next_id (inputs_of c.self.inside.inputs) c.self.inside.rows.rows c.unsettle_all.new.rows.rows c.args.self.now t.place (c.args.id.0, t.row) (drop (t.place + 1) c.self.inside.rows.rows) c.args.plan behind c.self.invariant (rows_are c) c.self.view_is
+    ap₂ (λ number next. state_of c.self.inside.board number next (inputs_of c.self.inside.inputs) c.end_edit.new.rows.rows) c.end_edit.ensures.edits (next_is c)
+    ∙ replace_view c.self.inside.board c.self.inside.edits c.self.inside.rows.next_id (inputs_of c.self.inside.inputs) c.self.inside.rows.rows c.end_edit.new.rows.rows c.args.self.now t.place (c.args.id.0, t.row) (drop (t.place + 1) c.self.inside.rows.rows) c.args.plan behind c.self.invariant (rows_are c) c.self.view_is
     ∙ ap (λ o. replaced_from c.args.self.now o (Ok c.args.plan)) (sym t.seen)

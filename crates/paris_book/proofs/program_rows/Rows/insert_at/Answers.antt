@@ -1,4 +1,4 @@
-use Rattle.std.proofs.Common.{◌≡◌, ◌≤◌, List, sym, ap, ◌∙◌, subst, arith, length}
+use Rattle.std.proofs.Common.{◌≡◌, ◌≤◌, sym, ap, ◌∙◌, subst, arith, length}
 use Rattle.std.specs.Prelude.{insert}
 use Rattle.std.proofs.lemmas.List.Edits.{length-insert}
 use Rattle.paris_program.specs.Program.{Program}
@@ -7,7 +7,6 @@ use Rattle.paris_depends.specs.Index.{HasRoom, footprint}
 use Rattle.paris_book.specs.Entries.{Entry}
 use Rattle.paris_book.specs.Marks.{data_plan}
 use Rattle.paris_book.specs.declared.rows.RowData.{RowData}
-use Rattle.paris_events.specs.declared.rows.Status.{Status}
 use Rattle.paris_book.proofs.Indexing.{put_others, put_plan, standing_put}
 use Rattle.paris_book.proofs.program_rows.Rows.insert_at.Goals as goal
 
@@ -49,7 +48,6 @@ invariant_of-self-in-Ok c =
     record {
       indexed = c.add_row.ensures;
       few = omega (arith, same, fewer, long);
-      standing = standing_put rows c.insert_at.new.self.rows c.self.inside.statuses.items c.args.place e c.self.invariant.standing is
-          ∙ ap (λ (l : List Status). insert l c.args.place c.args.row.status) (sym c.in_ok-reserve.ensures.items)
-          ∙ sym c.put_status.ensures;
+      standing = standing_put rows c.insert_at.new.self.rows c.self.inside.statuses c.args.place e c.self.invariant.standing is
+          ∙ sym c.in_ok-insert.ensures.ok;
     }

@@ -7,7 +7,7 @@ use Rattle.paris_book.proofs.program_rows.Rows.keep.Goals as goal
 
 pub invariant_of-self : goal.invariant_of-self
 invariant_of-self c =
-    still_indexed c.self.inside.program.rows c.self.inside.index.rows c.self.inside.statuses.items c.args.place c.at_mut-row.result.now c.keep.new.self c.self.invariant c.at_mut-row.ensures.value (ap (λ (row : RowData). row.plan) c.keep.ensures)
+    rw c.set.ensures (still_indexed c.self.inside.program.rows c.self.inside.index.rows c.self.inside.statuses c.args.place c.at_mut-row.result.now c.keep.new.self c.self.invariant c.at_mut-row.ensures.value (ap (λ (row : RowData). row.plan) c.keep.ensures))
 
 pub returns-clause-rows : goal.returns-clause-rows
 returns-clause-rows c = rw (← c.self.view_is) (λ e at. data_changed (kept_data c.args.done) c.self.inside.program.rows c.args.place c.at_mut-row.result.now c.keep.new.self e c.at_mut-row.ensures.value at c.keep.ensures)

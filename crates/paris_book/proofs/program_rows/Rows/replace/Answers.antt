@@ -48,5 +48,5 @@ invariant_of-self-2 c =
     record {
       indexed = c.add_row.ensures;
       few = omega (arith, long, few);
-      standing = standing_replaced rows c.replace.new.self.rows c.self.inside.statuses.items c.unwrap-place.result c.args.row c.self.invariant.standing is;
+      standing = standing_replaced rows c.replace.new.self.rows c.self.inside.statuses c.unwrap-place.result c.args.row c.self.invariant.standing is ∙ sym c.set.ensures;
     }

@@ -5,4 +5,4 @@ use Rattle.paris_book.proofs.program_rows.Rows.unsettle.Goals as goal
 
 pub invariant_of-self : goal.invariant_of-self
 invariant_of-self c =
-    still_indexed c.self.inside.program.rows c.self.inside.index.rows c.self.inside.statuses.items c.args.place c.at_mut-row.result.now c.unsettle.new.self c.self.invariant c.at_mut-row.ensures.value (ap (λ (row : RowData). row.plan) c.unsettle.ensures)
+    rw c.set.ensures (still_indexed c.self.inside.program.rows c.self.inside.index.rows c.self.inside.statuses c.args.place c.at_mut-row.result.now c.unsettle.new.self c.self.invariant c.at_mut-row.ensures.value (ap (λ (row : RowData). row.plan) c.unsettle.ensures))
