@@ -5,8 +5,10 @@ from __future__ import annotations
 from pathlib import Path
 
 import pytest
+from random_lines import RandomLines
 
 from pevudlo.board import Board, Declared
+from pevudlo.grammar import COMMANDS, next_slots, wrong_column
 from pevudlo.prompt_complete import offers
 from pevudlo.prompt_help import OWN
 from pevudlo.reference import ENTRIES
@@ -62,6 +64,36 @@ def test_tab_offers_what_may_stand_there(line: str, wanted: list[str]) -> None:
 def test_tab_offers_every_name_to_help_and_every_instruction_to_insert() -> None:
     assert set(offers("help ", board())) == {*OWN, *(entry.name for entry in ENTRIES)}
     assert len(offers("insert end ", board())) == 77
+
+
+def test_a_field_that_is_named_as_a_command_is_no_operand_of_it() -> None:
+    named = board()
+    named.fields["insert"] = Declared("G", 8)
+    named.fields["end"] = Declared("G", 8)
+    assert offers("insert end u-add-3-1L a", named) == ["a ", "ab "]
+    assert offers("insert end u-add-3-1L e", named) == ["end "]
+
+
+def test_each_offer_leads_on_to_a_command() -> None:
+    offered = 0
+    for line in RandomLines(5).lines(150):
+        for end in range(len(line) + 1):
+            begin = line[:end]
+            words = begin.split(" ")[:-1]
+            for offer in offers(begin, board()):
+                if (words or [offer.rstrip()])[0] not in COMMANDS:
+                    continue
+                whole = " ".join([*words, offer.rstrip(" ")])
+                column = wrong_column(whole)
+                assert offer.startswith(begin.split(" ")[-1])
+                assert column is None and not offer.endswith(" ") or may_go_on(whole, column), (begin, offer)
+                offered += 1
+    assert offered > 1000
+
+
+def may_go_on(whole: str, column: int | None) -> bool:
+    """Whether a line is right up to its end, and more words may follow."""
+    return (column is None or column == len(whole) + 1) and next_slots(whole.split(" ")) != ()
 
 
 def test_tab_offers_files(tmp_path: Path) -> None:
