@@ -191,10 +191,11 @@ def _html_picture(grid: Grid) -> str:
 
 
 def _image(grid: Grid, values: Sequence[int], words: str, unselected: frozenset[int], label: str) -> str:
-    """One picture. Its pixels are enlarged to a whole number of screen pixels."""
+    """One picture, enlarged by a whole number; one with a label takes half the room."""
     picture = picture_of(grid.axes, values, unselected)
-    scale = max(1, (128 if label else 256) // max(picture.width, picture.height))
-    size = f'width="{picture.width * scale}" height="{picture.height * scale}"'
+    longest = max(picture.width, picture.height)
+    scale = max(1, 256 // longest) / (2 if label else 1)
+    size = f'width="{round(picture.width * scale)}" height="{round(picture.height * scale)}"'
     if not label and picture.width * picture.height == len(values):
         size += f' data-across="{picture.width}"'
     name = f"<small>{escape(label)}</small>" if label else ""
@@ -204,6 +205,7 @@ def _image(grid: Grid, values: Sequence[int], words: str, unselected: frozenset[
 
 
 def shape_text(axes: tuple[int, ...]) -> str:
-    """The axes as a script has them, and how many processors they make: `4x2, 8 processors`."""
+    """The axes as a script has them, where they are more than one, and the processors: `4x2, 8 processors`."""
     count = processors_of(axes)
-    return f"{'x'.join(map(str, axes))}, {count:,} processor{'' if count == 1 else 's'}"
+    shape = f"{'x'.join(map(str, axes))}, " if len(axes) > 1 else ""
+    return f"{shape}{count:,} processor{'' if count == 1 else 's'}"

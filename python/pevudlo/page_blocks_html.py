@@ -57,7 +57,8 @@ def body_of(block: Block, board: Board, comments: Comments) -> str:
     """The block as HTML, without its heading."""
     step = block.steps[0]
     if block.kind is Kind.EDIT:
-        return prose(step.comments) + _line(step) + _given(block, board) + edit_body(step)
+        pair = f'<div class="pair">{_given(block, board)}<div class="what">{edit_body(step)}</div></div>'
+        return prose(step.comments) + _line(step) + pair
     if block.kind is Kind.RAN:
         section = ran_section(step, step.ran, comments, board) if step.ran else ""
         return prose(step.comments) + _line(step) + section

@@ -12,6 +12,8 @@ from pevudlo.replies import Row
 
 MOST_COLUMNS = 40
 MOST_ROWS = 130
+MOST_DOWN = 20
+"""More rows stand side by side."""
 
 _CELLS = {
     "unsettled": ("○", "unsettled"),
@@ -61,22 +63,44 @@ def history_table(moments: Sequence[Moment]) -> str:
     rows = _all_rows(moments)
     if not rows or len(rows) > MOST_ROWS:
         return ""
-    heads = "".join(map(_head, moments))
+    table = _down(rows, moments) if len(rows) <= MOST_DOWN else _across(rows, moments)
+    return f'<div class="wide">{table}</div>'
+
+
+def _down(rows: Sequence[Row], moments: Sequence[Moment]) -> str:
+    """Rows down and moments across."""
     lines = []
     for row in rows:
         cells = "".join(_cell(moment, row) for moment in moments)
         lines.append(f'<tr><th scope="row">{row_id(row.row)}{command(row.text)}</th>{cells}</tr>')
+    heads = "".join(_head(moment, "col") for moment in moments)
+    return _table("", heads, lines)
+
+
+def _across(rows: Sequence[Row], moments: Sequence[Moment]) -> str:
+    """Moments down and rows across, for a program of many rows."""
+    lines = []
+    for moment in moments:
+        cells = "".join(_cell(moment, row) for row in rows)
+        lines.append(f"<tr>{_head(moment, 'row')}{cells}</tr>")
+    heads = "".join(f'<th scope="col" title="{clean(row.text)}">{row.row}</th>' for row in rows)
+    return _table(" across", heads, lines)
+
+
+def _table(kind: str, heads: str, lines: Sequence[str]) -> str:
+    """A table of signs."""
+    caption = "What each edit and each run did to each row"
     return (
-        '<div class="wide"><table class="history"><caption>What each edit and each run did to each row</caption>'
-        f'<thead><tr><td></td>{heads}</tr></thead><tbody>{"".join(lines)}</tbody></table></div>'
+        f'<table class="history{kind}"><caption>{caption}</caption><thead><tr><td></td>{heads}</tr></thead>'
+        f'<tbody>{"".join(lines)}</tbody></table>'
     )
 
 
-def _head(moment: Moment) -> str:
-    """The head of a column, which leads to where the moment is told."""
+def _head(moment: Moment, scope: str) -> str:
+    """The head of a moment's column or line, which leads to where it is told."""
     kind, word = ("run", "ran") if moment.is_run else ("edit", "edit")
     link = f'<a href="#{moment.anchor}" title="{clean(moment.text[:200])}">'
-    return f'<th scope="col" class="{kind}">{link}{word}<small>line {moment.step_number}</small></a></th>'
+    return f'<th scope="{scope}" class="{kind}">{link}{word}<small>line {moment.step_number}</small></a></th>'
 
 
 def _cell(moment: Moment, row: Row) -> str:

@@ -48,7 +48,7 @@ def _levels_of(values: Sequence[int]) -> bytearray:
     """A brightness for each value. Where all are the same, zeros are dark and others bright."""
     least, greatest = min(values), max(values)
     if least == greatest:
-        return bytearray([STEPS - 1 if least else 0]) * len(values)
+        return bytearray([STEPS * 5 // 8 if least else 0]) * len(values)
     scale = greatest - least
     if isinstance(values, bytes):
         table = bytes(max(0, min(STEPS - 1, (value - least) * (STEPS - 1) // scale)) for value in range(256))

@@ -37,6 +37,10 @@ class ValueList(list[Any]):
         super().__init__(values)
         self.grid = grid
 
+    def tolist(self) -> list[Any]:
+        """The same lists, as an array gives them."""
+        return list(self)
+
     def _repr_html_(self) -> str:
         """A grid in the set's shape."""
         from pevudlo.notebook import grid_html

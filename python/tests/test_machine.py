@@ -14,6 +14,7 @@ import pytest
 
 from pevudlo import START, Ended, Machine, Pending, Refusal, Row, Status, WrongShape, after, signed, unsigned
 from pevudlo.arrays import ValueArray
+from pevudlo.grids import Grid
 from pevudlo.replies import Cause, OrderTaken, RowFault, Verdict, Word
 from pevudlo.values import input_lines
 
@@ -223,6 +224,12 @@ def test_arrays_are_looks_and_what_is_computed_is_plain(machine: Machine) -> Non
     assert isinstance(part, ValueArray) and part._repr_html_() is None
 
 
+def test_numbers_beyond_64_bits_are_those_of_python() -> None:
+    values = ValueArray.of(Grid("w", (2,), 100, (2**99, 1)))
+    assert values.dtype == object and values.tolist() == [2**99, 1]
+    assert ValueArray.of(Grid("w", (2,), 64, (2**64 - 1, 1))).dtype == numpy.uint64
+
+
 def test_rows_as_html(machine: Machine) -> None:
     machine.insert("u-add-3-1L c a b 8")
     machine.settle()
@@ -275,7 +282,7 @@ with pevudlo.Machine() as machine:
     machine.set("S", 2, 2)
     machine.field("a", "S", 8)
     machine["a"] = [[1, 2], [3, 200]]
-    assert machine["a"] == [[1, 2], [3, 200]], machine["a"]
+    assert machine["a"] == machine["a"].tolist() == [[1, 2], [3, 200]], machine["a"]
     assert pevudlo.signed(machine["a"], 8) == [[1, 2], [3, -56]]
     assert ">200<" in machine["a"]._repr_html_()
     machine["a"] = range(4)

@@ -119,6 +119,15 @@ def test_an_ended_program_is_named_with_status_and_line(tmp_path: Path) -> None:
     assert pipe.close() == 4
 
 
+def test_a_program_that_takes_no_more_lines_is_killed(tmp_path: Path) -> None:
+    with Pipe(fake(tmp_path, "os.close(0); time.sleep(60)")) as pipe:
+        with pytest.raises(Ended) as ended:
+            # More than a pipe holds.
+            pipe.ask("x" * 2_000_000)
+    assert ended.value.status == -signal.SIGKILL
+    assert not is_alive(pipe.process)
+
+
 def test_wrong_workers_end_the_program(program: Path) -> None:
     with Pipe(program, workers=17) as pipe:
         with pytest.raises(Ended) as ended:
