@@ -176,7 +176,6 @@ def run(session: Session, file: str | None) -> None:
         talk(prompt, reader)
     finally:
         session.close()
-        reader.close()
 
 
 def meant_by(words: list[str]) -> tuple[str | None, int] | None:

@@ -41,9 +41,6 @@ class Reader(ABC):
     def drop(self) -> None:
         """Drops lines that were pasted and not read yet."""
 
-    def close(self) -> None:
-        """Ends the reading."""
-
 
 class Piped(Reader):
     """The lines of standard input. Bytes that aren't UTF-8 are surrogates."""
@@ -58,6 +55,7 @@ class Terminal(Reader):
 
     def __init__(self, board: Callable[[], Board]) -> None:
         self._board = board
+        self._kept = 0
         self._waiting: deque[str] = deque()
         if readline is not None:
             readline.set_completer_delims(" ")
@@ -81,6 +79,7 @@ class Terminal(Reader):
             try:
                 # What is pasted may be several lines.
                 self._waiting.extend(split_lines(input(PROMPT)))
+                self._keep_history()
             except EOFError:
                 print()
                 return None
@@ -88,26 +87,33 @@ class Terminal(Reader):
                 print("the line isn't UTF-8")
         return self._waiting.popleft()
 
-    def close(self) -> None:
-        if readline is None:
-            return
-        path = history_path()
-        try:
-            path.parent.mkdir(parents=True, exist_ok=True)
-            readline.set_history_length(MOST_HISTORY)
-            readline.write_history_file(path)
-        except OSError:
-            # The history is a convenience: where there is no room for it, it is lost.
-            return
-
     def _load_history(self) -> None:
-        """Reads the history that an earlier prompt has left."""
+        """Reads the history that earlier prompts have left."""
         assert readline is not None
+        readline.set_history_length(MOST_HISTORY)
         readline.clear_history()
         try:
             readline.read_history_file(history_path())
         except OSError:
+            # There is none, or it can't be read: lines of this prompt come back all the same.
+            pass
+        self._kept = readline.get_current_history_length()
+
+    def _keep_history(self) -> None:
+        """Writes what is new in the history, line by line, so that nothing is lost however the prompt ends."""
+        count = self._kept if readline is None else readline.get_current_history_length()
+        if readline is None or count == self._kept:
             return
+        path = history_path()
+        try:
+            if not path.exists():
+                path.parent.mkdir(parents=True, exist_ok=True)
+                path.touch(0o600)
+            readline.append_history_file(count - self._kept, path)
+        except OSError:
+            # The history is a convenience: where there is no room for it, it is lost.
+            pass
+        self._kept = count
 
     def _complete(self, text: str, state: int) -> str | None:
         """Offer number `state` for the word before the cursor, or None behind the last."""

@@ -204,6 +204,21 @@ def test_lines_come_back_by_the_arrow_also_in_the_next_prompt(tmp_path: Path) ->
         assert second.until(PROMPT).split("\n")[-2] == "ok"
 
 
+def test_a_prompt_that_is_killed_leaves_its_history_and_no_program(tmp_path: Path) -> None:
+    with Terminal(tmp_path) as killed:
+        assert killed.answer("set Killed 4") == ["ok"]
+        assert killed.answer("") == killed.answer("") == []
+        (child,) = children_of(killed.process)
+        os.kill(killed.process, signal.SIGKILL)
+        assert killed.wait() == -signal.SIGKILL
+    until = time.monotonic() + 10
+    while Path(f"/proc/{child}/exe").exists() and time.monotonic() < until:
+        time.sleep(0.02)
+    assert not Path(f"/proc/{child}/exe").exists()
+    history = tmp_path / "pevudlo" / "history"
+    assert history.read_text() == "set Killed 4\n" and history.stat().st_mode & 0o777 == 0o600
+
+
 @pytest.mark.parametrize("inputrc", ["", "set enable-bracketed-paste on\n"], ids=["plain", "bracketed"])
 def test_an_example_can_be_pasted(tmp_path: Path, inputrc: str) -> None:
     lines = ["set S 4", "field a S 8", "# a comment", "", "input a 0 1 2 3 4", "line a", "show a end "]
