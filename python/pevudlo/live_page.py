@@ -64,6 +64,7 @@ _BODY = """
 </form>
 <div id="refused" aria-live="assertive"></div>
 <div id="log"></div>
+<p class="quiet"><a href="script" target="_blank" rel="noopener">The accepted commands as a script</a></p>
 </section>
 <template id="caret-here">
 <form class="caret">

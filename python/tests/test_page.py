@@ -2,11 +2,13 @@
 
 from __future__ import annotations
 
+import random
+import re
+from functools import cache
 from pathlib import Path
 
 import pytest
-from pages import GALLERY, Node, Tree, answers, marked, numbers_of, script_of
-from pages import REPOSITORY
+from pages import GALLERY, REPOSITORY, ROWS, Node, Tree, answers, marked, numbers_of, script_of, transcript_of
 from test_grids import indices_of
 
 from pevudlo import page
@@ -21,9 +23,15 @@ def tree_of(lines: list[str], title: str = "a script") -> Node:
         return Tree(page_of(title, lines, pipe).html()).root
 
 
+@cache
+def tree_for(name: str) -> Node:
+    """The page of a gallery program, or of a worked row."""
+    return tree_of(script_of(name), name)
+
+
 @pytest.fixture(scope="module")
 def trees() -> dict[str, Node]:
-    return {name: tree_of(script_of(name), name) for name in GALLERY}
+    return {name: tree_for(name) for name in GALLERY}
 
 
 def sections(root: Node, kind: str) -> list[Node]:
@@ -46,39 +54,40 @@ def rows_at(lines: list[str], until: int) -> dict[int, tuple[int, str]]:
     return {int(row[0]): (int(row[2]), row[3]) for row in words}
 
 
-@pytest.mark.parametrize("name", GALLERY)
-def test_each_number_of_a_look_is_the_transcripts(name: str, trees: dict[str, Node]) -> None:
-    lines = script_of(name)
-    expected = iter((REPOSITORY / "examples" / f"{name}.expected").read_text().splitlines())
-    transcript = {}
-    for number, line in enumerate(lines, 1):
-        if line and not line.startswith("#"):
-            transcript[number] = next(expected)
-            if transcript[number].split(" ")[0] in ("rows", "faults"):
-                assert transcript[number].split(" ")[1] == "0"
+def check_looks(root: Node, lines: list[str], transcript: dict[int, list[str]]) -> None:
+    """Each look of the page is the transcript's, and so is each reply that it tells."""
     seen = set()
-    for section in sections(trees[name], "looks"):
+    for section in sections(root, "looks"):
         for node in section.all():
             if "data-line" in node.attributes:
                 seen.add(line_of(node))
-                reply = transcript[line_of(node)]
+                reply = transcript[line_of(node)][0]
                 figures = list(node.all("figure"))
                 assert bool(figures) == reply.startswith("values ")
                 if figures:
                     assert numbers_of(figures[0]) == reply.split(" ")[1:]
                 else:
                     assert f"row {reply.removeprefix('pending ')} writes it" in node.text and not numbers_of(node)
-    assert seen == {number for number, line in enumerate(lines, 1) if line.startswith("show ")}
-    for told in trees[name].all("p", "line"):
+    shows = {number for number, line in enumerate(lines, 1) if line.startswith("show ")}
+    assert seen == {number for number in shows if not transcript[number][0].startswith("refused")}
+    for told in root.all("p", "line"):
         number = int(next(told.all("span", "number")).text)
-        assert next(told.all("span", "reply")).text.removeprefix("→ ").startswith(transcript[number])
+        assert next(told.all("span", "reply")).text.removeprefix("→ ").startswith(transcript[number][0])
+    refused = [node.text for node in root.all("div", "refused")]
+    numbers = [number for number, reply in transcript.items() if reply[0].startswith("refused")]
+    assert len(refused) == len(numbers)
+    for number, text in zip(numbers, refused):
+        assert f"Line {number} is refused" in text and transcript[number][0] in text
 
 
-@pytest.mark.parametrize("name", GALLERY)
-def test_each_number_behind_a_row_is_what_the_program_shows(name: str, trees: dict[str, Node]) -> None:
-    lines = script_of(name)
+def check_rows(root: Node, lines: list[str]) -> int:
+    """Each number behind a row is what the program shows there, and marks are by what it shows before.
+
+    A frame is where an earlier run of the row left another number. Gives how many numbers there are.
+    """
     count = 0
-    for section in sections(trees[name], "ran"):
+    earlier: dict[tuple[int, str], list[str]] = {}
+    for section in sections(root, "ran"):
         until = line_of(section)
         order = list(rows_at(lines, until))
         asked, cells = [], []
@@ -90,20 +99,22 @@ def test_each_number_behind_a_row_is_what_the_program_shows(name: str, trees: di
                 key = figure.attributes["data-key"]
                 asked += [f"show {key} after {row}", f"show {key} {before}"]
                 cells.append(figure)
+                numbers, last = numbers_of(figure), earlier.get((row, key), numbers_of(figure))
+                assert marked(figure, "o") == [at for at, one in enumerate(numbers) if one != last[at]]
+                earlier[(row, key)] = numbers
         shown = looked(lines, until, asked)
         for figure, now, old in zip(cells, shown[::2], shown[1::2], strict=True):
             assert ["values", *numbers_of(figure)] == now.split(" ")
             pairs = zip(now.split(" ")[1:], old.split(" ")[1:], strict=True)
             assert marked(figure, "n") == [at for at, (one, two) in enumerate(pairs) if one != two]
             count += len(numbers_of(figure))
-    assert count > 0
+    return count
 
 
-@pytest.mark.parametrize("name", GALLERY)
-def test_each_number_of_input_data_is_what_the_program_shows(name: str, trees: dict[str, Node]) -> None:
-    lines = script_of(name)
+def check_inputs(root: Node, lines: list[str]) -> set[str]:
+    """Input data is what the program shows at the start. Gives the keys."""
     keys = set()
-    for section in sections(trees[name], "given") + sections(trees[name], "edit"):
+    for section in sections(root, "given") + sections(root, "edit"):
         for figure in section.all("figure"):
             key = figure.attributes["data-key"]
             keys.add(key)
@@ -112,7 +123,56 @@ def test_each_number_of_input_data_is_what_the_program_shows(name: str, trees: d
             if "edit" in section.classes:
                 old = looked(lines, line_of(section) - 1, [f"show {key} start"])[0].split(" ")[1:]
                 assert marked(figure, "n") == [at for at, one in enumerate(numbers_of(figure)) if one != old[at]]
-    assert keys == {line.split(" ")[1] for line in lines if line.startswith("input ")}
+    return keys
+
+
+def check_edits(root: Node, lines: list[str]) -> list[int]:
+    """Rows that an edit unsettles are those whose edition is another. Gives the lines of the edits."""
+    found = sections(root, "edit")
+    for section in found:
+        old, new = rows_at(lines, line_of(section) - 1), rows_at(lines, line_of(section))
+        fates = {}
+        for item in [item for fates_of in section.all("ol", "fates") for item in fates_of.all("li")]:
+            fates[int(next(item.all("span", "id")).text)] = item.classes[0]
+        expected = {
+            row: "unsettled"
+            if row not in old or old[row][0] != edition
+            else "kept"
+            if status == "settled"
+            else "waiting"
+            for row, (edition, status) in new.items()
+        }
+        assert fates == expected
+        unsettled = sum(fate == "unsettled" for fate in expected.values())
+        sentence = next(section.all("p", "verdict")).text
+        words = f"{unsettled} of {len(new)} row" if unsettled < len(new) else f"all {len(new)} rows"
+        assert (
+            words in sentence
+            or (len(new) == 1 and "the one row" in sentence)
+            or (not unsettled and "No row" in sentence)
+        )
+    return [line_of(section) for section in found]
+
+
+@pytest.mark.parametrize("name", GALLERY + ROWS)
+def test_each_number_of_a_look_is_the_transcripts(name: str) -> None:
+    check_looks(tree_for(name), script_of(name), transcript_of(name))
+
+
+@pytest.mark.parametrize("name", GALLERY + ROWS)
+def test_each_number_behind_a_row_is_what_the_program_shows(name: str) -> None:
+    lines = script_of(name)
+    ran = any(reply[0] == "kept" or re.fullmatch("settled [1-9].*", reply[0]) for reply in transcript_of(name).values())
+    assert bool(check_rows(tree_for(name), lines)) == ran or not list(tree_for(name).all("td"))
+
+
+@pytest.mark.parametrize("name", GALLERY + ROWS)
+def test_each_number_of_input_data_is_what_the_program_shows(name: str) -> None:
+    lines, transcript = script_of(name), transcript_of(name)
+    given = {
+        line.split(" ")[1] for at, line in enumerate(lines, 1) if line.startswith("input ") and transcript[at] == ["ok"]
+    }
+    assert check_inputs(tree_for(name), lines) == given
 
 
 @pytest.mark.parametrize("name", GALLERY)
@@ -129,21 +189,51 @@ def test_all_numbers_of_a_page_are_in_checked_parts(name: str, trees: dict[str, 
 
 
 @pytest.mark.parametrize("name", GALLERY)
-def test_edits_say_which_rows_they_unsettle(name: str, trees: dict[str, Node]) -> None:
+def test_edits_say_which_rows_they_unsettle(name: str) -> None:
     lines = script_of(name)
     first = next((at for at, line in enumerate(lines) if line == "settle"), len(lines))
     edits = [at for at, line in enumerate(lines, 1) if at > first and line.split(" ")[0] in ("input", "replace")]
-    found = sections(trees[name], "edit")
-    assert [line_of(section) for section in found] == edits
-    for section in found:
-        old, new = rows_at(lines, line_of(section) - 1), rows_at(lines, line_of(section))
-        items = [item for item in next(section.all("ol", "fates")).all("li")]
-        fates = {int(next(item.all("span", "id")).text): item.classes[0] for item in items}
-        assert fates == {row: "kept" if old.get(row) == state else "unsettled" for row, state in new.items()}
-        sentence = next(section.all("p", "verdict")).text
-        unsettled = sum(fate == "unsettled" for fate in fates.values())
-        words = f"{unsettled} of {len(new)} rows" if unsettled < len(new) else f"all {len(new)} rows"
-        assert words in sentence
+    assert check_edits(tree_for(name), lines) == edits
+
+
+def random_script(seed: int) -> list[str]:
+    """Edits, orders, late results and looks in no order, on two sets."""
+    dice = random.Random(seed)
+    lines = ["set S 4", "set T 2x2"] + [f"field {name} S 8" for name in "abc"] + ["field f S 1", "field t T 3"]
+    texts = ["u-add-3-1L c a b 8", "u-subtract-3-1L a c b 8", "u-lt-1L a b 8", "store-test f", "load-context f"]
+    texts += ["set-context S", "get-1L c a b 8", "send-1L b a c 8 f", "invert-context S", "my-news-coordinate-1L t 1 3"]
+    texts += ["scan-with-u-add-1L b c 0 8 upward inclusive none", "u-move-always-1L a b 8", "u-add-3-1L t t t 3"]
+    rows = orders = 0
+    for _ in range(120):
+        kind = dice.choice("iiirdptbbsskwvx")
+        row, text = dice.randint(1, rows + 1), dice.choice(texts)
+        if kind == "i":
+            lines.append(f"insert {dice.choice(['start', 'end', f'after {row}'])} {text}")
+            rows += 1
+        elif kind == "b":
+            lines += ["take", f"bring {dice.randint(1, orders + 1)}"]
+            orders += 1
+        elif kind == "p":
+            lines.append(f"input {dice.choice(['a', 'b', 'S.context', 't'])} {dice.randint(0, 3)} {dice.randint(0, 3)}")
+        else:
+            place = dice.choice(["start", "end", f"after {row}"])
+            key = dice.choice(["a", "b", "c", "f", "t", "S.test", "S.context", "T.carry"])
+            lines.append(
+                {"r": f"replace {row} {text}", "d": f"delete {row}", "t": "take", "k": "release"}.get(kind, "settle")
+            )
+            lines.append(f"show {key} {place}")
+    return lines
+
+
+@pytest.mark.parametrize("seed", range(12))
+def test_pages_of_random_scripts(seed: int) -> None:
+    lines = random_script(seed)
+    root = tree_of(lines)
+    replies = answers(lines)
+    check_looks(root, lines, {number: reply for number, reply in enumerate(replies, 1)})
+    assert check_rows(root, lines) > 0
+    check_inputs(root, lines)
+    assert check_edits(root, lines)
 
 
 def test_history_has_a_cell_for_each_row_and_moment(trees: dict[str, Node]) -> None:

@@ -255,7 +255,7 @@
     input.className = "editing";
     input.value = text;
     input.setAttribute("aria-label", `${key}, processor ${processor}`);
-    cell.replaceChildren(input);
+    cell.append(input);
     input.select();
     input.focus();
     let isDone = false;
@@ -264,7 +264,7 @@
       isDone = true;
       const outer = cell.closest("[data-name]");
       outer.shown = null;
-      cell.replaceChildren(text);
+      input.remove();
       const waits = outer.waits;
       delete outer.waits;
       fill(outer, waits === undefined ? html.get(outer.dataset.name) : waits);
