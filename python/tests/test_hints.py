@@ -134,6 +134,11 @@ def test_each_mistake_is_explained() -> None:
         ("insert end u-add-3-1L a a f 8", "`f` has 1 bit, and the length L is 8"),
         ("insert end u-move-2L f a 1 9", "`a` has 8 bits, and the length M is 9"),
         ("insert end get-1L f a b 8", "`f` has 1 bit, and the length L is 8"),
+        (
+            "insert end get-1L a f t 9",
+            "`a` and `f` belong to `S`, `t` belongs to `T`: an instruction's operands are of one set",
+        ),
+        ("insert end get-1L b f a 9", "`b` has 8 bits, and the length L is 9; `a` has 8 bits, and the length L is 9"),
         ("insert end send-1L a b b 8 a", "`a` has 8 bits, and a field of one bit is wanted here, as `f`"),
         ("insert end u-move-constant-1L a 256 8", "256 has more than 8 bits: the greatest constant is 255"),
         ("insert end reduce-with-u-add-1L a b 1 8 4", "axis 1 has the coordinates 0 to 3, and not 4"),
