@@ -9,18 +9,13 @@ from pathlib import Path
 from pevudlo.explain import ending
 from pevudlo.program import NotFound, find
 from pevudlo.prompt_files import path_of, read_lines, why, write_lines
-from pevudlo.prompt_help import OWN, OWN_WORDS, help_for
+from pevudlo.prompt_help import OWN, OWN_WORDS, help_for, own_word_for
 from pevudlo.prompt_lines import Reader, Terminal, Piped, is_terminal
 from pevudlo.prompt_session import Session, Stopped
 from pevudlo.prompt_show import WAYS, View, answer_lines, is_told
 from pevudlo.visible import visible
 
 USAGE = "usage: paris prompt [--workers N] [FILE]"
-
-
-def spelling_of(name: str) -> str:
-    """How a word of the prompt is written, said where it was written otherwise."""
-    return f"it is written `{OWN[name].spelling}`"
 
 
 class Prompt:
@@ -88,13 +83,17 @@ class Prompt:
                 self.session.begin()
                 self.say("nothing is declared")
         else:
-            self.say(spelling_of(word))
+            self.say(f"it is written `{OWN[word].spelling}`")
 
     def tell(self, line: str) -> None:
         """Tells the program a line, and shows its reply."""
         answer = self.session.tell(line)
-        if answer is not None:
-            self.say(*answer_lines(answer, self.session.board, self.view))
+        if answer is None:
+            return
+        self.say(*answer_lines(answer, self.session.board, self.view))
+        near = own_word_for(line.split(" ")[0])
+        if answer.explanation is not None and answer.explanation.column == 1 and near is not None:
+            self.say(f"  did you mean the prompt's own word `{near}`? It is written `{OWN[near].spelling}`")
 
     def show_by(self, way: str, rest: str) -> None:
         """Shows values in a way from now on, or one key once."""

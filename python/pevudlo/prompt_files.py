@@ -5,7 +5,6 @@ from __future__ import annotations
 import os
 import shutil
 import tempfile
-from collections.abc import Iterator
 from pathlib import Path
 
 MOST_HISTORY = 1000
@@ -65,9 +64,3 @@ def history_path() -> Path:
     """Where the history is kept from one prompt to the next."""
     state = os.environ.get("XDG_STATE_HOME") or os.path.expanduser("~/.local/state")
     return Path(state) / "pevudlo" / "history"
-
-
-def split_lines(text: str) -> Iterator[str]:
-    """The lines of a text that was typed or pasted at once, without spaces at their ends."""
-    for line in text.split("\n"):
-        yield line.rstrip(" ")

@@ -9,8 +9,8 @@ from collections.abc import Callable
 from types import ModuleType
 
 from pevudlo.board import Board
-from pevudlo.prompt_complete import offers
-from pevudlo.prompt_files import MOST_HISTORY, history_path, split_lines
+from pevudlo.prompt_complete import FILE_WORDS, offers
+from pevudlo.prompt_files import MOST_HISTORY, history_path
 
 readline: ModuleType | None
 try:
@@ -25,6 +25,14 @@ PROMPT = "paris> "
 def is_terminal() -> bool:
     """Whether a user sits at both ends."""
     return sys.stdin.isatty() and sys.stdout.isatty()
+
+
+def tidy(line: str) -> str:
+    """A line that was typed, without spaces at its ends, and with one between two words. Comments and files' names "
+    "stay."""
+    if line.startswith(("#", *(f"{word} " for word in FILE_WORDS))):
+        return line.rstrip(" ")
+    return " ".join(word for word in line.split(" ") if word)
 
 
 class Reader(ABC):
@@ -78,7 +86,7 @@ class Terminal(Reader):
         while not self._waiting:
             try:
                 # What is pasted may be several lines.
-                self._waiting.extend(split_lines(input(PROMPT)))
+                self._waiting.extend(map(tidy, input(PROMPT).split("\n")))
                 self._keep_history()
             except EOFError:
                 print()
@@ -118,6 +126,6 @@ class Terminal(Reader):
     def _complete(self, text: str, state: int) -> str | None:
         """Offer number `state` for the word before the cursor, or None behind the last."""
         assert readline is not None
-        line = readline.get_line_buffer()[: readline.get_endidx()]
-        found = offers(line, self._board())
+        *words, begin = readline.get_line_buffer()[: readline.get_endidx()].split(" ")
+        found = offers(" ".join([*(word for word in words if word), begin]), self._board())
         return found[state] if state < len(found) else None

@@ -128,6 +128,30 @@ def test_each_mistake_is_explained() -> None:
                 assert phrase in said.hint, (line, said.hint)
 
 
+@pytest.mark.parametrize(
+    "line, hint",
+    [
+        ("insert end u-add-3-1L a a f 8", "`f` has 1 bit, and the length L is 8"),
+        ("insert end u-move-2L f a 1 9", "`a` has 8 bits, and the length M is 9"),
+        ("insert end get-1L f a b 8", "`f` has 1 bit, and the length L is 8"),
+        (
+            "insert end get-1L a f t 9",
+            "`a` and `f` belong to `S`, `t` belongs to `T`: an instruction's operands are of one set",
+        ),
+        ("insert end get-1L b f a 9", "`b` has 8 bits, and the length L is 9; `a` has 8 bits, and the length L is 9"),
+        ("insert end send-1L a b b 8 a", "`a` has 8 bits, and a field of one bit is wanted here, as `f`"),
+        ("insert end u-move-constant-1L a 256 8", "256 has more than 8 bits: the greatest constant is 255"),
+        ("insert end reduce-with-u-add-1L a b 1 8 4", "axis 1 has the coordinates 0 to 3, and not 4"),
+        ("set U 2x6x4", "6 is no power of two: lengths are 1, 2, 4, 8 and so on"),
+        ("input f 14 1 2", "2 needs more than the 1 bit of `f`: the greatest value is 1"),
+        ("insert end u-add-3-1L a b x 8", "`x` isn't declared: fields are `a`, `b`, `f`, `t` and `g`"),
+    ],
+)
+def test_a_hint_says_what_is_wrong_and_no_more(line: str, hint: str) -> None:
+    with Pipe(find()) as pipe:
+        assert explanation_of(pipe, board_of(pipe, DECLARED), line).hint == hint
+
+
 def test_the_mistakes_meet_each_fault_that_a_short_script_can_meet() -> None:
     met = {number for _, number, _ in MISTAKES}
     # 1, 5 and 11 want a full board, 17 a spent counter; 18, 19, 21 and 23 are no replies.

@@ -123,6 +123,14 @@ def test_a_word_that_is_written_otherwise_is_said(line: str) -> None:
     assert answers([line]) == [f"it is written `{OWN[line.split(' ')[0]].spelling}`"]
 
 
+def test_a_word_of_the_prompt_s_own_that_is_misspelled_is_guessed() -> None:
+    for line, meant in (("halp", "help"), ("sav x.paris", "save"), ("HEX a", "hex"), ("loadd x", "load")):
+        said = answers([line])
+        assert said[0].startswith("refused 20 1: ")
+        assert said[-1] == f"  did you mean the prompt's own word `{meant}`? It is written `{OWN[meant].spelling}`"
+    assert not any("own word" in line for line in answers(["shw a", "Set S 4", "lst", "xyzzy", "delete 9"]))
+
+
 def test_help_finds_numbers_parts_and_likely_words() -> None:
     assert help_for("12") == help_for("BadLength") == help_for("badlength")
     assert help_for("12")[0] == "refused 12   (fault BadLength)"
@@ -223,10 +231,12 @@ def test_random_lines_are_answered_each(tmp_path: Path) -> None:
         comments = sum(not line or line.startswith("#") for line in lines)
         assert silent == comments
         answering.handle(f"save {tmp_path / 'random.paris'}")
-        wanted = session.tell("list"), session.tell("faults"), session.tell("take")
+        looks = ["list", "faults", *(f"show {key} end" for key in session.board.keys()), "take"]
+        wanted = [session.tell(look) for look in looks]
+        assert len(looks) > 12
         session.begin()
         answering.handle(f"load {tmp_path / 'random.paris'}")
-        assert (session.tell("list"), session.tell("faults"), session.tell("take")) == wanted
+        assert [session.tell(look) for look in looks] == wanted
         assert shown[-1].endswith(" commands, none refused")
     finally:
         session.close()

@@ -13,6 +13,7 @@ from terminals import PROMPT, Terminal, children_of
 
 from pevudlo.program import ROOT
 from pevudlo.prompt_help import OWN_WORDS
+from pevudlo.prompt_lines import tidy
 from pevudlo.reference import ENTRIES
 from pevudlo.reference_text import help_lines
 
@@ -221,13 +222,29 @@ def test_a_prompt_that_is_killed_leaves_its_history_and_no_program(tmp_path: Pat
 
 @pytest.mark.parametrize("inputrc", ["", "set enable-bracketed-paste on\n"], ids=["plain", "bracketed"])
 def test_an_example_can_be_pasted(tmp_path: Path, inputrc: str) -> None:
-    lines = ["set S 4", "field a S 8", "# a comment", "", "input a 0 1 2 3 4", "line a", "show a end "]
+    lines = ["set S 4", "field a S 8", "# a comment", "", "input a 0 1 2 3 4", "line a", " show  a end "]
     text = "\n".join(lines) + "\n"
     with Terminal(tmp_path, inputrc=inputrc) as terminal:
         terminal.press(f"\x1b[200~{text}\x1b[201~\n" if inputrc else text)
         shown = terminal.until("a at the end (S 4, 8 bits)") if not inputrc else terminal.until("values 1 2 3 4")
         assert "refused" not in shown
         assert "refused" not in terminal.until(PROMPT)
+
+
+def test_a_line_that_is_typed_is_tidied() -> None:
+    assert tidy("  insert end  set-test S ") == "insert end set-test S"
+    assert tidy("# two  spaces ") == "# two  spaces"
+    assert tidy("save two  spaces ") == "save two  spaces"
+    assert tidy("   ") == ""
+    assert tidy("set\tS 4") == "set\tS 4"
+
+
+def test_a_space_behind_a_word_that_tab_completed_does_no_harm(terminal: Terminal) -> None:
+    declare(terminal)
+    terminal.press(f"sh{TAB} al{TAB} e{TAB}")
+    terminal.until("alpha  end")
+    terminal.press("\n")
+    assert "alpha at the end (S 4, 8 bits)" in terminal.until(PROMPT)
 
 
 def test_a_wrong_line_is_explained_and_nothing_is_lost(terminal: Terminal) -> None:
