@@ -20,6 +20,9 @@ from pevudlo.units import Unit, spelled
 MOST_CELLS = 1024
 """A set of more processors is a picture and no table."""
 
+MOST_ROOMY = 64
+"""The cells of a larger set are small."""
+
 _SHADES = " .:-=+*#%@"
 _NOTHING: frozenset[int] = frozenset()
 _PART = 256
@@ -133,6 +136,7 @@ def html_of(grid: Grid, unit: Unit = Unit.UNSIGNED) -> str:
     """The grid as a `figure`: tables with heads, or a heat picture with its summary."""
     body = _html_picture(grid) if grid.is_picture else _html_tables(grid, unit)
     kind = "pv-heat" if grid.is_picture else "pv-bit" if grid.width == 1 else "pv-numbers"
+    kind += " pv-dense" if MOST_ROOMY < len(grid.values) and not grid.is_picture else ""
     key = escape(grid.key, quote=True)
     return f'<figure class="pv-grid {kind}" data-key="{key}" data-bits="{grid.width}">{body}</figure>'
 

@@ -33,12 +33,12 @@ def words_of(words: list[str]) -> tuple[Path | None, int, int] | None:
             return None
         else:
             files.append(word)
-    if len(files) > 1 or not all(number.isascii() and number.isdigit() for number in numbers.values()):
+    if len(files) > 1 or numbers["--workers"] not in map(str, range(1, 17)):
         return None
-    workers, port = int(numbers["--workers"]), int(numbers["--port"])
-    if not 1 <= workers <= 16 or port > 65535:
+    port = numbers["--port"]
+    if not (port.isascii() and port.isdigit()) or len(port) > 5 or int(port) > 65535:
         return None
-    return Path(files[0]) if files else None, workers, port
+    return Path(files[0]) if files else None, int(numbers["--workers"]), int(port)
 
 
 def interrupt(number: int, frame: FrameType | None) -> None:

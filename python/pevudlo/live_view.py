@@ -8,7 +8,7 @@ from pevudlo.keys import axes_of, width_of
 from pevudlo.grids import Grid, html_of
 from pevudlo.live_session import Session, Stopped
 from pevudlo.looks import Look, RowRun
-from pevudlo.page_edits import bar, fate_of, sentence
+from pevudlo.page_edits import MOST_SIGNS, bar, fate_of, sentence, signs
 from pevudlo.page_html import clean, command, look_grid, plural, refusal, row_id, sign
 from pevudlo.page_rows import row_body
 from pevudlo.record import Step
@@ -119,6 +119,9 @@ def key_html(look: Look, session: Session, is_input: bool) -> str:
     if is_input and look.numbers is not None:
         grid = html_of(Grid(look.key, axes_of(board, look.key), width_of(board, look.key), look.numbers))
         return f'<div class="input" data-input="{clean(look.key)}" {"data-zero" if is_idle(look) else ""}>{grid}</div>'
+    if look.numbers is None:
+        words = f"{sign('○')} <b>{clean(look.key)}</b> is pending, until row {look.pending} has run"
+        return f'<div class="value"><p class="pending">{words}</p></div>'
     return f'<div class="value" {"data-zero" if is_idle(look) else ""}>{look_grid(look, board)}</div>'
 
 
@@ -148,14 +151,14 @@ def head(session: Session) -> str:
 
 
 def last_edit(session: Session) -> str:
-    """What the last edit of settled rows did."""
+    """What the last edit of settled rows did, with a sign for each row."""
     if session.edit is None:
         return ""
     shown = session.edit.text if len(session.edit.text) <= 120 else session.edit.text[:120] + " .."
     touched = session.edit.touched
-    return (
-        f'<p class="line">The last edit: {command(shown)}</p><p class="verdict">{sentence(touched)}</p>{bar(touched)}'
-    )
+    strip = signs(touched) if len(touched.rows) <= MOST_SIGNS else ""
+    said = f'<p class="line">The last edit: {command(shown)}</p><p class="verdict">{sentence(touched)}</p>'
+    return said + bar(touched) + strip
 
 
 def log(session: Session) -> str:

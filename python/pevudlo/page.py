@@ -25,7 +25,8 @@ USAGE = "usage: paris page [--workers N] FILE [-o OUT.html]"
 HELP = f"""{USAGE}
 
 Makes a page of a script, one HTML file that needs no network: NAME.html in the folder where you are, for a script
-NAME.paris, or OUT.html. With `-o -` it goes to standard output. The exit status is the program's."""
+NAME.paris, or OUT.html. FILE may be `-`, for standard input. With `-o -`, and where FILE is `-`, the page goes to
+standard output. The exit status is the program's."""
 
 
 @dataclass
@@ -128,8 +129,9 @@ def page_of(title: str, lines: Iterable[str], pipe: Pipe) -> Page:
 
 
 def lines_of(path: Path) -> list[str]:
-    """The lines of a script, cut at line feeds alone. A last one without a line feed is a line too."""
-    text = path.read_bytes().decode("utf-8", "surrogateescape")
+    """The lines of a script, cut at line feeds alone; `-` is standard input. A last one without one is a line too."""
+    data = sys.stdin.buffer.read() if str(path) == "-" else path.read_bytes()
+    text = data.decode("utf-8", "surrogateescape")
     lines = text.split("\n")
     return lines[:-1] if lines[-1] == "" else lines
 
@@ -152,9 +154,9 @@ def words_of(words: list[str]) -> tuple[Path, str, int] | None:
             return None
         else:
             files.append(word)
-    if len(files) != 1 or not (workers.isascii() and workers.isdigit() and 1 <= int(workers) <= 16):
+    if len(files) != 1 or workers not in map(str, range(1, 17)):
         return None
-    return Path(files[0]), out or Path(files[0]).stem + ".html", int(workers)
+    return Path(files[0]), out or ("-" if files[0] == "-" else Path(files[0]).stem + ".html"), int(workers)
 
 
 def main(words: list[str]) -> int:
@@ -170,14 +172,19 @@ def main(words: list[str]) -> int:
     try:
         lines = lines_of(path)
         with Pipe(find(), workers) as pipe:
-            html = page_of(path.name, lines, pipe).html()
+            html = page_of("standard input" if str(path) == "-" else path.name, lines, pipe).html()
             status = pipe.close()
         if out == "-":
             sys.stdout.write(html)
         else:
             Path(out).write_text(html, encoding="utf-8")
             print(out)
-    except (OSError, NotFound, PipeError) as error:
+    except BrokenPipeError:
+        raise
+    except (OSError, NotFound) as error:
         print(f"paris page: {error}", file=sys.stderr)
-        return getattr(error, "status", 2) or 2
+        return 2
+    except PipeError as error:
+        print(f"paris page: {error}", file=sys.stderr)
+        return error.status if error.status > 0 else 128 - error.status
     return status
