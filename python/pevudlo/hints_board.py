@@ -99,11 +99,11 @@ def input_hint(number: int, detail: int | None, words: list[str], board: Board) 
     count, processors = len(words) - 3, board.processors(name)
     if number == 8:
         room = max(0, processors - first)
-        values = "1 value" if count == 1 else f"{count} values"
+        values = "is 1 value" if count == 1 else f"are {count} values"
         there = "1 processor, number 0" if processors == 1 else f"{processors} processors, counted from 0"
         return (
             f"`{name}` has {there}. From processor {first} on is room for {room}, "
-            f"and here are {values}. The number behind the key is the first processor"
+            f"and here {values}. The number behind the key is the first processor"
         )
     width = board.width_of(key) or 0
     value = words[3 + detail - first] if detail is not None else ""

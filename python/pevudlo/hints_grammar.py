@@ -67,14 +67,14 @@ def odd_bytes(word: str) -> str | None:
     """What is wrong with a word that no rule allows anywhere, or None."""
     if word == "":
         return "an empty word stands here: between two words is one space, and none at the end of a line"
-    if "\r" in word:
+    if not re.fullmatch(r"[\t -~]*\r?", word):
+        return "words are made of ASCII letters, digits and signs"
+    if word.endswith("\r"):
         return "a carriage return stands here: lines end with a line feed alone, so save the file with such line ends"
     if "\t" in word:
         return "a tab stands here: between two words is one space"
     if word.startswith(("#", "//", ";")):
         return "a comment has a line of its own, which begins with #"
-    if not word.isascii():
-        return "words are made of ASCII letters, digits and signs"
     return None
 
 
@@ -193,6 +193,8 @@ def grammar_hint(line: str, column: int) -> str:
         return (end_hint(words, word) if may_end(words) else "no command goes on so") + spelling_of(words)
     if said is None and word in INSTRUCTIONS and words == ["insert"]:
         return f"say where: `insert end {visible(line.split(' ', 1)[1])}`; {could}"
+    if said is None and words == ["insert"] and re.fullmatch(r"[0-9]+", word):
+        return f"a row is put behind another one by `insert after {word} INSTR`; {could}"
     if said is None and (near := meant(word, slots)):
         return f"did you mean `{near}`? {could[0].upper()}{could[1:]}{spelling_of(words)}"
     said = said or odd_word(word, slots)
