@@ -12,8 +12,10 @@ from pevudlo.live_session import Session, Stopped
 from pevudlo.page import lines_of
 from pevudlo.pipe import PipeError
 from pevudlo.program import NotFound, find
+from pevudlo.prompt_files import why
+from pevudlo.visible import visible
 
-USAGE = "usage: paris live [--workers N] [--port N] [FILE]"
+USAGE = "usage: paris live [--workers 1-16] [--port 0-65535] [FILE]"
 HELP = f"""{USAGE}
 
 Serves a page on which a program is edited: rows, input data, orders. It is for browsers on this machine alone, at the
@@ -55,7 +57,7 @@ def serve(session: Session, title: str, port: int) -> None:
 
 def main(words: list[str]) -> int:
     """Serves a page. The exit status is 0 after Ctrl-C, and 2 where the words are wrong or nothing can be served."""
-    if words == ["--help"]:
+    if words in (["--help"], ["-h"]):
         print(HELP)
         return 0
     meant = words_of(words)
@@ -67,6 +69,10 @@ def main(words: list[str]) -> int:
     session = None
     try:
         lines = lines_of(path) if path is not None else []
+    except (OSError, ValueError) as error:
+        print(f"paris live: can't read {visible(str(path))}: {why(error)}", file=sys.stderr)
+        return 2
+    try:
         session = Session(find(), workers)
         refused = session.load(lines)
         if refused:

@@ -19,9 +19,11 @@ from pevudlo.page_history import MOST_COLUMNS, Moment, history_table, moment_of
 from pevudlo.page_html import plural, prose, sign
 from pevudlo.pipe import Pipe, PipeError
 from pevudlo.program import NotFound, find
+from pevudlo.prompt_files import why
 from pevudlo.record import Recorder, Step
+from pevudlo.visible import visible
 
-USAGE = "usage: paris page [--workers N] FILE [-o OUT.html]"
+USAGE = "usage: paris page [--workers 1-16] FILE [-o OUT.html]"
 HELP = f"""{USAGE}
 
 Makes a page of a script, one HTML file that needs no network: NAME.html in the folder where you are, for a script
@@ -161,7 +163,7 @@ def words_of(words: list[str]) -> tuple[Path, str, int] | None:
 
 def main(words: list[str]) -> int:
     """Makes a page. The exit status is the program's, or 2 where the words are wrong or a file can't be had."""
-    if words == ["--help"]:
+    if words in (["--help"], ["-h"]):
         print(HELP)
         return 0
     meant = words_of(words)
@@ -171,20 +173,31 @@ def main(words: list[str]) -> int:
     path, out, workers = meant
     try:
         lines = lines_of(path)
+    except (OSError, ValueError) as error:
+        return ends_badly(f"can't read {visible(str(path))}: {why(error)}")
+    try:
         with Pipe(find(), workers) as pipe:
             html = page_of("standard input" if str(path) == "-" else path.name, lines, pipe).html()
             status = pipe.close()
+    except (OSError, NotFound) as error:
+        return ends_badly(str(error))
+    except PipeError as error:
+        return ends_badly(str(error), error.status if error.status > 0 else 128 - error.status)
+    try:
         if out == "-":
             sys.stdout.write(html)
+            sys.stdout.flush()
         else:
             Path(out).write_text(html, encoding="utf-8")
-            print(out)
+            print(visible(out))
     except BrokenPipeError:
         raise
-    except (OSError, NotFound) as error:
-        print(f"paris page: {error}", file=sys.stderr)
-        return 2
-    except PipeError as error:
-        print(f"paris page: {error}", file=sys.stderr)
-        return error.status if error.status > 0 else 128 - error.status
+    except (OSError, ValueError) as error:
+        return ends_badly(f"can't write {visible(out)}: {why(error)}")
+    return status
+
+
+def ends_badly(said: str, status: int = 2) -> int:
+    """Says why there is no page, and gives the exit status."""
+    print(f"paris page: {said}", file=sys.stderr)
     return status

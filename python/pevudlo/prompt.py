@@ -15,7 +15,7 @@ from pevudlo.prompt_session import Session, Stopped
 from pevudlo.prompt_show import WAYS, View, answer_lines, is_told
 from pevudlo.visible import visible
 
-USAGE = "usage: paris prompt [--workers N] [FILE]"
+USAGE = "usage: paris prompt [--workers 1-16] [FILE]"
 
 
 class Prompt:
@@ -195,7 +195,7 @@ def meant_by(words: list[str]) -> tuple[str | None, int] | None:
 def main(words: list[str]) -> int:
     """Runs the command. The exit status is 2 where the words are wrong, the file can't be read, or no program is "
     "there."""
-    if words == ["--help"]:
+    if words in (["--help"], ["-h"]):
         print(USAGE)
         for word in OWN_WORDS:
             print(f"  {word.spelling}: {word.does}")

@@ -100,7 +100,8 @@ def help_for(word: str) -> list[str]:
     if parts:
         return [f"these have `{visible(word)}` in their names:", *named(parts)]
     near = nearest(word, known_names())
-    return [f"there is no help for `{visible(word)}`" + (f": did you mean `{near}`?" if near else "")]
+    more = f"did you mean `{near}`?" if near else "`help` alone lists what there is"
+    return [f"there is no help for `{visible(word)}`: {more}"]
 
 
 def own_word_for(word: str) -> str | None:

@@ -50,10 +50,23 @@ def test_help_and_where() -> None:
 
 
 def test_a_file_that_cannot_be_read() -> None:
-    for words in (["/nope"], ["/"], ["explain", "/nope"], ["explain", "/"]):
+    commands: list[list[str]] = [[], ["explain"], ["prompt"], ["page"], ["live"]]
+    for words in [[*command, name] for command in commands for name in ("/nope", "/")]:
         ran = paris(*words)
         assert (ran.returncode, ran.stdout) == (2, "")
-        assert "can't read" in ran.stderr
+        assert ran.stderr.startswith("paris") and f"can't read {words[-1]}" in ran.stderr
+
+
+def test_a_page_that_cannot_be_written(tmp_path: Path) -> None:
+    ran = paris("page", FIRST, "-o", str(tmp_path))
+    assert (ran.returncode, ran.stdout, ran.stderr) == (2, "", f"paris page: can't write {tmp_path}: Is a directory\n")
+
+
+def test_a_short_word_for_help() -> None:
+    for command in ("", "explain", "prompt", "page", "live"):
+        words = [command] if command else []
+        ran = paris(*words, "-h")
+        assert (ran.returncode, ran.stderr) == (0, "") and ran.stdout == paris(*words, "--help").stdout
 
 
 def test_explain_has_the_programs_status_and_program() -> None:

@@ -137,7 +137,7 @@ def test_help_finds_numbers_parts_and_likely_words() -> None:
     parts = help_for("scan-with-u")
     assert " ".join(parts[1:]).split() == ["scan-with-u-add-1L", "scan-with-u-max-1L", "scan-with-u-min-1L"]
     assert help_for("setle") == ["there is no help for `setle`: did you mean `settle`?"]
-    assert help_for("xyzzy") == ["there is no help for `xyzzy`"]
+    assert help_for("xyzzy") == ["there is no help for `xyzzy`: `help` alone lists what there is"]
 
 
 def test_new_begins_with_nothing_declared() -> None:
@@ -195,7 +195,7 @@ def test_save_keeps_what_the_file_held_and_writes_whole_files(tmp_path: Path) ->
 def test_odd_bytes_are_written_as_escapes_and_end_nothing(tmp_path: Path) -> None:
     ran = prompt(["help \udcff\x1b[31m", f"load {tmp_path}/\x00", f"save {tmp_path}/a\x00", "hex \x1b", "set S 4"])
     said = ran.stdout.split("\n")
-    assert said[0] == "there is no help for `\\xff\\x1b[31m`"
+    assert said[0] == "there is no help for `\\xff\\x1b[31m`: `help` alone lists what there is"
     assert said[1:3] == [
         f"can't {way} {tmp_path}/{name}\\x00: embedded null byte" for way, name in (("read", ""), ("write", "a"))
     ]
@@ -256,7 +256,7 @@ def test_a_file_that_cannot_be_read_or_written_is_said(tmp_path: Path) -> None:
 def test_wrong_words_have_a_usage_line_and_status_2() -> None:
     for words in (["a", "b"], ["--grid"], ["--workers"], ["--workers", "17"], ["--workers=0"], ["--workers", "02"]):
         ran = prompt([], *words)
-        assert (ran.returncode, ran.stdout, ran.stderr) == (2, "", "usage: paris prompt [--workers N] [FILE]\n")
+        assert (ran.returncode, ran.stdout, ran.stderr) == (2, "", "usage: paris prompt [--workers 1-16] [FILE]\n")
     ran = prompt([], "--help")
     assert ran.returncode == 0 and all(word.spelling in ran.stdout for word in OWN.values())
 
