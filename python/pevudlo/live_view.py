@@ -139,6 +139,8 @@ def head(session: Session) -> str:
     unsettled = sum(row.status is not Status.SETTLED for row in session.rows)
     if not count:
         words = "The program has no rows."
+        if not session.board.sets:
+            words += " It begins with commands at the foot: <code>set S 4</code>, <code>field a S 8</code>."
     elif unsettled:
         words = f"<b>{unsettled:,} of {plural(count, 'row')}</b> {'is' if unsettled == 1 else 'are'} unsettled."
     else:

@@ -229,14 +229,19 @@ def test_a_number_is_typed_into_a_cell(browser: WebDriver, served: Server) -> No
     assert typed.get_attribute("value") == "4"
     typed.send_keys("99999", Keys.ENTER)
     until(browser, lambda: typed.get_attribute("aria-invalid") == "true")
-    assert "does not fit the width" in one(browser, "#refused").text
+    until(browser, lambda: "does not fit the width" in one(browser, "#cell-answer").text)
     version = served.session.version
+    for word in ("-5", "0x10", ""):
+        typed.send_keys(Keys.CONTROL + "a")
+        typed.send_keys(Keys.DELETE, word, Keys.ENTER)
+        until(browser, lambda: "without a sign is wanted" in one(browser, "#cell-answer").text)
     typed.send_keys(Keys.CONTROL + "a")
     typed.send_keys("1000", Keys.ENTER)
     until(browser, lambda: served.session.version > version and is_current(browser, served))
     lines += ["input v 2 1000"]
     until(browser, lambda: cells(browser, "#inputs [data-input='v']") == shown(lines, "show v start"))
     assert states(browser) == listed(lines) == {1: "unsettled", 2: "unsettled"}
+    assert one(browser, "#cell-answer").text == ""
 
 
 @pytest.mark.parametrize("served", ["life"], indirect=True)
@@ -321,6 +326,20 @@ def test_ctrl_c_ends_the_server_and_its_child(tmp_path: Path) -> None:
             process.send_signal(signal.SIGINT)
             assert process.wait(PATIENCE) == 0
             until_gone(int(children[0]))
+        finally:
+            process.kill()
+
+
+def test_a_page_says_that_its_server_has_ended(browser: WebDriver) -> None:
+    words = [sys.executable, "-m", "pevudlo", "live"]
+    with subprocess.Popen(words, cwd=REPOSITORY / "python", stdout=subprocess.PIPE, text=True) as process:
+        try:
+            assert process.stdout is not None
+            browser.get(process.stdout.readline().split(" ")[1])
+            until(browser, lambda: "It begins with commands" in one(browser, "#head").text)
+            process.send_signal(signal.SIGINT)
+            assert process.wait(PATIENCE) == 0
+            until(browser, lambda: "Nobody answers" in one(browser, "#trouble").text)
         finally:
             process.kill()
 

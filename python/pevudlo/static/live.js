@@ -108,7 +108,8 @@
 
   const news = new EventSource(base + "news");
   news.addEventListener("message", (event) => { if (Number(event.data) !== version) refresh(); });
-  news.addEventListener("error", () => { if (news.readyState === EventSource.CLOSED) lost(); });
+  // Where nobody answers what is asked then, the server has ended.
+  news.addEventListener("error", () => { if (news.readyState === EventSource.CLOSED) lost(); else refresh(); });
 
   async function ask(name, body) {
     try {
@@ -232,9 +233,19 @@
     if (cell) cell.focus();
   }
 
+  const unitShown = () => document.querySelector("[name=unit]:checked").value;
+
+  // What a cell takes, by the unit that is shown.
+  const wanted = {
+    unsigned: "A whole number without a sign is wanted here. For a negative one, switch the numbers to signed.",
+    signed: "A whole number is wanted here.",
+    hex: "A number in hex is wanted here: digits and the letters a to f alone.",
+    bits: "A number in bits is wanted here: the digits 0 and 1 alone.",
+  };
+
   // The number that a text is in the unit that is shown, or null.
   function numberOf(text, bits) {
-    const unit = document.querySelector("[name=unit]:checked").value;
+    const unit = unitShown();
     const forms = { unsigned: /^[0-9]+$/, signed: /^-?[0-9]+$/, hex: /^[0-9a-f]+$/i, bits: /^[01]+$/ };
     if (!forms[unit].test(text)) return null;
     if (unit === "hex") return BigInt("0x" + text);
@@ -262,6 +273,7 @@
     const close = () => {
       if (isDone) return;
       isDone = true;
+      at("cell-answer").innerHTML = "";
       const outer = cell.closest("[data-name]");
       outer.shown = null;
       input.remove();
@@ -278,10 +290,14 @@
       if (event.key === "Escape") close();
       if (event.key !== "Enter") return;
       const value = numberOf(input.value.trim(), bits);
-      if (value === null || value < 0n) { input.setAttribute("aria-invalid", "true"); return; }
+      if (value === null || value < 0n) {
+        at("cell-answer").textContent = wanted[unitShown()];
+        input.setAttribute("aria-invalid", "true");
+        return;
+      }
       const answer = await command(`input ${key} ${processor} ${value}`);
-      at("refused").innerHTML = answer.refused || "";
-      if (answer.refused) input.setAttribute("aria-invalid", "true"); else close();
+      answered(answer, at("cell-answer"), close);
+      if (answer.refused) input.setAttribute("aria-invalid", "true");
     });
     return null;
   }
