@@ -125,6 +125,26 @@ def test_values_that_are_pending_are_no_numbers(machine: Machine) -> None:
     assert numbers(machine.show("c", START)) == numbers(machine.show("c", after(row))) == [0] * 4
 
 
+def test_keys_and_places_of_other_types_ask_nothing(machine: Machine) -> None:
+    for key in (("a", 1), 0, None):
+        with pytest.raises(TypeError, match="a key is a name"):
+            machine[key]  # type: ignore[index]
+    with pytest.raises(TypeError, match="a key is a name"):
+        assert "a" in machine  # type: ignore[operator]
+    row = machine.insert("u-add-3-1L c a b 8")
+    with pytest.raises(TypeError, match=r"a place is START, END or after\(row\), and not 1"):
+        machine.insert("set-context S", row)  # type: ignore[arg-type]
+    with pytest.raises(TypeError, match="a place is START"):
+        machine.show("c", "end")  # type: ignore[arg-type]
+    assert machine.close() == 0
+
+
+def test_workers_are_1_to_16() -> None:
+    for workers in (0, 17, -1):
+        with pytest.raises(ValueError, match="workers are 1 to 16"):
+            Machine(workers=workers)
+
+
 def test_rows_orders_and_verdicts(machine: Machine) -> None:
     first = machine.insert("u-add-3-1L c a b 8")
     second = machine.insert("u-move-constant-1L b 5 8", START)
