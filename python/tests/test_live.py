@@ -9,45 +9,20 @@ import subprocess
 import sys
 import threading
 import time
-from collections.abc import Callable, Iterator
+from collections.abc import Iterator
 from pathlib import Path
-from typing import Any
 
 import pytest
+from browsers import PATIENCE, cells, complaints, evaluated, one, until
 from pages import REPOSITORY, answers, script_of
-from selenium import webdriver
-from selenium.webdriver.chrome.service import Service
 from selenium.webdriver.common.by import By
 from selenium.webdriver.common.keys import Keys
 from selenium.webdriver.remote.webdriver import WebDriver
-from selenium.webdriver.remote.webelement import WebElement
-from selenium.webdriver.support.wait import WebDriverWait
 
 from pevudlo import live
 from pevudlo.live_http import Server
 from pevudlo.live_session import Session
 from pevudlo.program import find
-
-PATIENCE = 15.0
-
-
-@pytest.fixture(scope="module")
-def browser() -> Iterator[WebDriver]:
-    options: Any = webdriver.ChromeOptions()
-    for word in (
-        "--headless=new",
-        "--no-sandbox",
-        "--disable-gpu",
-        "--disable-dev-shm-usage",
-        "--window-size=1500,1400",
-    ):
-        options.add_argument(word)
-    options.set_capability("goog:loggingPrefs", {"browser": "ALL"})
-    driver = webdriver.Chrome(service=Service("/usr/bin/chromedriver"), options=options)
-    driver.set_page_load_timeout(PATIENCE)
-    driver.set_script_timeout(PATIENCE)
-    yield driver
-    driver.quit()
 
 
 @pytest.fixture
@@ -64,17 +39,6 @@ def served(request: pytest.FixtureRequest) -> Iterator[Server]:
     session.close()
 
 
-def evaluated(driver: WebDriver, script: str, *words: object) -> Any:
-    """What a script gives in the page."""
-    run: Any = driver.execute_script
-    return run(script, *words)
-
-
-def until(driver: WebDriver, what: Callable[[], bool]) -> None:
-    """Waits until something holds, and fails where it doesn't in time."""
-    WebDriverWait(driver, PATIENCE, 0.05).until(lambda _: what())
-
-
 def opened(driver: WebDriver, server: Server) -> None:
     """Opens the page and waits for its rows."""
     driver.get(server.address)
@@ -84,11 +48,6 @@ def opened(driver: WebDriver, server: Server) -> None:
 def is_current(driver: WebDriver, server: Server) -> bool:
     """Whether the page shows the session as it is."""
     return bool(evaluated(driver, "return document.body.dataset.version") == str(server.session.version))
-
-
-def one(driver: WebDriver, selector: str) -> WebElement:
-    found: WebElement = driver.find_element(By.CSS_SELECTOR, selector)
-    return found
 
 
 def states(driver: WebDriver) -> dict[int, str]:
@@ -101,15 +60,6 @@ def listed(lines: list[str]) -> dict[int, str]:
     """The same by the program's own list."""
     words = [row.split(" ") for row in answers(lines + ["list"])[-1][1:]]
     return {int(row[0]): "settled" if row[3] == "settled" else "unsettled" for row in words}
-
-
-def cells(driver: WebDriver, selector: str) -> list[str]:
-    """The numbers of a grid on the page."""
-    script = (
-        "return [...document.querySelectorAll(arguments[0] + ' td:not(.pv-corner)')].map(cell => cell.firstChild.data)"
-    )
-    numbers: list[str] = evaluated(driver, script, selector)
-    return numbers
 
 
 def click(driver: WebDriver, server: Server, selector: str, place: int = 0) -> None:
@@ -305,8 +255,7 @@ def test_units_are_switched(browser: WebDriver, served: Server) -> None:
 
 
 def test_the_browser_complained_of_nothing(browser: WebDriver) -> None:
-    words = [entry["message"] for entry in browser.get_log("browser")]  # type: ignore[no-untyped-call]
-    assert [text for text in words if "Content Security" in text or "Uncaught" in text] == []
+    assert complaints(browser) == []
 
 
 def test_ctrl_c_ends_the_server_and_its_child(tmp_path: Path) -> None:
