@@ -138,6 +138,8 @@ def test_rows_are_edited_in_place(browser: WebDriver, served: Server) -> None:
     until(browser, lambda: served.session.version > version and is_current(browser, served))
     lines += ["replace 1 scan-with-u-max-1L prefix v 0 16 upward inclusive none"]
     until(browser, lambda: states(browser) == listed(lines))
+    focus = "return document.activeElement.dataset.act + ' ' + document.activeElement.closest('article').dataset.row"
+    until(browser, lambda: bool(evaluated(browser, focus) == "edit 1"))
     click(browser, served, "[data-act=settle]")
     lines += ["settle"]
     assert cells(browser, "[data-row='1'] [data-key='prefix']") == shown(lines, "show prefix after 1")
@@ -156,17 +158,22 @@ def test_the_caret_shows_values_and_takes_rows(browser: WebDriver, served: Serve
     click(browser, served, "[data-act=up]")
     assert one(browser, "#place").text == "at the start"
     assert cells(browser, "#values-part [data-key='prefix']") == shown(lines, "show prefix start") == ["0"] * 8
-    version = served.session.version
-    one(browser, "form.caret input").send_keys("u-move-constant-1L v 1 16", Keys.ENTER)
-    until(browser, lambda: served.session.version > version and is_current(browser, served))
-    lines += ["insert start u-move-constant-1L v 1 16"]
-    assert states(browser) == listed(lines) and list(states(browser)) == [3, 1, 2]
+    texts = ["u-move-constant-1L v 1 16", "u-move-1L prefix v 16"]
+    for text, place in zip(texts, ("start", "after 3")):
+        if place == "start":
+            one(browser, "form.caret input").click()
+        browser.switch_to.active_element.send_keys(text, Keys.ENTER)
+        lines += [f"insert {place} {text}"]
+        until(browser, lambda: len(states(browser)) == len(listed(lines)))
+        until(browser, lambda: one(browser, "#place").text == f"after row {len(states(browser))}")
+    assert states(browser) == listed(lines) and list(states(browser)) == [3, 4, 1, 2]
+    assert "v is pending, until row 3 has run" in one(browser, "#values").text
     evaluated(browser, "document.activeElement.blur()")
     version = served.session.version
     one(browser, "body").send_keys(Keys.ARROW_DOWN)
     until(browser, lambda: served.session.version > version and is_current(browser, served))
-    assert one(browser, "#place").text == "after row 3"
-    assert "pending" in one(browser, "#values-part").text
+    assert one(browser, "#place").text == "after row 1"
+    assert "prefix is pending, until row 1 has run" in one(browser, "#values").text
 
 
 @pytest.mark.parametrize("served", ["sum-by-scan"], indirect=True)
