@@ -58,6 +58,7 @@ class Session:
         self._program, self._workers = program, workers
         self._news = threading.Condition()
         self._closed = False
+        self._starts: dict[str, Look] = {}
         self._begin()
 
     @property
@@ -105,6 +106,14 @@ class Session:
                 raise ValueError("the program has no such place")
             self.caret = place
             self.changed()
+
+    def starts(self) -> list[Look]:
+        """Every key at the start: its input data, which changes by `input` alone. Raises Stopped."""
+        with self.lock:
+            for key in self.board.keys():
+                if key not in self._starts:
+                    self._starts[key] = self.look(key, "start")
+            return [self._starts[key] for key in self.board.keys()]
 
     def looks(self) -> list[Look]:
         """Every key at the caret. Raises Stopped where the program has ended."""
@@ -167,6 +176,7 @@ class Session:
     def _forget(self) -> None:
         """What was known of a program that has ended."""
         self.taken, self.rows, self.runs = [], (), {}
+        self._starts.clear()
         self.edit, self.trouble = None, ""
         self.steps.clear()
 
@@ -215,6 +225,8 @@ class Session:
 
     def _note(self, step: Step) -> None:
         """What a step says of rows: the runs of those that ran, and the last edit."""
+        if step.given is not None:
+            self._starts[step.given[1].key] = step.given[1]
         if step.touched is not None:
             self.edit = Edit(step.text, step.touched)
         if step.ran is not None:

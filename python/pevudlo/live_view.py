@@ -30,7 +30,8 @@ class View:
     fragments: dict[str, tuple[str, int]] = field(default_factory=dict)
     orders: dict[str, list[str]] = field(default_factory=dict)
     version: int = 0
-    _cards: dict[int, tuple[object, str]] = field(default_factory=dict)
+    _cards: dict[int, tuple[RowRun | None, tuple[Row, str], str]] = field(default_factory=dict)
+    _keys: dict[str, tuple[Look, str]] = field(default_factory=dict)
 
     def since(self, seen: int) -> dict[str, object]:
         """What a tab that has seen a version wants to know."""
@@ -67,24 +68,30 @@ class View:
         session = self.session
         if session.trouble:
             raise Stopped(session.trouble)
-        inputs = [session.look(key, "start") for key in session.board.keys()]
-        values = session.looks()
-        for name, looks in (("input", inputs), ("value", values)):
-            grids = {f"{name}-{look.key}": key_html(look, session, name == "input") for look in looks}
-            self.orders[f"{name}s"] = list(grids)
+        for kind, looks in (("input", session.starts()), ("value", session.looks())):
+            grids = {f"{kind}-{look.key}": self._key(f"{kind}-{look.key}", look, kind == "input") for look in looks}
+            self.orders[f"{kind}s"] = list(grids)
             parts |= grids
+
+    def _key(self, name: str, look: Look, is_input: bool) -> str:
+        """A key, made anew where its numbers are others."""
+        kept = self._keys.get(name)
+        if kept is not None and (kept[0].numbers, kept[0].pending) == (look.numbers, look.pending):
+            return kept[1]
+        html = key_html(look, self.session, is_input)
+        self._keys[name] = (look, html)
+        return html
 
     def _card(self, row: Row) -> str:
         """A row, made anew where something of it is another."""
         run = self.session.runs.get(row.row)
         edit = self.session.edit
         fate = fate_of(row, edit.touched) if edit is not None else ""
-        state = (row, id(run), fate)
         kept = self._cards.get(row.row)
-        if kept is not None and kept[0] == state:
-            return kept[1]
+        if kept is not None and kept[0] is run and kept[1] == (row, fate):
+            return kept[2]
         html = card(row, run, fate, self.session)
-        self._cards[row.row] = (state, html)
+        self._cards[row.row] = (run, (row, fate), html)
         return html
 
 

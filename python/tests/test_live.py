@@ -9,45 +9,20 @@ import subprocess
 import sys
 import threading
 import time
-from collections.abc import Callable, Iterator
+from collections.abc import Iterator
 from pathlib import Path
-from typing import Any
 
 import pytest
+from browsers import PATIENCE, cells, complaints, evaluated, one, until
 from pages import REPOSITORY, answers, script_of
-from selenium import webdriver
-from selenium.webdriver.chrome.service import Service
 from selenium.webdriver.common.by import By
 from selenium.webdriver.common.keys import Keys
 from selenium.webdriver.remote.webdriver import WebDriver
-from selenium.webdriver.remote.webelement import WebElement
-from selenium.webdriver.support.wait import WebDriverWait
 
 from pevudlo import live
 from pevudlo.live_http import Server
 from pevudlo.live_session import Session
 from pevudlo.program import find
-
-PATIENCE = 15.0
-
-
-@pytest.fixture(scope="module")
-def browser() -> Iterator[WebDriver]:
-    options: Any = webdriver.ChromeOptions()
-    for word in (
-        "--headless=new",
-        "--no-sandbox",
-        "--disable-gpu",
-        "--disable-dev-shm-usage",
-        "--window-size=1500,1400",
-    ):
-        options.add_argument(word)
-    options.set_capability("goog:loggingPrefs", {"browser": "ALL"})
-    driver = webdriver.Chrome(service=Service("/usr/bin/chromedriver"), options=options)
-    driver.set_page_load_timeout(PATIENCE)
-    driver.set_script_timeout(PATIENCE)
-    yield driver
-    driver.quit()
 
 
 @pytest.fixture
@@ -64,17 +39,6 @@ def served(request: pytest.FixtureRequest) -> Iterator[Server]:
     session.close()
 
 
-def evaluated(driver: WebDriver, script: str, *words: object) -> Any:
-    """What a script gives in the page."""
-    run: Any = driver.execute_script
-    return run(script, *words)
-
-
-def until(driver: WebDriver, what: Callable[[], bool]) -> None:
-    """Waits until something holds, and fails where it doesn't in time."""
-    WebDriverWait(driver, PATIENCE, 0.05).until(lambda _: what())
-
-
 def opened(driver: WebDriver, server: Server) -> None:
     """Opens the page and waits for its rows."""
     driver.get(server.address)
@@ -84,11 +48,6 @@ def opened(driver: WebDriver, server: Server) -> None:
 def is_current(driver: WebDriver, server: Server) -> bool:
     """Whether the page shows the session as it is."""
     return bool(evaluated(driver, "return document.body.dataset.version") == str(server.session.version))
-
-
-def one(driver: WebDriver, selector: str) -> WebElement:
-    found: WebElement = driver.find_element(By.CSS_SELECTOR, selector)
-    return found
 
 
 def states(driver: WebDriver) -> dict[int, str]:
@@ -101,15 +60,6 @@ def listed(lines: list[str]) -> dict[int, str]:
     """The same by the program's own list."""
     words = [row.split(" ") for row in answers(lines + ["list"])[-1][1:]]
     return {int(row[0]): "settled" if row[3] == "settled" else "unsettled" for row in words}
-
-
-def cells(driver: WebDriver, selector: str) -> list[str]:
-    """The numbers of a grid on the page."""
-    script = (
-        "return [...document.querySelectorAll(arguments[0] + ' td:not(.pv-corner)')].map(cell => cell.firstChild.data)"
-    )
-    numbers: list[str] = evaluated(driver, script, selector)
-    return numbers
 
 
 def click(driver: WebDriver, server: Server, selector: str, place: int = 0) -> None:
@@ -188,6 +138,8 @@ def test_rows_are_edited_in_place(browser: WebDriver, served: Server) -> None:
     until(browser, lambda: served.session.version > version and is_current(browser, served))
     lines += ["replace 1 scan-with-u-max-1L prefix v 0 16 upward inclusive none"]
     until(browser, lambda: states(browser) == listed(lines))
+    focus = "return document.activeElement.dataset.act + ' ' + document.activeElement.closest('article').dataset.row"
+    until(browser, lambda: bool(evaluated(browser, focus) == "edit 1"))
     click(browser, served, "[data-act=settle]")
     lines += ["settle"]
     assert cells(browser, "[data-row='1'] [data-key='prefix']") == shown(lines, "show prefix after 1")
@@ -206,17 +158,22 @@ def test_the_caret_shows_values_and_takes_rows(browser: WebDriver, served: Serve
     click(browser, served, "[data-act=up]")
     assert one(browser, "#place").text == "at the start"
     assert cells(browser, "#values-part [data-key='prefix']") == shown(lines, "show prefix start") == ["0"] * 8
-    version = served.session.version
-    one(browser, "form.caret input").send_keys("u-move-constant-1L v 1 16", Keys.ENTER)
-    until(browser, lambda: served.session.version > version and is_current(browser, served))
-    lines += ["insert start u-move-constant-1L v 1 16"]
-    assert states(browser) == listed(lines) and list(states(browser)) == [3, 1, 2]
+    texts = ["u-move-constant-1L v 1 16", "u-move-1L prefix v 16"]
+    for text, place in zip(texts, ("start", "after 3")):
+        if place == "start":
+            one(browser, "form.caret input").click()
+        browser.switch_to.active_element.send_keys(text, Keys.ENTER)
+        lines += [f"insert {place} {text}"]
+        until(browser, lambda: len(states(browser)) == len(listed(lines)))
+        until(browser, lambda: one(browser, "#place").text == f"after row {len(states(browser))}")
+    assert states(browser) == listed(lines) and list(states(browser)) == [3, 4, 1, 2]
+    assert "v is pending, until row 3 has run" in one(browser, "#values").text
     evaluated(browser, "document.activeElement.blur()")
     version = served.session.version
     one(browser, "body").send_keys(Keys.ARROW_DOWN)
     until(browser, lambda: served.session.version > version and is_current(browser, served))
-    assert one(browser, "#place").text == "after row 3"
-    assert "pending" in one(browser, "#values-part").text
+    assert one(browser, "#place").text == "after row 1"
+    assert "prefix is pending, until row 1 has run" in one(browser, "#values").text
 
 
 @pytest.mark.parametrize("served", ["sum-by-scan"], indirect=True)
@@ -310,8 +267,7 @@ def test_units_are_switched(browser: WebDriver, served: Server) -> None:
 
 
 def test_the_browser_complained_of_nothing(browser: WebDriver) -> None:
-    words = [entry["message"] for entry in browser.get_log("browser")]  # type: ignore[no-untyped-call]
-    assert [text for text in words if "Content Security" in text or "Uncaught" in text] == []
+    assert complaints(browser) == []
 
 
 def test_ctrl_c_ends_the_server_and_its_child(tmp_path: Path) -> None:

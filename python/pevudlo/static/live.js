@@ -60,11 +60,11 @@
 
   function placeCaret() {
     const rows = at("rows");
-    if (caret === "start") rows.prepend(form);
-    else {
-      const row = elements.rows.get("row-" + caret.slice(6));
-      if (row) row.after(form); else rows.append(form);
-    }
+    const row = caret === "end" ? rows.querySelector(":scope > [data-name]:last-of-type") : elements.rows.get("row-" + caret.slice(6));
+    const inside = form.contains(document.activeElement) ? document.activeElement : null;
+    if (!row && rows.firstElementChild !== form) rows.prepend(form);
+    if (row && row.nextElementSibling !== form) row.after(form);
+    if (inside) inside.focus();
     at("place").textContent = caret.replace("after", "after row").replace(/^(start|end)$/, "at the $1");
   }
 
@@ -155,14 +155,20 @@
     const close = () => {
       if (!editor.isConnected) return;
       editor.replaceWith(button);
+      button.focus();
       const outer = row.parentElement;
-      if (outer && outer.waits !== undefined) { const waits = outer.waits; delete outer.waits; fill(outer, waits); }
+      if (outer && outer.waits !== undefined) {
+        const waits = outer.waits;
+        delete outer.waits;
+        fill(outer, waits);
+        outer.querySelector("button.text").focus();
+      }
     };
     editor.addEventListener("submit", async (event) => {
       event.preventDefault();
       answered(await command(`replace ${row.dataset.row} ${input.value}`), editor.querySelector(".answer"), close);
     });
-    input.addEventListener("keydown", (event) => { if (event.key === "Escape") { close(); button.focus(); } });
+    input.addEventListener("keydown", (event) => { if (event.key === "Escape") close(); });
     button.replaceWith(editor);
     input.focus();
   }
@@ -185,7 +191,12 @@
   form.addEventListener("submit", async (event) => {
     event.preventDefault();
     const input = form.elements.row;
-    answered(await command(`insert ${caret} ${input.value}`), form.querySelector(".answer"), () => { input.value = ""; });
+    const place = caret;
+    const answer = await command(`insert ${place} ${input.value}`);
+    answered(answer, form.querySelector(".answer"), () => {
+      input.value = "";
+      if (place !== "end") ask("caret", { place: answer.reply[0].replace("row", "after") });
+    });
   });
 
   const lines = [];
@@ -220,14 +231,24 @@
   }
 
   function focused() {
-    const cell = document.activeElement;
-    if (!cell || cell.tagName !== "TD") return null;
-    const grid = cell.closest("figure");
-    return { key: grid.dataset.key, place: cellsOf(grid).indexOf(cell), cell };
+    const element = document.activeElement;
+    const act = element && element.dataset.act;
+    if (act) {
+      const row = element.closest("article");
+      return { element, selector: row ? `[data-row="${row.dataset.row}"] [data-act=${act}]` : `#head [data-act=${act}]` };
+    }
+    if (!element || element.tagName !== "TD") return null;
+    const grid = element.closest("figure");
+    return { key: grid.dataset.key, place: cellsOf(grid).indexOf(element), element };
   }
 
   function refocus(was) {
-    if (!was || was.cell.isConnected) return;
+    if (!was || was.element.isConnected) return;
+    if (was.selector) {
+      const button = document.querySelector(was.selector);
+      if (button) button.focus();
+      return;
+    }
     const holder = at("inputs-part").querySelector(`[data-input="${CSS.escape(was.key)}"] figure`);
     const cell = holder && cellsOf(holder)[was.place];
     if (cell) cell.focus();
