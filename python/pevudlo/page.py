@@ -175,6 +175,8 @@ def main(words: list[str]) -> int:
         lines = lines_of(path)
     except (OSError, ValueError) as error:
         return ends_badly(f"can't read {visible(str(path))}: {why(error)}")
+    if is_same_file(path, out):
+        return ends_badly(f"the page would stand in the place of its script: -o says another than {visible(out)}")
     try:
         with Pipe(find(), workers) as pipe:
             html = page_of("standard input" if str(path) == "-" else path.name, lines, pipe).html()
@@ -183,6 +185,11 @@ def main(words: list[str]) -> int:
         return ends_badly(str(error))
     except PipeError as error:
         return ends_badly(str(error), error.status if error.status > 0 else 128 - error.status)
+    return write(html, out, status)
+
+
+def write(html: str, out: str, status: int) -> int:
+    """Writes the page, and gives the exit status: the program's, or 2 where the file can't be had."""
     try:
         if out == "-":
             sys.stdout.write(html)
@@ -195,6 +202,14 @@ def main(words: list[str]) -> int:
     except (OSError, ValueError) as error:
         return ends_badly(f"can't write {visible(out)}: {why(error)}")
     return status
+
+
+def is_same_file(script: Path, out: str) -> bool:
+    """Whether the page would be written over the script."""
+    try:
+        return out != "-" and str(script) != "-" and script.is_file() and script.samefile(out)
+    except (OSError, ValueError):
+        return False
 
 
 def ends_badly(said: str, status: int = 2) -> int:

@@ -62,6 +62,19 @@ def test_a_page_that_cannot_be_written(tmp_path: Path) -> None:
     assert (ran.returncode, ran.stdout, ran.stderr) == (2, "", f"paris page: can't write {tmp_path}: Is a directory\n")
 
 
+def test_a_page_is_not_written_over_its_script(tmp_path: Path) -> None:
+    script = tmp_path / "sum.html"
+    script.write_text("set S 4\n")
+    (tmp_path / "link.html").symlink_to(script)
+    for words in (["sum.html"], ["sum.html", "-o", "./sum.html"], ["sum.html", "-o", "link.html"]):
+        ran = subprocess.run([PARIS, "page", *words], capture_output=True, text=True, timeout=60, cwd=tmp_path)
+        assert (ran.returncode, ran.stdout) == (2, "") and "in the place of its script" in ran.stderr
+    assert script.read_text() == "set S 4\n"
+    words = ["sum.html", "-o", "page.html"]
+    ran = subprocess.run([PARIS, "page", *words], capture_output=True, text=True, timeout=60, cwd=tmp_path)
+    assert ran.returncode == 0 and (tmp_path / "page.html").exists()
+
+
 def test_a_short_word_for_help() -> None:
     for command in ("", "explain", "prompt", "page", "live"):
         words = [command] if command else []
