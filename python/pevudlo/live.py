@@ -49,8 +49,12 @@ def interrupt(number: int, frame: FrameType | None) -> None:
 
 
 def serve(session: Session, title: str, port: int) -> None:
-    """Serves until Ctrl-C."""
-    with Server(session, title, port) as server:
+    """Serves until Ctrl-C. Raises OSError where the port can't be had."""
+    try:
+        server = Server(session, title, port)
+    except OSError as error:
+        raise OSError(f"can't listen at port {port}: {why(error)}") from error
+    with server:
         print(f"Open {server.address} in a browser on this machine. Ctrl-C ends it.", flush=True)
         server.serve_forever(poll_interval=0.2)
 

@@ -5,6 +5,7 @@ from __future__ import annotations
 import os
 import re
 import signal
+import socket
 import subprocess
 import sys
 import threading
@@ -313,3 +314,10 @@ def until_gone(process: int) -> None:
 def test_wrong_words_have_status_2(words: list[str], capsys: pytest.CaptureFixture[str]) -> None:
     assert live.main(words) == 2
     assert capsys.readouterr().err == live.USAGE + "\n"
+
+
+def test_a_port_that_is_taken(capsys: pytest.CaptureFixture[str]) -> None:
+    with socket.create_server(("127.0.0.1", 0)) as taken:
+        port = taken.getsockname()[1]
+        assert live.main(["--port", str(port)]) == 2
+    assert capsys.readouterr().err == f"paris live: can't listen at port {port}: Address already in use\n"
