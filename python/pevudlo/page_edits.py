@@ -32,7 +32,8 @@ def sentence(touched: Touched) -> str:
     if not unsettled:
         first = "<b>No row</b> is unsettled by it."
     elif unsettled == count:
-        first = "It unsettles <b>the one row</b>." if count == 1 else f"It unsettles <b>all {count:,} rows</b>."
+        all_of_them = {1: "the one row", 2: "both rows"}.get(count, f"all {count:,} rows")
+        first = f"It unsettles <b>{all_of_them}</b>."
     else:
         first = f"It unsettles <b>{unsettled:,} of {plural(count, 'row')}</b>."
     second = (

@@ -133,10 +133,7 @@ def check_edits(root: Node, lines: list[str]) -> list[int]:
         assert fates == expected
         unsettled = sum(fate == "unsettled" for fate in expected.values())
         sentence = next(section.all("p", "verdict")).text
-        words = f"{unsettled} of {len(new)} row" if unsettled < len(new) else f"all {len(new)} rows"
-        assert (
-            words in sentence
-            or (len(new) == 1 and "the one row" in sentence)
-            or (not unsettled and "No row" in sentence)
-        )
+        whole = {1: "the one row", 2: "both rows"}.get(len(new), f"all {len(new)} rows")
+        words = "No row" if not unsettled else whole if unsettled == len(new) else f"{unsettled} of {len(new)} row"
+        assert words in sentence
     return [line_of(section) for section in found]
