@@ -25,7 +25,7 @@ LINE_BYTES = 65_000
 
 @dataclass(frozen=True)
 class Pending:
-    """A value that isn't there: this row writes the key last, and is unsettled. It is no number, nor true, nor false."""
+    """A value that isn't there: this row writes the key last, and is unsettled. It is no number, true or false."""
 
     row: int
 
