@@ -11,7 +11,7 @@ USAGE = "usage: python3 -m pevudlo explain|prompt|page|live .."
 
 def main(words: list[str]) -> int:
     """Runs the command that the words name, and gives the exit status: 2 where the words are wrong."""
-    if words and words[0] == "--help":
+    if words and words[0] in ("--help", "-h"):
         print(USAGE)
         return 0
     if not words or words[0] not in COMMANDS:

@@ -15,7 +15,7 @@ from pevudlo.replies import Cause, Faults, OrderTaken, PendingReply, Refused, Ro
 from pevudlo.talk import Answer, Talk
 from pevudlo.visible import visible
 
-USAGE = "usage: paris explain [--workers N] FILE [--stop]"
+USAGE = "usage: paris explain [--workers 1-16] FILE [--stop]"
 HELP = f"""{USAGE}
 
 Runs a script, and says of each line what came of it: values as grids, and refusals in words with what there is instead.
@@ -146,7 +146,7 @@ def opened(name: str) -> ContextManager[BinaryIO]:
 
 def main(words: list[str]) -> int:
     """Runs the command. The exit status is the program's, or 2 where the words are wrong or the file can't be read."""
-    if words == ["--help"]:
+    if words in (["--help"], ["-h"]):
         print(HELP)
         return 0
     meant = meant_by(words)

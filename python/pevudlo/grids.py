@@ -20,8 +20,12 @@ from pevudlo.units import Unit, spelled
 MOST_CELLS = 1024
 """A set of more processors is a picture and no table."""
 
+MOST_ROOMY = 64
+"""The cells of a larger set are small."""
+
 _SHADES = " .:-=+*#%@"
 _NOTHING: frozenset[int] = frozenset()
+_PART = 256
 
 
 @dataclass(frozen=True)
@@ -49,9 +53,12 @@ class Grid:
 
 def differing(now: Sequence[int], before: Sequence[int]) -> frozenset[int]:
     """The processors whose numbers aren't the same."""
-    if now == before:
-        return _NOTHING
-    return frozenset(place for place, (one, two) in enumerate(zip(now, before)) if one != two)
+    found: list[int] = []
+    for start in range(0, len(now), _PART):
+        part, other = now[start : start + _PART], before[start : start + _PART]
+        if part != other:
+            found += [start + place for place, (one, two) in enumerate(zip(part, other)) if one != two]
+    return frozenset(found)
 
 
 def style() -> str:
@@ -129,6 +136,7 @@ def html_of(grid: Grid, unit: Unit = Unit.UNSIGNED) -> str:
     """The grid as a `figure`: tables with heads, or a heat picture with its summary."""
     body = _html_picture(grid) if grid.is_picture else _html_tables(grid, unit)
     kind = "pv-heat" if grid.is_picture else "pv-bit" if grid.width == 1 else "pv-numbers"
+    kind += " pv-dense" if MOST_ROOMY < len(grid.values) and not grid.is_picture else ""
     key = escape(grid.key, quote=True)
     return f'<figure class="pv-grid {kind}" data-key="{key}" data-bits="{grid.width}">{body}</figure>'
 
@@ -179,16 +187,19 @@ def _html_picture(grid: Grid) -> str:
     parts = [_image(grid, grid.values, f"{grid.key}: {summary_of(grid)}", grid.unselected, "")]
     for marked, word in ((grid.changed, "changed"), (grid.other, "other than before"), (grid.unselected, "unselected")):
         if 0 < len(marked) < count:
-            mask = bytes(place in marked for place in range(count))
-            parts.append(_image(grid, mask, f"{grid.key}: bright where {word}", _NOTHING, word))
+            mask = bytearray(count)
+            for place in marked:
+                mask[place] = 1
+            parts.append(_image(grid, bytes(mask), f"{grid.key}: bright where {word}", _NOTHING, word))
     return f"<figcaption>{_caption_of(grid)} <em>{summary_of(grid)}</em></figcaption><div>{''.join(parts)}</div>"
 
 
 def _image(grid: Grid, values: Sequence[int], words: str, unselected: frozenset[int], label: str) -> str:
-    """One picture. Its pixels are enlarged to a whole number of screen pixels."""
+    """One picture, enlarged by a whole number; one with a label takes half the room."""
     picture = picture_of(grid.axes, values, unselected)
-    scale = max(1, (128 if label else 256) // max(picture.width, picture.height))
-    size = f'width="{picture.width * scale}" height="{picture.height * scale}"'
+    longest = max(picture.width, picture.height)
+    scale = max(1, 256 // longest) / (2 if label else 1)
+    size = f'width="{round(picture.width * scale)}" height="{round(picture.height * scale)}"'
     if not label and picture.width * picture.height == len(values):
         size += f' data-across="{picture.width}"'
     name = f"<small>{escape(label)}</small>" if label else ""
@@ -198,6 +209,7 @@ def _image(grid: Grid, values: Sequence[int], words: str, unselected: frozenset[
 
 
 def shape_text(axes: tuple[int, ...]) -> str:
-    """The axes as a script has them, and how many processors they make: `4x2, 8 processors`."""
+    """The axes as a script has them, where they are more than one, and the processors: `4x2, 8 processors`."""
     count = processors_of(axes)
-    return f"{'x'.join(map(str, axes))}, {count:,} processor{'' if count == 1 else 's'}"
+    shape = f"{'x'.join(map(str, axes))}, " if len(axes) > 1 else ""
+    return f"{shape}{count:,} processor{'' if count == 1 else 's'}"

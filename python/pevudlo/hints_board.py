@@ -39,7 +39,7 @@ def declared(kind: str, names: list[str], word: str) -> str:
 def no_set(name: str, board: Board) -> str:
     """Which set isn't declared, and which are."""
     if name in board.fields:
-        return f"`{name}` is a field, and here is wanted a set: its set is `{board.fields[name].set}`"
+        return f"`{name}` is a field, and a set is wanted here: its set is `{board.fields[name].set}`"
     return f"`{name}` isn't declared: {declared('set', list(board.sets), name)}"
 
 
@@ -49,7 +49,7 @@ def no_field(name: str, board: Board) -> str:
     if dot:
         return no_set(base, board)
     if name in board.sets:
-        return f"`{name}` is a set, and here is wanted a field: {declared('field', list(board.fields), name)}"
+        return f"`{name}` is a set, and a field is wanted here: {declared('field', list(board.fields), name)}"
     return f"`{name}` isn't declared: {declared('field', list(board.fields), name)}"
 
 
@@ -99,10 +99,11 @@ def input_hint(number: int, detail: int | None, words: list[str], board: Board) 
     count, processors = len(words) - 3, board.processors(name)
     if number == 8:
         room = max(0, processors - first)
-        values = "1 value" if count == 1 else f"{count} values"
+        values = "is 1 value" if count == 1 else f"are {count} values"
+        there = "1 processor, number 0" if processors == 1 else f"{processors} processors, counted from 0"
         return (
-            f"`{name}` has {processors} processors, counted from 0. From processor {first} on is room for {room}, "
-            f"and here are {values}. The number behind the key is the first processor"
+            f"`{name}` has {there}. From processor {first} on is room for {room}, "
+            f"and here {values}. The number behind the key is the first processor"
         )
     width = board.width_of(key) or 0
     value = words[3 + detail - first] if detail is not None else ""
@@ -178,7 +179,7 @@ def operand_hint(named: dict[Operand, str], board: Board) -> str:
         if name != NONE and board.fields[name].width > 1:
             narrow = [each for each, of in board.fields.items() if of == type(of)(board.fields[name].set, 1)]
             there = f", as {listed([f'`{each}`' for each in narrow])}" if narrow else ", and none is declared"
-            parts.append(f"`{name}` has {bits(board.fields[name].width)}, and here is wanted a field of one bit{there}")
+            parts.append(f"`{name}` has {bits(board.fields[name].width)}, and a field of one bit is wanted here{there}")
     if Operand.CONSTANT in named and int(named[Operand.CONSTANT]) >= 1 << int(named[Operand.LENGTH]):
         length = int(named[Operand.LENGTH])
         parts.append(

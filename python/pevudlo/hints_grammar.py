@@ -15,7 +15,7 @@ from pevudlo.grammar import (
     operand_slots,
     words_before,
 )
-from pevudlo.instructions import INSTRUCTIONS
+from pevudlo.instructions import INSTRUCTIONS, Instruction
 from pevudlo.visible import visible
 
 # Words of other languages and tools, and what does it here.
@@ -67,14 +67,14 @@ def odd_bytes(word: str) -> str | None:
     """What is wrong with a word that no rule allows anywhere, or None."""
     if word == "":
         return "an empty word stands here: between two words is one space, and none at the end of a line"
-    if "\r" in word:
+    if not re.fullmatch(r"[\t -~]*\r?", word):
+        return "words are made of ASCII letters, digits and signs"
+    if word.endswith("\r"):
         return "a carriage return stands here: lines end with a line feed alone, so save the file with such line ends"
     if "\t" in word:
         return "a tab stands here: between two words is one space"
     if word.startswith(("#", "//", ";")):
         return "a comment has a line of its own, which begins with #"
-    if not word.isascii():
-        return "words are made of ASCII letters, digits and signs"
     return None
 
 
@@ -119,7 +119,7 @@ def odd_word(word: str, slots: tuple[Slot, ...]) -> str | None:
         if kind in kinds and (said := odd_number(word, kinds[kind])):
             return said
     if Kind.AXES in kinds:
-        return "an axes' length is a number, and between two of them stands x, as in `4x4`"
+        return "an axis has a number as its length, and between two lengths stands x, as in `4x4`"
     if kinds.keys() & {Kind.NAME, Kind.KEY, Kind.OPTIONAL_NAME}:
         return odd_name(word)
     return None
@@ -154,16 +154,27 @@ def end_hint(words: list[str], word: str) -> str:
     return "the line could end before it: nothing more belongs there"
 
 
+def instruction_of(words: list[str]) -> tuple[Instruction, int] | None:
+    """The instruction that these words of a line name, and how many of its operands they have; or None."""
+    at = 3 if words[:2] == ["insert", "after"] else 2
+    if words[:1] not in (["insert"], ["replace"]) or len(words) <= at or words[at] not in INSTRUCTIONS:
+        return None
+    return INSTRUCTIONS[words[at]], len(words) - at - 1
+
+
+def spelling_of(words: list[str]) -> str:
+    """A sentence with the spelling of the instruction that these words of a line name, or nothing."""
+    found = instruction_of(words)
+    return f". The spelling is `{found[0].spelling}`" if found else ""
+
+
 def wanted_hint(words: list[str], slots: tuple[Slot, ...]) -> str:
     """The hint for a line that ends too soon."""
     wanted = listed([slot_words(slot) for slot in slots])
-    for at in (2, 3):
-        instruction = INSTRUCTIONS.get(words[at]) if len(words) > at else None
-        if instruction is not None and words[0] in ("insert", "replace"):
-            missing = len(operand_slots(instruction)) - (len(words) - at - 1)
-            more = "" if missing == 1 else f", and {missing - 1} more"
-            return f"the line ends too soon: here comes {wanted}{more}. The spelling is `{instruction.spelling}`"
-    return f"the line ends too soon: here comes {wanted}"
+    found = instruction_of(words)
+    missing = len(operand_slots(found[0])) - found[1] if found else 1
+    more = "" if missing == 1 else f", and {missing - 1} more"
+    return f"the line ends too soon: here comes {wanted}{more}{spelling_of(words)}"
 
 
 def grammar_hint(line: str, column: int) -> str:
@@ -179,10 +190,12 @@ def grammar_hint(line: str, column: int) -> str:
         return begin_hint(word, line[len(word) :])
     could = "here could stand " + listed([slot_words(slot) for slot in slots]) if slots else ""
     if said is None and not slots:
-        return end_hint(words, word) if may_end(words) else "no command goes on so"
+        return (end_hint(words, word) if may_end(words) else "no command goes on so") + spelling_of(words)
     if said is None and word in INSTRUCTIONS and words == ["insert"]:
         return f"say where: `insert end {visible(line.split(' ', 1)[1])}`; {could}"
+    if said is None and words == ["insert"] and re.fullmatch(r"[0-9]+", word):
+        return f"a row is put behind another one by `insert after {word} INSTR`; {could}"
     if said is None and (near := meant(word, slots)):
-        return f"did you mean `{near}`? {could[0].upper()}{could[1:]}"
+        return f"did you mean `{near}`? {could[0].upper()}{could[1:]}{spelling_of(words)}"
     said = said or odd_word(word, slots)
-    return "; ".join(part for part in (said, could) if part)
+    return "; ".join(part for part in (said, could) if part) + spelling_of(words)

@@ -12,8 +12,10 @@ from pevudlo.live_session import Session, Stopped
 from pevudlo.page import lines_of
 from pevudlo.pipe import PipeError
 from pevudlo.program import NotFound, find
+from pevudlo.prompt_files import why
+from pevudlo.visible import visible
 
-USAGE = "usage: paris live [--workers N] [--port N] [FILE]"
+USAGE = "usage: paris live [--workers 1-16] [--port 0-65535] [FILE]"
 HELP = f"""{USAGE}
 
 Serves a page on which a program is edited: rows, input data, orders. It is for browsers on this machine alone, at the
@@ -33,12 +35,12 @@ def words_of(words: list[str]) -> tuple[Path | None, int, int] | None:
             return None
         else:
             files.append(word)
-    if len(files) > 1 or not all(number.isascii() and number.isdigit() for number in numbers.values()):
+    if len(files) > 1 or numbers["--workers"] not in map(str, range(1, 17)):
         return None
-    workers, port = int(numbers["--workers"]), int(numbers["--port"])
-    if not 1 <= workers <= 16 or port > 65535:
+    port = numbers["--port"]
+    if not (port.isascii() and port.isdigit()) or len(port) > 5 or int(port) > 65535:
         return None
-    return Path(files[0]) if files else None, workers, port
+    return Path(files[0]) if files else None, int(numbers["--workers"]), int(port)
 
 
 def interrupt(number: int, frame: FrameType | None) -> None:
@@ -47,15 +49,19 @@ def interrupt(number: int, frame: FrameType | None) -> None:
 
 
 def serve(session: Session, title: str, port: int) -> None:
-    """Serves until Ctrl-C."""
-    with Server(session, title, port) as server:
+    """Serves until Ctrl-C. Raises OSError where the port can't be had."""
+    try:
+        server = Server(session, title, port)
+    except OSError as error:
+        raise OSError(f"can't listen at port {port}: {why(error)}") from error
+    with server:
         print(f"Open {server.address} in a browser on this machine. Ctrl-C ends it.", flush=True)
         server.serve_forever(poll_interval=0.2)
 
 
 def main(words: list[str]) -> int:
     """Serves a page. The exit status is 0 after Ctrl-C, and 2 where the words are wrong or nothing can be served."""
-    if words == ["--help"]:
+    if words in (["--help"], ["-h"]):
         print(HELP)
         return 0
     meant = words_of(words)
@@ -67,6 +73,10 @@ def main(words: list[str]) -> int:
     session = None
     try:
         lines = lines_of(path) if path is not None else []
+    except (OSError, ValueError) as error:
+        print(f"paris live: can't read {visible(str(path))}: {why(error)}", file=sys.stderr)
+        return 2
+    try:
         session = Session(find(), workers)
         refused = session.load(lines)
         if refused:

@@ -40,6 +40,7 @@ _BODY = """
 <section class="block" id="inputs-part">
 <h2>Input data</h2>
 <p class="quiet">Click a cell to change it. A cell of one bit turns over at once.</p>
+<div id="cell-answer" aria-live="assertive"></div>
 <div id="inputs" class="grids"></div>
 <details class="idle"><summary>keys as they were declared</summary><div id="idle-inputs" class="grids"></div></details>
 </section>
@@ -64,6 +65,7 @@ _BODY = """
 </form>
 <div id="refused" aria-live="assertive"></div>
 <div id="log"></div>
+<p class="quiet"><a href="script" target="_blank" rel="noopener">The accepted commands as a script</a></p>
 </section>
 <template id="caret-here">
 <form class="caret">

@@ -58,6 +58,7 @@ class Session:
         self._program, self._workers = program, workers
         self._news = threading.Condition()
         self._closed = False
+        self._starts: dict[str, Look] = {}
         self._begin()
 
     @property
@@ -75,10 +76,8 @@ class Session:
         if not line or line.startswith("#") or "\n" in line:
             raise ValueError("one command is wanted")
         with self.lock:
-            step = self._step(line)
-            self.steps.append(step)
-            if not step.is_refused and step.word in CHANGING:
-                self.taken.append(line)
+            step = self._step(line, LISTED_A_STEP)
+            self._see_rows()
             self.changed()
             return step
 
@@ -91,14 +90,14 @@ class Session:
             return [first, self.run(f"bring {first.reply.order}")]
 
     def load(self, lines: Iterable[str]) -> list[Step]:
-        """Hands over a whole script. Gives the steps that were refused."""
-        refused = []
-        for number, line in enumerate(lines, 1):
-            if line and not line.startswith("#"):
-                step = self.run(line)
-                if step.is_refused:
-                    refused.append(step)
-        return refused
+        """Hands over a whole script. Gives the steps that were refused. Raises Stopped where the program ends."""
+        with self.lock:
+            wanted = [line for line in lines if line and not line.startswith("#")]
+            self._recorder.looker.listed_left = LISTED_A_STEP
+            steps = [self._step(line) for line in wanted]
+            self._see_rows()
+            self.changed()
+            return [step for step in steps if step.is_refused]
 
     def move(self, place: str) -> None:
         """Moves the caret. Raises ValueError where there is no such place."""
@@ -107,6 +106,14 @@ class Session:
                 raise ValueError("the program has no such place")
             self.caret = place
             self.changed()
+
+    def starts(self) -> list[Look]:
+        """Every key at the start: its input data, which changes by `input` alone. Raises Stopped."""
+        with self.lock:
+            for key in self.board.keys():
+                if key not in self._starts:
+                    self._starts[key] = self.look(key, "start")
+            return [self._starts[key] for key in self.board.keys()]
 
     def looks(self) -> list[Look]:
         """Every key at the caret. Raises Stopped where the program has ended."""
@@ -169,6 +176,7 @@ class Session:
     def _forget(self) -> None:
         """What was known of a program that has ended."""
         self.taken, self.rows, self.runs = [], (), {}
+        self._starts.clear()
         self.edit, self.trouble = None, ""
         self.steps.clear()
 
@@ -198,30 +206,43 @@ class Session:
             self.changed()
         return Stopped(str(error))
 
-    def _step(self, line: str) -> Step:
-        """One command, and the rows after it."""
+    def _step(self, line: str, listed: int | None = None) -> Step:
+        """One command. `listed` is how many lines of lists it may ask for, where it isn't what is left."""
         if self.trouble:
             raise Stopped(self.trouble)
         looker = self._recorder.looker
-        looker.numbers_left, looker.listed_left = NUMBERS_A_STEP, LISTED_A_STEP
+        looker.numbers_left = NUMBERS_A_STEP
+        looker.listed_left = looker.listed_left if listed is None else listed
         try:
             step = self._recorder.step(line)
-            if not step.is_refused and step.word in CHANGING:
-                self.rows = looker.rows() or ()
-                self._note(step)
+            self._note(step)
         except PipeError as error:
             raise self._stopped(error) from error
+        self.steps.append(step)
+        if not step.is_refused and step.word in CHANGING:
+            self.taken.append(line)
         return step
 
     def _note(self, step: Step) -> None:
-        """What the rows show after a step: runs of rows that are settled, and the last edit."""
+        """What a step says of rows: the runs of those that ran, and the last edit."""
+        if step.given is not None:
+            self._starts[step.given[1].key] = step.given[1]
         if step.touched is not None:
             self.edit = Edit(step.text, step.touched)
         if step.ran is not None:
             self.runs |= {run.row.row: run for run in step.ran.runs}
-            again = frozenset(row.row for row in self.rows if row.row in step.ran.kept and self._stores_all(row))
+            again = frozenset(row.row for row in step.ran.rows if row.row in step.ran.kept and self._stores_all(row))
             if again:
-                self.runs |= {run.row.row: run for run in self._recorder.looker.runs(self.rows, again)}
+                self.runs |= {run.row.row: run for run in self._recorder.looker.runs(step.ran.rows, again)}
+
+    def _see_rows(self) -> None:
+        """The rows as they are. What was seen of rows that are other now is forgotten."""
+        looker = self._recorder.looker
+        looker.listed_left = LISTED_A_STEP
+        try:
+            self.rows = looker.rows() or ()
+        except PipeError as error:
+            raise self._stopped(error) from error
         settled = {row.row: row.edition for row in self.rows if row.status is Status.SETTLED}
         self.runs = {row: run for row, run in self.runs.items() if settled.get(row) == run.row.edition}
         if self.caret not in self.places():

@@ -8,7 +8,7 @@ from pevudlo.keys import axes_of, width_of
 from pevudlo.grids import Grid, html_of
 from pevudlo.live_session import Session, Stopped
 from pevudlo.looks import Look, RowRun
-from pevudlo.page_edits import bar, fate_of, sentence
+from pevudlo.page_edits import MOST_SIGNS, bar, fate_of, sentence, signs
 from pevudlo.page_html import clean, command, look_grid, plural, refusal, row_id, sign
 from pevudlo.page_rows import row_body
 from pevudlo.record import Step
@@ -30,7 +30,8 @@ class View:
     fragments: dict[str, tuple[str, int]] = field(default_factory=dict)
     orders: dict[str, list[str]] = field(default_factory=dict)
     version: int = 0
-    _cards: dict[int, tuple[object, str]] = field(default_factory=dict)
+    _cards: dict[int, tuple[RowRun | None, tuple[Row, str], str]] = field(default_factory=dict)
+    _keys: dict[str, tuple[Look, str]] = field(default_factory=dict)
 
     def since(self, seen: int) -> dict[str, object]:
         """What a tab that has seen a version wants to know."""
@@ -67,24 +68,30 @@ class View:
         session = self.session
         if session.trouble:
             raise Stopped(session.trouble)
-        inputs = [session.look(key, "start") for key in session.board.keys()]
-        values = session.looks()
-        for name, looks in (("input", inputs), ("value", values)):
-            grids = {f"{name}-{look.key}": key_html(look, session, name == "input") for look in looks}
-            self.orders[f"{name}s"] = list(grids)
+        for kind, looks in (("input", session.starts()), ("value", session.looks())):
+            grids = {f"{kind}-{look.key}": self._key(f"{kind}-{look.key}", look, kind == "input") for look in looks}
+            self.orders[f"{kind}s"] = list(grids)
             parts |= grids
+
+    def _key(self, name: str, look: Look, is_input: bool) -> str:
+        """A key, made anew where its numbers are others."""
+        kept = self._keys.get(name)
+        if kept is not None and (kept[0].numbers, kept[0].pending) == (look.numbers, look.pending):
+            return kept[1]
+        html = key_html(look, self.session, is_input)
+        self._keys[name] = (look, html)
+        return html
 
     def _card(self, row: Row) -> str:
         """A row, made anew where something of it is another."""
         run = self.session.runs.get(row.row)
         edit = self.session.edit
         fate = fate_of(row, edit.touched) if edit is not None else ""
-        state = (row, id(run), fate)
         kept = self._cards.get(row.row)
-        if kept is not None and kept[0] == state:
-            return kept[1]
+        if kept is not None and kept[0] is run and kept[1] == (row, fate):
+            return kept[2]
         html = card(row, run, fate, self.session)
-        self._cards[row.row] = (state, html)
+        self._cards[row.row] = (run, (row, fate), html)
         return html
 
 
@@ -119,6 +126,9 @@ def key_html(look: Look, session: Session, is_input: bool) -> str:
     if is_input and look.numbers is not None:
         grid = html_of(Grid(look.key, axes_of(board, look.key), width_of(board, look.key), look.numbers))
         return f'<div class="input" data-input="{clean(look.key)}" {"data-zero" if is_idle(look) else ""}>{grid}</div>'
+    if look.numbers is None:
+        words = f"{sign('○')} <b>{clean(look.key)}</b> is pending, until row {look.pending} has run"
+        return f'<div class="value"><p class="pending">{words}</p></div>'
     return f'<div class="value" {"data-zero" if is_idle(look) else ""}>{look_grid(look, board)}</div>'
 
 
@@ -136,6 +146,8 @@ def head(session: Session) -> str:
     unsettled = sum(row.status is not Status.SETTLED for row in session.rows)
     if not count:
         words = "The program has no rows."
+        if not session.board.sets:
+            words += " It begins with commands at the foot: <code>set S 4</code>, <code>field a S 8</code>."
     elif unsettled:
         words = f"<b>{unsettled:,} of {plural(count, 'row')}</b> {'is' if unsettled == 1 else 'are'} unsettled."
     else:
@@ -148,14 +160,14 @@ def head(session: Session) -> str:
 
 
 def last_edit(session: Session) -> str:
-    """What the last edit of settled rows did."""
+    """What the last edit of settled rows did, with a sign for each row."""
     if session.edit is None:
         return ""
     shown = session.edit.text if len(session.edit.text) <= 120 else session.edit.text[:120] + " .."
     touched = session.edit.touched
-    return (
-        f'<p class="line">The last edit: {command(shown)}</p><p class="verdict">{sentence(touched)}</p>{bar(touched)}'
-    )
+    strip = signs(touched) if len(touched.rows) <= MOST_SIGNS else ""
+    said = f'<p class="line">The last edit: {command(shown)}</p><p class="verdict">{sentence(touched)}</p>'
+    return said + bar(touched) + strip
 
 
 def log(session: Session) -> str:

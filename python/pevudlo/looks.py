@@ -19,9 +19,10 @@ from pevudlo.replies import PendingReply, Reply, Row, RowFault, Rows, Faults, Va
 from pevudlo.shapes import processors_of
 
 MOST_NUMBERS = 400_000
-"""How many numbers a record looks at; a picture counts as few of them."""
+"""How many numbers a record looks at. A picture counts as few of them, and a small set as some."""
 
 PICTURE_COUNTS = 512
+LEAST_COUNT = 24
 MOST_LISTED = 3_000_000
 """How many lines of `list` a record asks for."""
 
@@ -157,7 +158,7 @@ class Looker:
     def _may_look(self, keys: tuple[str, ...]) -> bool:
         """Whether these keys may still be looked at; then they count."""
         counts = (processors_of(axes_of(self.board, key)) for key in keys)
-        wanted = sum(count if count <= MOST_CELLS else PICTURE_COUNTS for count in counts)
+        wanted = sum(max(LEAST_COUNT, count) if count <= MOST_CELLS else PICTURE_COUNTS for count in counts)
         if wanted > self.numbers_left:
             self.numbers_left = 0
             return False

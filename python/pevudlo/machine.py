@@ -52,6 +52,13 @@ def after(row: int) -> Place:
     return Place(f"after {row}")
 
 
+def spelled(at: Place) -> str:
+    """The place as commands spell it. Raises TypeError for what is none, such as the id of a row."""
+    if not isinstance(at, Place):
+        raise TypeError(f"a place is START, END or after(row), and not {at!r}")
+    return at.text
+
+
 class RowList(tuple[Row, ...]):
     """Rows in program order."""
 
@@ -63,11 +70,14 @@ class RowList(tuple[Row, ...]):
 class Machine:
     """One run of the program. Every call is a command of scripts, and raises Refusal where the command is refused.
 
-    The program is found by `find`, which raises NotFound. Calls raise Ended and OutOfTurn where the program is gone. At
-    the end of a `with`, or by `close`, the program ends.
+    The program is found by `find`, which raises NotFound. It settles rows in 1 to 16 workers; other counts are
+    ValueErrors. Calls raise Ended and OutOfTurn where the program is gone. At the end of a `with`, or by `close`, the
+    program ends.
     """
 
     def __init__(self, program: str | os.PathLike[str] | None = None, workers: int = 2) -> None:
+        if workers not in range(1, 17):
+            raise ValueError(f"workers are 1 to 16, and not {workers!r}")
         self.program = find(program)
         self._talk = Talk(Pipe(self.program, workers))
 
@@ -106,7 +116,7 @@ class Machine:
 
     def insert(self, text: str, at: Place = END) -> int:
         """Puts a row with this instruction in a place, and gives its id."""
-        return self._ask(f"insert {at.text} {text}", RowAdded).row
+        return self._ask(f"insert {spelled(at)} {text}", RowAdded).row
 
     def delete(self, row: int) -> None:
         """Takes the row of this id out."""
@@ -135,7 +145,9 @@ class Machine:
 
     def show(self, key: str, at: Place = END) -> Shown | Pending:
         """The numbers of a key at a place, in the shape of its set, or the row that has to be settled first."""
-        reply = self._tell(f"show {key} {at.text}").reply
+        if not isinstance(key, str):
+            raise TypeError(f"a key is a name, and not {type(key).__name__}: machine['a'][0] is a number of a")
+        reply = self._tell(f"show {key} {spelled(at)}").reply
         if isinstance(reply, PendingReply):
             return Pending(reply.row)
         numbers = self._of_kind(reply, Values).numbers

@@ -15,17 +15,20 @@ from pevudlo.page_blocks import Block, Kind, blocks_of
 from pevudlo.page_blocks_html import body_of, heading_of
 from pevudlo.page_end import end_section
 from pevudlo.page_frame import document
-from pevudlo.page_history import Moment, history_table, moment_of
+from pevudlo.page_history import MOST_COLUMNS, Moment, history_table, moment_of
 from pevudlo.page_html import plural, prose, sign
 from pevudlo.pipe import Pipe, PipeError
 from pevudlo.program import NotFound, find
+from pevudlo.prompt_files import why
 from pevudlo.record import Recorder, Step
+from pevudlo.visible import visible
 
-USAGE = "usage: paris page [--workers N] FILE [-o OUT.html]"
+USAGE = "usage: paris page [--workers 1-16] FILE [-o OUT.html]"
 HELP = f"""{USAGE}
 
 Makes a page of a script, one HTML file that needs no network: NAME.html in the folder where you are, for a script
-NAME.paris, or OUT.html. With `-o -` it goes to standard output. The exit status is the program's."""
+NAME.paris, or OUT.html. FILE may be `-`, for standard input. With `-o -`, and where FILE is `-`, the page goes to
+standard output. The exit status is the program's."""
 
 
 @dataclass
@@ -40,6 +43,7 @@ class Page:
     moments: list[Moment] = field(default_factory=list)
     comments: dict[int, tuple[tuple[str, ...], ...]] = field(default_factory=dict)
     commands: int = 0
+    edits: int = 0
     refused: list[int] = field(default_factory=list)
 
     def fill(self, lines: Iterable[str]) -> None:
@@ -86,8 +90,9 @@ class Page:
         if block.kind in (Kind.ROWS, Kind.RAN):
             self.comments.clear()
         moment = moment_of(block.steps[0], anchor)
-        if moment is not None:
+        if moment is not None and len(self.moments) <= MOST_COLUMNS:
             self.moments.append(moment)
+        self.edits += block.kind is Kind.EDIT
         kind = block.kind.name.lower()
         link = f'<a href="#{anchor}"><span aria-hidden="true">{mark}</span>{heading}</a>'
         self.links.append(f'<li class="{kind}">{link}</li>')
@@ -108,9 +113,8 @@ class Page:
             plural(len(board.sets), "set"),
             plural(len(board.fields), "field"),
         ]
-        edits = sum(not moment.is_run for moment in self.moments)
-        if edits:
-            parts.append(plural(edits, "edit") + " of settled rows")
+        if self.edits:
+            parts.append(plural(self.edits, "edit") + " of settled rows")
         parts.append(f'<b class="bad">{len(self.refused):,} refused</b>' if self.refused else "none refused")
         return " · ".join(parts)
 
@@ -127,8 +131,9 @@ def page_of(title: str, lines: Iterable[str], pipe: Pipe) -> Page:
 
 
 def lines_of(path: Path) -> list[str]:
-    """The lines of a script, cut at line feeds alone. A last one without a line feed is a line too."""
-    text = path.read_bytes().decode("utf-8", "surrogateescape")
+    """The lines of a script, cut at line feeds alone; `-` is standard input. A last one without one is a line too."""
+    data = sys.stdin.buffer.read() if str(path) == "-" else path.read_bytes()
+    text = data.decode("utf-8", "surrogateescape")
     lines = text.split("\n")
     return lines[:-1] if lines[-1] == "" else lines
 
@@ -151,14 +156,14 @@ def words_of(words: list[str]) -> tuple[Path, str, int] | None:
             return None
         else:
             files.append(word)
-    if len(files) != 1 or not (workers.isascii() and workers.isdigit() and 1 <= int(workers) <= 16):
+    if len(files) != 1 or workers not in map(str, range(1, 17)):
         return None
-    return Path(files[0]), out or Path(files[0]).stem + ".html", int(workers)
+    return Path(files[0]), out or ("-" if files[0] == "-" else Path(files[0]).stem + ".html"), int(workers)
 
 
 def main(words: list[str]) -> int:
     """Makes a page. The exit status is the program's, or 2 where the words are wrong or a file can't be had."""
-    if words == ["--help"]:
+    if words in (["--help"], ["-h"]):
         print(HELP)
         return 0
     meant = words_of(words)
@@ -168,15 +173,46 @@ def main(words: list[str]) -> int:
     path, out, workers = meant
     try:
         lines = lines_of(path)
+    except (OSError, ValueError) as error:
+        return ends_badly(f"can't read {visible(str(path))}: {why(error)}")
+    if is_same_file(path, out):
+        return ends_badly(f"the page would stand in the place of its script: -o says another than {visible(out)}")
+    try:
         with Pipe(find(), workers) as pipe:
-            html = page_of(path.name, lines, pipe).html()
+            html = page_of("standard input" if str(path) == "-" else path.name, lines, pipe).html()
             status = pipe.close()
+    except (OSError, NotFound) as error:
+        return ends_badly(str(error))
+    except PipeError as error:
+        return ends_badly(str(error), error.status if error.status > 0 else 128 - error.status)
+    return write(html, out, status)
+
+
+def write(html: str, out: str, status: int) -> int:
+    """Writes the page, and gives the exit status: the program's, or 2 where the file can't be had."""
+    try:
         if out == "-":
             sys.stdout.write(html)
+            sys.stdout.flush()
         else:
             Path(out).write_text(html, encoding="utf-8")
-            print(out)
-    except (OSError, NotFound, PipeError) as error:
-        print(f"paris page: {error}", file=sys.stderr)
-        return getattr(error, "status", 2) or 2
+            print(visible(out))
+    except BrokenPipeError:
+        raise
+    except (OSError, ValueError) as error:
+        return ends_badly(f"can't write {visible(out)}: {why(error)}")
+    return status
+
+
+def is_same_file(script: Path, out: str) -> bool:
+    """Whether the page would be written over the script."""
+    try:
+        return out != "-" and str(script) != "-" and script.is_file() and script.samefile(out)
+    except (OSError, ValueError):
+        return False
+
+
+def ends_badly(said: str, status: int = 2) -> int:
+    """Says why there is no page, and gives the exit status."""
+    print(f"paris page: {said}", file=sys.stderr)
     return status

@@ -29,15 +29,33 @@ def heading_of(block: Block) -> tuple[str, str]:
     step = block.steps[0]
     if block.kind is Kind.RAN:
         return "✓", _heading_of_run(step)
+    if block.kind is Kind.LOOKS:
+        return "◎", _heading_of_looks(block)
+    if block.kind is Kind.ORDERS:
+        return "›", _heading_of_orders(block)
     return {
         Kind.DECLARED: ("▦", "Sets and fields"),
         Kind.GIVEN: ("▸", "Input data"),
         Kind.ROWS: ("+", "Rows"),
         Kind.EDIT: ("✎", "Edit"),
-        Kind.LOOKS: ("◎", "Look" if len(block.steps) == 1 else "Looks"),
-        Kind.ORDERS: ("›", "Asked"),
         Kind.REFUSED: ("✕", "Refused"),
     }[block.kind]
+
+
+def _heading_of_looks(block: Block) -> str:
+    """Which keys are looked at, as far as there is room."""
+    keys = list(dict.fromkeys(step.text.split(" ")[1] for step in block.steps))
+    return "Look at " + ", ".join(keys[:3]) + (" .." if len(keys) > 3 else "")
+
+
+def _heading_of_orders(block: Block) -> str:
+    """What is asked for."""
+    words = {step.word for step in block.steps}
+    if words == {"list"}:
+        return "Rows, listed"
+    if words == {"faults"}:
+        return "Rows that are refused"
+    return "Asked" if words & {"list", "faults"} else "Order" if len(block.steps) == 1 else "Orders"
 
 
 def _heading_of_run(step: Step) -> str:
@@ -57,7 +75,8 @@ def body_of(block: Block, board: Board, comments: Comments) -> str:
     """The block as HTML, without its heading."""
     step = block.steps[0]
     if block.kind is Kind.EDIT:
-        return prose(step.comments) + _line(step) + _given(block, board) + edit_body(step)
+        pair = f'<div class="pair">{_given(block, board)}<div class="what">{edit_body(step)}</div></div>'
+        return prose(step.comments) + _line(step) + pair
     if block.kind is Kind.RAN:
         section = ran_section(step, step.ran, comments, board) if step.ran else ""
         return prose(step.comments) + _line(step) + section

@@ -9,8 +9,10 @@ from pevudlo.replies import Row
 MOST_LINES = 130
 """More rows are small signs, and no lines with their instructions."""
 
-MOST_SIGNS = 1500
+MOST_SIGNS = 600
 """More rows are said in ranges."""
+
+MOST_RANGES = 60
 
 _SIGNS = {"unsettled": "○", "kept": "●", "waiting": "◌"}
 _WORDS = {"unsettled": "unsettled", "kept": "kept", "waiting": "unsettled before"}
@@ -30,7 +32,8 @@ def sentence(touched: Touched) -> str:
     if not unsettled:
         first = "<b>No row</b> is unsettled by it."
     elif unsettled == count:
-        first = "It unsettles <b>the one row</b>." if count == 1 else f"It unsettles <b>all {count:,} rows</b>."
+        all_of_them = {1: "the one row", 2: "both rows"}.get(count, f"all {count:,} rows")
+        first = f"It unsettles <b>{all_of_them}</b>."
     else:
         first = f"It unsettles <b>{unsettled:,} of {plural(count, 'row')}</b>."
     second = (
@@ -89,12 +92,12 @@ def ranges(touched: Touched) -> str:
             runs.append((fate, []))
         runs[-1][1].append(row)
     items = []
-    for fate, rows in runs[:200]:
+    for fate, rows in runs[:MOST_RANGES]:
         ends = (
             f"row {rows[0].row}" if len(rows) == 1 else f"rows {rows[0].row} to {rows[-1].row}, {len(rows):,} of them"
         )
         items.append(f'<li class="{fate}">{sign(_SIGNS[fate])} {ends}: {_WORDS[fate]}</li>')
-    more = f"<li>{plural(len(runs) - 200, 'range')} more</li>" if len(runs) > 200 else ""
+    more = f"<li>{plural(len(runs) - MOST_RANGES, 'range')} more</li>" if len(runs) > MOST_RANGES else ""
     return f'<ol class="fates">{"".join(items)}{more}</ol>'
 
 

@@ -31,7 +31,8 @@ def _policy(scripts: Sequence[str]) -> str:
     """What the page may do, as a browser is told."""
     sums = (base64.b64encode(hashlib.sha256(script.encode()).digest()).decode("ascii") for script in scripts)
     allowed = " ".join(f"'sha256-{each}'" for each in sums)
-    policy = f"default-src 'none'; img-src data:; style-src 'unsafe-inline'; connect-src 'self'; script-src {allowed}"
+    policy = "default-src 'none'; img-src data:; style-src 'unsafe-inline'; connect-src 'self'; base-uri 'none'; "
+    policy += f"form-action 'none'; script-src {allowed}"
     return f'<meta http-equiv="Content-Security-Policy" content="{policy}">'
 
 

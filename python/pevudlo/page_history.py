@@ -7,11 +7,13 @@ from dataclasses import dataclass
 
 from pevudlo.page_edits import fate_of
 from pevudlo.page_html import clean, command, row_id
-from pevudlo.record import Step
+from pevudlo.record import Ran, Step
 from pevudlo.replies import Row
 
 MOST_COLUMNS = 40
 MOST_ROWS = 130
+MOST_DOWN = 20
+"""More rows stand side by side."""
 
 _CELLS = {
     "unsettled": ("○", "unsettled"),
@@ -20,6 +22,9 @@ _CELLS = {
     "ran": ("✓", "ran"),
     "out": ("", "not there"),
 }
+
+
+_NO_ROWS = Ran((), (), frozenset(), False)
 
 
 @dataclass(frozen=True)
@@ -35,7 +40,9 @@ class Moment:
 
 
 def moment_of(step: Step, anchor: str) -> Moment | None:
-    """The moment that a step is, where it is one."""
+    """The moment that a step is, where it is one and the program isn't too long."""
+    if len((step.touched or step.ran or _NO_ROWS).rows) > MOST_ROWS:
+        return None
     if step.touched is not None:
         fates = {row.row: fate_of(row, step.touched) for row in step.touched.rows}
         return Moment(anchor, step.number, step.text, False, step.touched.rows, fates)
@@ -51,27 +58,49 @@ def moment_of(step: Step, anchor: str) -> Moment | None:
 
 def history_table(moments: Sequence[Moment]) -> str:
     """The table, where there is an edit to tell of and the table isn't too large."""
-    if not any(not moment.is_run for moment in moments):
+    if len(moments) > MOST_COLUMNS or not any(not moment.is_run for moment in moments):
         return ""
     rows = _all_rows(moments)
-    if not rows or len(moments) > MOST_COLUMNS or len(rows) > MOST_ROWS:
+    if not rows or len(rows) > MOST_ROWS:
         return ""
-    heads = "".join(map(_head, moments))
+    table = _down(rows, moments) if len(rows) <= MOST_DOWN else _across(rows, moments)
+    return f'<div class="wide">{table}</div>'
+
+
+def _down(rows: Sequence[Row], moments: Sequence[Moment]) -> str:
+    """Rows down and moments across."""
     lines = []
     for row in rows:
         cells = "".join(_cell(moment, row) for moment in moments)
         lines.append(f'<tr><th scope="row">{row_id(row.row)}{command(row.text)}</th>{cells}</tr>')
+    heads = "".join(_head(moment, "col") for moment in moments)
+    return _table("", heads, lines)
+
+
+def _across(rows: Sequence[Row], moments: Sequence[Moment]) -> str:
+    """Moments down and rows across, for a program of many rows."""
+    lines = []
+    for moment in moments:
+        cells = "".join(_cell(moment, row) for row in rows)
+        lines.append(f"<tr>{_head(moment, 'row')}{cells}</tr>")
+    heads = "".join(f'<th scope="col" title="{clean(row.text)}">{row.row}</th>' for row in rows)
+    return _table(" across", heads, lines)
+
+
+def _table(kind: str, heads: str, lines: Sequence[str]) -> str:
+    """A table of signs."""
+    caption = "What each edit and each run did to each row"
     return (
-        '<div class="wide"><table class="history"><caption>What each edit and each run did to each row</caption>'
-        f'<thead><tr><td></td>{heads}</tr></thead><tbody>{"".join(lines)}</tbody></table></div>'
+        f'<table class="history{kind}"><caption>{caption}</caption><thead><tr><td></td>{heads}</tr></thead>'
+        f'<tbody>{"".join(lines)}</tbody></table>'
     )
 
 
-def _head(moment: Moment) -> str:
-    """The head of a column, which leads to where the moment is told."""
+def _head(moment: Moment, scope: str) -> str:
+    """The head of a moment's column or line, which leads to where it is told."""
     kind, word = ("run", "ran") if moment.is_run else ("edit", "edit")
     link = f'<a href="#{moment.anchor}" title="{clean(moment.text[:200])}">'
-    return f'<th scope="col" class="{kind}">{link}{word}<small>line {moment.step_number}</small></a></th>'
+    return f'<th scope="{scope}" class="{kind}">{link}{word}<small>line {moment.step_number}</small></a></th>'
 
 
 def _cell(moment: Moment, row: Row) -> str:

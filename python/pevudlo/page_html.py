@@ -20,6 +20,11 @@ def clean(text: str) -> str:
     return escape(text.encode("utf-8", "surrogateescape").decode("utf-8", "replace"), quote=True)
 
 
+def quoted(text: str) -> str:
+    """Text whose words between backticks are words of a script."""
+    return re.sub("`([^`]+)`", r"<code>\1</code>", clean(text))
+
+
 def command(text: str) -> str:
     """A command or an instruction: its first word stands out."""
     word, space, rest = text.partition(" ")
@@ -48,7 +53,7 @@ def prose(paragraphs: Iterable[Iterable[str]]) -> str:
         lines = []
         for line in paragraph:
             drawn = len(line) > 1 and all(len(word) == 1 for word in line.split(" "))
-            lines.append(f'<span class="drawn">{clean(line)}</span>' if drawn else f"<span>{clean(line)}</span>")
+            lines.append(f'<span class="drawn">{clean(line)}</span>' if drawn else f"<span>{quoted(line)}</span>")
         parts.append(f"<p>{' '.join(lines)}</p>")
     return f'<div class="prose">{"".join(parts)}</div>' if parts else ""
 
@@ -84,8 +89,7 @@ def refusal(explanation: Explanation, reply: str, number: int = 0) -> str:
     if column is not None:
         cut, caret = caret_lines(line, column)
         shown = f'{clean(cut)}\n<span class="caret" aria-hidden="true">{clean(caret)}</span>'
-    quoted = re.sub("`([^`]*)`", r"<code>\1</code>", clean(explanation.hint))
-    hint = f'<p class="hint">{quoted}</p>' if quoted else ""
+    hint = f'<p class="hint">{quoted(explanation.hint)}</p>' if explanation.hint else ""
     place = f"<b>Line {number}</b> is refused" if number else "<b>Refused</b>"
     return (
         f'<div class="refused"><p>{sign("✕")} {place}: {clean(explanation.text)} <code>{clean(reply)}</code></p>'

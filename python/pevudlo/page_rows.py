@@ -3,6 +3,7 @@
 from __future__ import annotations
 
 from collections.abc import Mapping
+from itertools import groupby
 
 from pevudlo.board import Board
 from pevudlo.grids import Grid, differing, html_of
@@ -12,13 +13,16 @@ from pevudlo.page_html import cause, clean, command, pending, plural, prose, row
 from pevudlo.record import Ran, Step
 from pevudlo.replies import Row
 
+MOST_KEPT_NAMED = 80
+"""Of more neighbours that keep their results the first and the last one are named."""
+
 Comments = Mapping[int, tuple[tuple[str, ...], ...]]
 """The comments that stand above the line of a row, by its id."""
 
 
 def unselected_of(context: Look | None, key: str) -> frozenset[int]:
     """The processors of context 0. In a grid of the context itself they are plain to see."""
-    if context is None or context.numbers is None or key.endswith(".context"):
+    if context is None or context.numbers is None or key.endswith(".context") or 0 not in context.numbers:
         return frozenset()
     return frozenset(place for place, bit in enumerate(context.numbers) if bit == 0)
 
@@ -78,27 +82,40 @@ def kept_card(rows: list[Row]) -> str:
     """Rows that lie beside each other and kept their results."""
     if len(rows) == 1:
         named = f"{row_id(rows[0].row)}{command(rows[0].text)}"
+    elif len(rows) > MOST_KEPT_NAMED:
+        named = f"{plural(len(rows), 'row')}, from {row_id(rows[0].row)} to {row_id(rows[-1].row)}"
     else:
         items = "".join(f"<li>{row_id(row.row)}{command(row.text)}</li>" for row in rows)
         named = f"<details><summary>{plural(len(rows), 'row')}</summary><ol>{items}</ol></details>"
     word = "keeps its result" if len(rows) == 1 else "keep their results"
-    return f'<div class="row kept">{named}<span class="state">{sign("●")} ' f"{word}</span></div>"
+    return f'<div class="row kept">{named}<span class="state">{sign("●")} {word}</span></div>'
+
+
+def undrawn_card(runs: list[RowRun]) -> str:
+    """Rows that lie beside each other and ran, and whose numbers the page has no room for."""
+    named = f"{plural(len(runs), 'row')}, from {row_id(runs[0].row.row)} to {row_id(runs[-1].row.row)}"
+    state = f'<span class="state">{sign("✓")} ran</span>'
+    return f'<div class="row kept">{named}, not drawn: the numbers of this page are too many{state}</div>'
 
 
 def ran_section(step: Step, ran: Ran, comments: Comments, board: Board) -> str:
     """All rows after a line that ran some: those that ran with their keys, the others in a line."""
     runs = {run.row.row: run for run in ran.runs}
     parts = []
-    kept: list[Row] = []
-    others = step.word == "settle"
-    for row in ran.rows:
-        if row.row in runs:
-            if kept:
-                parts.append(kept_card(kept))
-                kept = []
-            parts.append(row_card(runs[row.row], comments, board))
-        elif row.row in ran.kept and others:
-            kept.append(row)
-    if kept:
-        parts.append(kept_card(kept))
+    for kind, group in groupby(ran.rows, lambda row: _kind_of(row, runs, ran)):
+        rows = list(group)
+        if kind == "drawn":
+            parts += [row_card(runs[row.row], comments, board) for row in rows]
+        elif kind == "undrawn":
+            parts.append(undrawn_card([runs[row.row] for row in rows]))
+        elif kind == "kept" and step.word == "settle":
+            parts.append(kept_card(rows))
     return "".join(parts)
+
+
+def _kind_of(row: Row, runs: Mapping[int, RowRun], ran: Ran) -> str:
+    """How a row is shown after a line that ran some."""
+    run = runs.get(row.row)
+    if run is None:
+        return "kept" if row.row in ran.kept else "other"
+    return "undrawn" if run.changes is None and run.fault is None else "drawn"

@@ -10,6 +10,7 @@ import struct
 import zlib
 from collections.abc import Sequence
 from dataclasses import dataclass
+from functools import cache
 
 from pevudlo.shapes import Sheet, near_square, sheets_of
 
@@ -47,7 +48,7 @@ def _levels_of(values: Sequence[int]) -> bytearray:
     """A brightness for each value. Where all are the same, zeros are dark and others bright."""
     least, greatest = min(values), max(values)
     if least == greatest:
-        return bytearray([STEPS - 1 if least else 0]) * len(values)
+        return bytearray([STEPS * 5 // 8 if least else 0]) * len(values)
     scale = greatest - least
     if isinstance(values, bytes):
         table = bytes(max(0, min(STEPS - 1, (value - least) * (STEPS - 1) // scale)) for value in range(256))
@@ -104,6 +105,7 @@ def _chunk(kind: bytes, data: bytes) -> bytes:
     return struct.pack(">I", len(data)) + kind + data + struct.pack(">I", zlib.crc32(kind + data))
 
 
+@cache
 def _palette() -> bytes:
     """256 colours: the glow, the same in grey, and black for the rest."""
     colours = [_between(stops, step) for stops in (_GLOW, _GREY) for step in range(STEPS)]

@@ -9,19 +9,13 @@ from pathlib import Path
 from pevudlo.explain import ending
 from pevudlo.program import NotFound, find
 from pevudlo.prompt_files import path_of, read_lines, why, write_lines
-from pevudlo.prompt_help import OWN, OWN_WORDS, help_for
+from pevudlo.prompt_help import OWN, OWN_WORDS, help_for, own_word_for
 from pevudlo.prompt_lines import Reader, Terminal, Piped, is_terminal
 from pevudlo.prompt_session import Session, Stopped
 from pevudlo.prompt_show import WAYS, View, answer_lines, is_told
 from pevudlo.visible import visible
 
-USAGE = "usage: paris prompt [FILE]"
-WELCOME = "`help` says what there is, and the key Tab completes words. `quit` or Ctrl-D ends."
-
-
-def spelling_of(name: str) -> str:
-    """How a word of the prompt is written, said where it was written otherwise."""
-    return f"it is written `{OWN[name].spelling}`"
+USAGE = "usage: paris prompt [--workers 1-16] [FILE]"
 
 
 class Prompt:
@@ -32,7 +26,7 @@ class Prompt:
         self.view = View()
         self._show = show
         self._may_warn = may_warn
-        self._warned = False
+        self._asked = ""
 
     def say(self, *lines: str) -> None:
         """Shows lines of text."""
@@ -43,8 +37,9 @@ class Prompt:
         """Answers one line. Whether the prompt goes on."""
         word, _, rest = line.partition(" ")
         if line in ("quit", "exit"):
-            return not self.may_quit()
-        self._warned = False
+            return not self.may_drop("ends the prompt")
+        if line != "new":
+            self._asked = ""
         try:
             if word in WAYS:
                 self.show_by(word, rest)
@@ -56,12 +51,12 @@ class Prompt:
             self.say(f"no program runs: {stopped}", self.kept_words())
         return True
 
-    def may_quit(self) -> bool:
-        """Whether the prompt may end: at once where all is saved, else when it is asked a second time."""
-        if self.session.is_saved or self._warned or not self._may_warn:
+    def may_drop(self, what: str) -> bool:
+        """Whether the accepted commands may be dropped: at once where all are saved, else when it is asked twice."""
+        if self.session.is_saved or self._asked == what or not self._may_warn:
             return True
-        self._warned = True
-        self.say(f"{self.count_words()} not saved: `save FILE` saves them, and `quit` once more ends the prompt")
+        self._asked = what
+        self.say(f"{self.count_words()} not saved: `save FILE` saves them, and the same once more {what}")
         return False
 
     def count_words(self) -> str:
@@ -83,16 +78,22 @@ class Prompt:
             self.session.start()
             self.say(f"the program is started again, and {self.count_words()} told")
         elif word == "new" and not rest:
-            self.session.begin()
-            self.say("nothing is declared")
+            if self.may_drop("begins anew"):
+                self._asked = ""
+                self.session.begin()
+                self.say("nothing is declared")
         else:
-            self.say(spelling_of(word))
+            self.say(f"it is written `{OWN[word].spelling}`")
 
     def tell(self, line: str) -> None:
         """Tells the program a line, and shows its reply."""
         answer = self.session.tell(line)
-        if answer is not None:
-            self.say(*answer_lines(answer, self.session.board, self.view))
+        if answer is None:
+            return
+        self.say(*answer_lines(answer, self.session.board, self.view))
+        near = own_word_for(line.split(" ")[0])
+        if answer.explanation is not None and answer.explanation.column == 1 and near is not None:
+            self.say(f"  did you mean the prompt's own word `{near}`? It is written `{OWN[near].spelling}`")
 
     def show_by(self, way: str, rest: str) -> None:
         """Shows values in a way from now on, or one key once."""
@@ -142,19 +143,21 @@ class Prompt:
 
 def talk(prompt: Prompt, reader: Reader) -> None:
     """Reads lines and answers them until their end, or until `quit`."""
-    while True:
+    goes_on = True
+    while goes_on:
         try:
             line = reader.read()
         except KeyboardInterrupt:
             # The line is dropped, and a new one begins.
             prompt.say("")
             continue
-        if line is None:
-            if prompt.may_quit():
-                return
-            continue
-        if not prompt.handle(line):
-            return
+        try:
+            goes_on = prompt.handle("quit" if line is None else line)
+        except KeyboardInterrupt:
+            prompt.session.interrupt()
+            prompt.say("", "no program runs: it was interrupted", prompt.kept_words())
+        if not prompt.session.is_running:
+            reader.drop()
 
 
 def run(session: Session, file: str | None) -> None:
@@ -163,8 +166,7 @@ def run(session: Session, file: str | None) -> None:
     prompt = Prompt(session, lambda line: print(line, flush=True), is_terminal())
     try:
         session.begin()
-        if is_terminal():
-            prompt.say(WELCOME)
+        prompt.say(*reader.welcome())
         if file is not None:
             try:
                 prompt.load(path_of(file))
@@ -173,33 +175,51 @@ def run(session: Session, file: str | None) -> None:
         talk(prompt, reader)
     finally:
         session.close()
-        reader.close()
+
+
+def meant_by(words: list[str]) -> tuple[str | None, int] | None:
+    """The file, if one is named, and how many workers. None where the words are wrong."""
+    names, workers, rest = list[str](), "2", iter(words)
+    for word in rest:
+        if word == "--workers":
+            workers = next(rest, "")
+        elif word.startswith("--workers="):
+            workers = word.partition("=")[2]
+        else:
+            names.append(word)
+    if len(names) > 1 or names and names[0].startswith("-") or workers not in map(str, range(1, 17)):
+        return None
+    return (names[0] if names else None), int(workers)
 
 
 def main(words: list[str]) -> int:
-    """Runs the command. The exit status is 2 where the words are wrong, the file can't be read, or there is no "
-    "program."""
-    if words == ["--help"]:
+    """Runs the command. The exit status is 2 where the words are wrong, the file can't be read, or no program is "
+    "there."""
+    if words in (["--help"], ["-h"]):
         print(USAGE)
         for word in OWN_WORDS:
             print(f"  {word.spelling}: {word.does}")
         return 0
-    if len(words) > 1 or words and words[0].startswith("-"):
+    meant = meant_by(words)
+    if meant is None:
         print(USAGE, file=sys.stderr)
         return 2
+    file, workers = meant
     try:
-        if words:
-            read_lines(path_of(words[0]))
-        session = Session(find())
+        if file is not None:
+            read_lines(path_of(file))
     except (OSError, ValueError) as error:
-        print(f"paris prompt: can't read {visible(words[0])}: {why(error)}", file=sys.stderr)
-        return 2
-    except NotFound as error:
-        print(f"paris prompt: {error}", file=sys.stderr)
-        return 2
+        return ends_badly(f"can't read {visible(file or '')}: {why(error)}")
     try:
-        run(session, words[0] if words else None)
+        run(Session(find(), workers), file)
+    except NotFound as error:
+        return ends_badly(str(error))
     except Stopped as stopped:
-        print(f"paris prompt: no program runs: {stopped}", file=sys.stderr)
-        return 2
+        return ends_badly(f"no program runs: {stopped}")
     return 0
+
+
+def ends_badly(said: str) -> int:
+    """Says why there is no prompt, and gives the exit status."""
+    print(f"paris prompt: {said}", file=sys.stderr)
+    return 2

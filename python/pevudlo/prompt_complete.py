@@ -6,7 +6,7 @@ import glob
 import os
 from collections.abc import Iterator
 
-from pevudlo.board import Board
+from pevudlo.board import Board, Declared
 from pevudlo.grammar import OPERANDS, Kind, Slot, may_end, next_slots
 from pevudlo.instructions import INSTRUCTIONS, NONE, Operand
 from pevudlo.prompt_help import OWN, known_names
@@ -16,9 +16,15 @@ BITS = [OPERANDS[operand] for operand in (Operand.BIT, Operand.SEGMENTS, Operand
 FILE_WORDS = ("load", "save")
 
 
+def operands_of(words: list[str], board: Board) -> list[Declared]:
+    """The fields that stand behind the instruction in these words."""
+    at = next((at + 1 for at in (2, 3) if len(words) > at and words[at] in INSTRUCTIONS), len(words))
+    return [board.fields[word] for word in words[at:] if word in board.fields]
+
+
 def declared_fields(words: list[str], slot: Slot, board: Board) -> Iterator[str]:
     """The fields that may stand in a slot: of the set of the fields before it, and of one bit where that is wanted."""
-    sets = [board.fields[word].set for word in words if word in board.fields]
+    sets = [field.set for field in operands_of(words, board)]
     for name, field in board.fields.items():
         if (not sets or field.set == sets[0]) and (slot not in BITS or field.width == 1):
             yield name
@@ -26,7 +32,7 @@ def declared_fields(words: list[str], slot: Slot, board: Board) -> Iterator[str]
 
 def numbers(words: list[str], slot: Slot, board: Board) -> list[str]:
     """The numbers that are worth an offer: ids of rows, orders, axes, and lengths as the operands have them."""
-    fields = [board.fields[word] for word in words if word in board.fields]
+    fields = operands_of(words, board)
     if slot.role == "a row's id":
         return [str(row) for row in board.rows]
     if slot.role == "an order's number":

@@ -3,8 +3,8 @@
 from __future__ import annotations
 
 import os
+import shutil
 import tempfile
-from collections.abc import Iterator
 from pathlib import Path
 
 MOST_HISTORY = 1000
@@ -41,7 +41,7 @@ def write_lines(path: Path, lines: list[str]) -> None:
             file.write(text)
         os.chmod(name, target.stat().st_mode & 0o777 if target.is_file() else 0o666 & ~umask())
         if target.is_file():
-            os.replace(target, target.with_name(f"{target.name}~"))
+            shutil.copy2(target, target.with_name(f"{target.name}~"))
         os.replace(name, target)
     except BaseException:
         Path(name).unlink(missing_ok=True)
@@ -64,9 +64,3 @@ def history_path() -> Path:
     """Where the history is kept from one prompt to the next."""
     state = os.environ.get("XDG_STATE_HOME") or os.path.expanduser("~/.local/state")
     return Path(state) / "pevudlo" / "history"
-
-
-def split_lines(text: str) -> Iterator[str]:
-    """The lines of a text that was typed or pasted at once, without spaces at their ends."""
-    for line in text.split("\n"):
-        yield line.rstrip(" ")

@@ -5,6 +5,7 @@ from __future__ import annotations
 from collections.abc import Iterable
 from dataclasses import dataclass
 
+from pevudlo.grammar import COMMANDS
 from pevudlo.hints_grammar import nearest
 from pevudlo.reference import ENTRIES, FAMILIES, find
 from pevudlo.reference_text import help_lines, wrapped
@@ -99,4 +100,11 @@ def help_for(word: str) -> list[str]:
     if parts:
         return [f"these have `{visible(word)}` in their names:", *named(parts)]
     near = nearest(word, known_names())
-    return [f"there is no help for `{visible(word)}`" + (f": did you mean `{near}`?" if near else "")]
+    more = f"did you mean `{near}`?" if near else "`help` alone lists what there is"
+    return [f"there is no help for `{visible(word)}`: {more}"]
+
+
+def own_word_for(word: str) -> str | None:
+    """The word of the prompt's own that was perhaps meant by one that begins no command, or None."""
+    near = nearest(word, [*COMMANDS, *OWN])
+    return near if near in OWN else None

@@ -28,8 +28,9 @@ class Session:
     After the program has ended, each call raises Stopped until `start` has been called. `accepted` stays.
     """
 
-    def __init__(self, program: Path) -> None:
+    def __init__(self, program: Path, workers: int = 2) -> None:
         self.program = program
+        self.workers = workers
         self.accepted: list[str] = []
         self.saved: list[str] = []
         self._board = Board()
@@ -63,7 +64,7 @@ class Session:
         """
         self.close()
         try:
-            self._talk = Talk(Pipe(self.program))
+            self._talk = Talk(Pipe(self.program, self.workers))
         except OSError as error:
             self._stop(f"it can't be started: {error.strerror}")
             raise Stopped(self._end) from error
@@ -72,9 +73,18 @@ class Session:
             self._told(line)
 
     def begin(self) -> None:
-        """Starts an empty program, to which nothing was told."""
-        self.accepted, self.saved = [], []
-        self.start()
+        """Starts a program to which nothing was told, and forgets the rest. Raises Stopped where none starts."""
+        accepted, self.accepted = self.accepted, []
+        try:
+            self.start()
+        except Stopped:
+            self.accepted = accepted
+            raise
+        self.saved = []
+
+    def interrupt(self) -> None:
+        """Ends the program: what it was told last may not be in `accepted`."""
+        self._stop("it was interrupted")
 
     def tell(self, line: str) -> Answer | None:
         """Tells one line, and keeps it where it was accepted. None for a comment and for an empty line.

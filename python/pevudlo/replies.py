@@ -176,10 +176,14 @@ def parse_fault(line: str) -> RowFault:
 
 def parse_values(line: str) -> Values:
     """The numbers of a line `values V V ..`."""
-    words = line.split(" ")[1:]
-    if not words or not all(word.isascii() and word.isdigit() for word in words):
+    word, _, numbers = line.partition(" ")
+    # No number begins or ends with a space, and int takes no empty word.
+    if word != "values" or not numbers.isascii() or not numbers.replace(" ", "").isdigit():
         raise NoReply(f"no numbers: {line[:80]!r}")
-    return Values(tuple(map(int, words)))
+    try:
+        return Values(tuple(map(int, numbers.split(" "))))
+    except ValueError as error:
+        raise NoReply(f"no numbers: {line[:80]!r}") from error
 
 
 def parse(lines: Sequence[str]) -> Reply:

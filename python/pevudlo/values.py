@@ -25,9 +25,13 @@ LINE_BYTES = 65_000
 
 @dataclass(frozen=True)
 class Pending:
-    """A value that isn't there: this row writes the key last, and is unsettled. It is no number."""
+    """A value that isn't there: this row writes the key last, and is unsettled. It is no number, true or false."""
 
     row: int
+
+    def __bool__(self) -> bool:
+        """Raises TypeError, as of an array: a test of a value that isn't there would pass unnoticed."""
+        raise TypeError(f"the value is pending: row {self.row} writes it last, and is unsettled")
 
 
 class ValueList(list[Any]):
@@ -36,6 +40,10 @@ class ValueList(list[Any]):
     def __init__(self, values: Iterable[Any], grid: Grid) -> None:
         super().__init__(values)
         self.grid = grid
+
+    def tolist(self) -> list[Any]:
+        """The same lists, as an array gives them."""
+        return list(self)
 
     def _repr_html_(self) -> str:
         """A grid in the set's shape."""

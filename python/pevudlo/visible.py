@@ -2,8 +2,6 @@
 
 from __future__ import annotations
 
-import unicodedata
-
 
 def visible(text: str) -> str:
     """The text with all that isn't printable as an escape, such as `\\t` or `\\xff`."""
@@ -21,18 +19,15 @@ def visible_letter(letter: str) -> str:
     return letter.encode("unicode_escape").decode("ascii")
 
 
-def cells(text: str) -> int:
-    """How many cells of a terminal a visible text takes."""
-    wide = sum(unicodedata.east_asian_width(letter) in "WF" for letter in text)
-    return len(text) + wide - sum(unicodedata.combining(letter) != 0 for letter in text)
-
-
 def caret_lines(line: str, column: int, most: int = 100) -> tuple[str, str]:
-    """The line, cut round the column where it is long, and a caret below it. The column counts bytes from 1."""
+    """The line, cut round the column where it is long, and a caret below it. The column counts bytes from 1.
+
+    What stands before the column of a refusal are right words, each letter of which takes one cell of a terminal.
+    """
     before = line.encode("utf-8", "surrogateescape")[: column - 1].decode("utf-8", "surrogateescape")
     at = min(len(before), len(line))
     start = max(0, at - most * 2 // 3) if len(line) > most else 0
     end = min(len(line), start + most)
     left = ("..." if start else "") + visible(line[start:at])
     right = visible(line[at:end]) + ("..." if end < len(line) else "")
-    return left + right, " " * cells(left) + "^"
+    return left + right, " " * len(left) + "^"

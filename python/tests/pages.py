@@ -11,6 +11,7 @@ from pathlib import Path
 
 REPOSITORY = Path(__file__).resolve().parents[2]
 GALLERY = sorted(path.stem for path in (REPOSITORY / "examples").glob("*.paris"))
+ROWS = sorted(str(path.relative_to(REPOSITORY).with_suffix("")) for path in (REPOSITORY / "rows").glob("*/*.paris"))
 VOID = {"meta", "link", "img", "input", "br"}
 
 
@@ -87,7 +88,25 @@ def answers(lines: Sequence[str]) -> list[list[str]]:
 
 
 def script_of(name: str) -> list[str]:
-    return (REPOSITORY / "examples" / f"{name}.paris").read_text().splitlines()
+    return path_of(name, ".paris").read_text().splitlines()
+
+
+def path_of(name: str, ending: str) -> Path:
+    """A file of a gallery program, or of a worked row."""
+    return REPOSITORY / ((name if "/" in name else f"examples/{name}") + ending)
+
+
+def transcript_of(name: str) -> dict[int, list[str]]:
+    """The lines of the reply to each line of a script, by the file beside it."""
+    left = iter(path_of(name, ".expected").read_text().splitlines())
+    found = {}
+    for number, line in enumerate(script_of(name), 1):
+        if line and not line.startswith("#"):
+            found[number] = [next(left)]
+            if found[number][0].split(" ")[0] in ("rows", "faults"):
+                found[number] += [next(left) for _ in range(int(found[number][0].split(" ")[1]))]
+    assert next(left, None) is None
+    return found
 
 
 def numbers_of(figure: Node) -> list[str]:

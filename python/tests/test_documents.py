@@ -48,3 +48,22 @@ def test_explain_writes_what_the_document_says(tmp_path: Path) -> None:
     words = [str(REPOSITORY / "paris"), "explain", "wrong.paris"]
     ran = subprocess.run(words, capture_output=True, text=True, timeout=60, cwd=tmp_path)
     assert (ran.stdout, ran.stderr, ran.returncode) == (written, "", 1)
+
+
+def test_the_readme_shows_lines_that_explain_writes() -> None:
+    people = (REPOSITORY / "docs/PEOPLE.md").read_text(encoding="utf-8").split("\n## explain\n")[1]
+    written = re.findall(r"```\n(.*?)```", people, re.S)[1]
+    readme = (REPOSITORY / "README.md").read_text(encoding="utf-8")
+    shown = next(block for block in re.findall(r"```\n(.*?)```", readme, re.S) if ".paris:" in block)
+    parts = re.findall(r"(?:^wrong\.paris:.*\n(?:    .*\n)*)", shown, re.M)
+    assert "".join(parts) == shown and len(parts) == 2
+    assert all(part in written for part in parts)
+
+
+def test_pictures_are_small() -> None:
+    pictures = sorted((REPOSITORY / "docs/pictures").glob("*.png"))
+    assert pictures and all(picture.stat().st_size <= 100_000 for picture in pictures)
+    for document in ("README.md", "docs/PEOPLE.md"):
+        text = (REPOSITORY / document).read_text(encoding="utf-8")
+        named = re.findall(r"\]\(([^)]*\.png)\)", text)
+        assert named and all(((REPOSITORY / document).parent / name).exists() for name in named)

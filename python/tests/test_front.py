@@ -3,6 +3,7 @@
 from __future__ import annotations
 
 import os
+import pty
 import subprocess
 from pathlib import Path
 
@@ -30,6 +31,18 @@ def test_scripts() -> None:
     assert paris(stdin="delete 9\n").returncode == 1
 
 
+def test_a_terminal_is_told_what_is_waited_for() -> None:
+    ours, theirs = pty.openpty()
+    with subprocess.Popen([PARIS], stdin=theirs, stdout=subprocess.PIPE, stderr=theirs, text=True) as child:
+        os.close(theirs)
+        told = os.read(ours, 1000).decode()
+        os.write(ours, b"list\n\x04")
+        written, _ = child.communicate(timeout=60)
+    os.close(ours)
+    assert "Ctrl-D ends it" in told and "./paris prompt" in told
+    assert (written, child.returncode) == ("rows 0\n", 0)
+
+
 @pytest.mark.parametrize(
     "words",
     ["--nope", "a b", "--workers", "explain --nope x", "explain", "--workers 2 explain x", "--where explain x", "page"],
@@ -50,10 +63,36 @@ def test_help_and_where() -> None:
 
 
 def test_a_file_that_cannot_be_read() -> None:
-    for words in (["/nope"], ["/"], ["explain", "/nope"], ["explain", "/"]):
+    commands: list[list[str]] = [[], ["explain"], ["prompt"], ["page"], ["live"]]
+    for words in [[*command, name] for command in commands for name in ("/nope", "/")]:
         ran = paris(*words)
         assert (ran.returncode, ran.stdout) == (2, "")
-        assert "can't read" in ran.stderr
+        assert ran.stderr.startswith("paris") and f"can't read {words[-1]}" in ran.stderr
+
+
+def test_a_page_that_cannot_be_written(tmp_path: Path) -> None:
+    ran = paris("page", FIRST, "-o", str(tmp_path))
+    assert (ran.returncode, ran.stdout, ran.stderr) == (2, "", f"paris page: can't write {tmp_path}: Is a directory\n")
+
+
+def test_a_page_is_not_written_over_its_script(tmp_path: Path) -> None:
+    script = tmp_path / "sum.html"
+    script.write_text("set S 4\n")
+    (tmp_path / "link.html").symlink_to(script)
+    for words in (["sum.html"], ["sum.html", "-o", "./sum.html"], ["sum.html", "-o", "link.html"]):
+        ran = subprocess.run([PARIS, "page", *words], capture_output=True, text=True, timeout=60, cwd=tmp_path)
+        assert (ran.returncode, ran.stdout) == (2, "") and "in the place of its script" in ran.stderr
+    assert script.read_text() == "set S 4\n"
+    words = ["sum.html", "-o", "page.html"]
+    ran = subprocess.run([PARIS, "page", *words], capture_output=True, text=True, timeout=60, cwd=tmp_path)
+    assert ran.returncode == 0 and (tmp_path / "page.html").exists()
+
+
+def test_a_short_word_for_help() -> None:
+    for command in ("", "explain", "prompt", "page", "live"):
+        words = [command] if command else []
+        ran = paris(*words, "-h")
+        assert (ran.returncode, ran.stderr) == (0, "") and ran.stdout == paris(*words, "--help").stdout
 
 
 def test_explain_has_the_programs_status_and_program() -> None:

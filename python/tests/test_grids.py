@@ -186,7 +186,7 @@ def test_picture_of_sheets_has_gaps_between_them() -> None:
 
 def test_a_picture_of_equal_numbers_tells_zeros_from_others() -> None:
     dark, bright = picture_of((4,), (0, 0, 0, 0)), picture_of((4,), (9, 9, 9, 9))
-    assert indices_of(dark.address) == [[0] * 4] and indices_of(bright.address) == [[STEPS - 1] * 4]
+    assert indices_of(dark.address) == [[0] * 4] and indices_of(bright.address) == [[STEPS * 5 // 8] * 4]
 
 
 def test_large_text_is_shades() -> None:

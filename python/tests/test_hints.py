@@ -35,10 +35,13 @@ MISTAKES: list[tuple[str, int, list[str]]] = [
     ("insert end u-add a a b 8", 20, ["did you mean `u-add-3-1L`"]),
     ("insert end scan-with-add-1L a b 0 8 upward inclusive none", 20, ["did you mean `scan-with-u-add-1L`"]),
     ("insert end scan-with-u-add-1L a b 0 8 upwards inclusive none", 20, ["did you mean `upward`"]),
+    ("insert after 1 get-1L a b f", 20, ["ends too soon", "the length", "`get-1L D B A L`"]),
+    ("insert end logand-3-1L a b a -1", 20, ["no sign", "the length in bits", "`logand-3-1L D A B L`"]),
+    ("insert end set-test S 8", 20, ["nothing more belongs there", "`set-test S`"]),
     ("insert end u-add-3-1L a a b", 20, ["ends too soon", "length", "`u-add-3-1L D A B L`"]),
     ("insert end u-add-3-1L a", 20, ["ends too soon", "and 2 more"]),
     ("set S 4 4", 20, ["`set S 4x4`"]),
-    ("set U 4,4", 20, ["between two of them stands x"]),
+    ("set U 4,4", 20, ["between two lengths stands x"]),
     ("set U 4x4 # a grid", 20, ["a comment has a line of its own"]),
     ("field c S 8 ", 20, ["an empty word"]),
     ("field  c S 8", 20, ["an empty word"]),
@@ -55,6 +58,8 @@ MISTAKES: list[tuple[str, int, list[str]]] = [
     (f"delete {2**64}", 20, ["below 2^64"]),
     ("input S.contxt 0 1", 20, ["did you mean `S.context`"]),
     ("settle\r", 20, ["a carriage return"]),
+    ("\x7fELF\r\x02", 20, ["ASCII"]),
+    ("insert 1 set-test S", 20, ["`insert after 1 INSTR`", "`after`"]),
     ("show\ta end", 20, ["a tab stands here"]),
     ("show a", 20, ["`start`, `after` or `end`"]),
     ("show a end now", 20, ["nothing more belongs there"]),
@@ -70,10 +75,11 @@ MISTAKES: list[tuple[str, int, list[str]]] = [
     ("insert end set-context a", 4, ["`a` is a field", "its set is `S`"]),
     ("field c S 65", 6, ["65", "1 to 64 bits"]),
     ("input c 0 1", 7, ["`c` isn't declared", "`a`, `b`, `f`, `t` and `g`"]),
-    ("show S end", 7, ["`S` is a set, and here is wanted a field"]),
+    ("show S end", 7, ["`S` is a set, and a field is wanted here"]),
     ("show U.context end", 7, ["`U` isn't declared", "sets are `S` and `T`"]),
     ("insert end u-add-3-1L a x y 8", 7, ["`x` isn't declared", "`y` isn't declared"]),
-    ("input a 14 1 2 3", 8, ["16 processors", "From processor 14 on is room for 2", "3 values"]),
+    ("input a 14 1 2 3", 8, ["16 processors", "From processor 14 on is room for 2", "here are 3 values"]),
+    ("input a 16 1", 8, ["From processor 16 on is room for 0", "here is 1 value."]),
     ("input a 2 1 256 300", 9, ["256 needs more than the 8 bits of `a`", "greatest value is 255"]),
     ("insert after 7 set-context S", 10, ["no row has the id 7", "rows are 1 and 2"]),
     ("delete 9", 10, ["rows are 1 and 2"]),
@@ -90,7 +96,7 @@ MISTAKES: list[tuple[str, int, list[str]]] = [
     ("insert end my-news-coordinate-1L a 2 8", 14, ["no axis 2", "`S` has 2 axes, numbers 0 to 1"]),
     ("insert end my-news-coordinate-1L t 1 8", 14, ["`T` has one axis, number 0"]),
     ("insert end u-move-constant-1L a 300 8", 15, ["300 has more than 8 bits", "255"]),
-    ("insert end load-context a", 15, ["`a` has 8 bits", "a field of one bit, as `f`"]),
+    ("insert end load-context a", 15, ["`a` has 8 bits", "a field of one bit is wanted here, as `f`"]),
     ("insert end spread-with-copy-1L a b 1 8 4", 15, ["axis 1 has the coordinates 0 to 3, and not 4"]),
     ("replace 1 scan-with-copy-1L a b 0 8 upward b", 15, ["`b` has 8 bits", "as `f`"]),
     ("insert end send-1L f a b 1 f", 16, ["`f` is the destination too"]),
@@ -123,6 +129,30 @@ def test_each_mistake_is_explained() -> None:
             assert (said.column is not None) == (number == 20)
             for phrase in phrases:
                 assert phrase in said.hint, (line, said.hint)
+
+
+@pytest.mark.parametrize(
+    "line, hint",
+    [
+        ("insert end u-add-3-1L a a f 8", "`f` has 1 bit, and the length L is 8"),
+        ("insert end u-move-2L f a 1 9", "`a` has 8 bits, and the length M is 9"),
+        ("insert end get-1L f a b 8", "`f` has 1 bit, and the length L is 8"),
+        (
+            "insert end get-1L a f t 9",
+            "`a` and `f` belong to `S`, `t` belongs to `T`: an instruction's operands are of one set",
+        ),
+        ("insert end get-1L b f a 9", "`b` has 8 bits, and the length L is 9; `a` has 8 bits, and the length L is 9"),
+        ("insert end send-1L a b b 8 a", "`a` has 8 bits, and a field of one bit is wanted here, as `f`"),
+        ("insert end u-move-constant-1L a 256 8", "256 has more than 8 bits: the greatest constant is 255"),
+        ("insert end reduce-with-u-add-1L a b 1 8 4", "axis 1 has the coordinates 0 to 3, and not 4"),
+        ("set U 2x6x4", "6 is no power of two: lengths are 1, 2, 4, 8 and so on"),
+        ("input f 14 1 2", "2 needs more than the 1 bit of `f`: the greatest value is 1"),
+        ("insert end u-add-3-1L a b x 8", "`x` isn't declared: fields are `a`, `b`, `f`, `t` and `g`"),
+    ],
+)
+def test_a_hint_says_what_is_wrong_and_no_more(line: str, hint: str) -> None:
+    with Pipe(find()) as pipe:
+        assert explanation_of(pipe, board_of(pipe, DECLARED), line).hint == hint
 
 
 def test_the_mistakes_meet_each_fault_that_a_short_script_can_meet() -> None:

@@ -55,10 +55,12 @@ def test_the_numbers_in_the_prose_are_those_of_the_scripts() -> None:
 
 
 def facts(name: str) -> list[str]:
-    """How many rows an example has, and how many a pass or a generation of it has."""
+    """How many rows an example has, and how many a pass or a generation of it has, where it goes by such."""
     lines = (ROOT / "examples" / f"{name}.paris").read_text().split("\n")
     rows = sum(line.startswith("insert ") for line in lines)
     heads = [line for line in lines if re.match(r"# (Pass|Generation) \d", line)]
+    if not heads:
+        return [str(rows)]
     last = len(lines) - 1 - lines[::-1].index(heads[-1])
     return [str(rows), str(sum(line.startswith("insert ") for line in lines[last:]))]
 
@@ -86,6 +88,15 @@ def test_the_words_for_the_prompt_show_the_generations_of_life() -> None:
     for head, glider in ((heads[0], lines[:3]), (heads[2], lines[3:])):
         at = shown.index(head) + 1
         assert [line.strip() for line in shown[at : at + 8]] == glider + empty * (8 - len(glider))
+
+
+def test_each_picture_is_there_with_words_and_is_small() -> None:
+    text = (ROOT / "docs" / "LESSON.md").read_text()
+    pictures = re.findall(r"!\[(.*?)\]\((.*?)\)", text)
+    assert [name for _, name in pictures] == ["pictures/scan.png", "pictures/life.png", "pictures/sort.png"]
+    for words, name in pictures:
+        data = (ROOT / "docs" / name).read_bytes()
+        assert data.startswith(b"\x89PNG\r\n\x1a\n") and len(data) <= 100_000 and len(words) > 40
 
 
 def test_each_exercise_has_an_answer() -> None:

@@ -5,49 +5,25 @@ from __future__ import annotations
 import os
 import re
 import signal
+import socket
 import subprocess
 import sys
 import threading
 import time
-from collections.abc import Callable, Iterator
+from collections.abc import Iterator
 from pathlib import Path
-from typing import Any
 
 import pytest
+from browsers import PATIENCE, cells, complaints, evaluated, one, until
 from pages import REPOSITORY, answers, script_of
-from selenium import webdriver
-from selenium.webdriver.chrome.service import Service
 from selenium.webdriver.common.by import By
 from selenium.webdriver.common.keys import Keys
 from selenium.webdriver.remote.webdriver import WebDriver
-from selenium.webdriver.remote.webelement import WebElement
-from selenium.webdriver.support.wait import WebDriverWait
 
 from pevudlo import live
 from pevudlo.live_http import Server
 from pevudlo.live_session import Session
 from pevudlo.program import find
-
-PATIENCE = 15.0
-
-
-@pytest.fixture(scope="module")
-def browser() -> Iterator[WebDriver]:
-    options: Any = webdriver.ChromeOptions()
-    for word in (
-        "--headless=new",
-        "--no-sandbox",
-        "--disable-gpu",
-        "--disable-dev-shm-usage",
-        "--window-size=1500,1400",
-    ):
-        options.add_argument(word)
-    options.set_capability("goog:loggingPrefs", {"browser": "ALL"})
-    driver = webdriver.Chrome(service=Service("/usr/bin/chromedriver"), options=options)
-    driver.set_page_load_timeout(PATIENCE)
-    driver.set_script_timeout(PATIENCE)
-    yield driver
-    driver.quit()
 
 
 @pytest.fixture
@@ -64,17 +40,6 @@ def served(request: pytest.FixtureRequest) -> Iterator[Server]:
     session.close()
 
 
-def evaluated(driver: WebDriver, script: str, *words: object) -> Any:
-    """What a script gives in the page."""
-    run: Any = driver.execute_script
-    return run(script, *words)
-
-
-def until(driver: WebDriver, what: Callable[[], bool]) -> None:
-    """Waits until something holds, and fails where it doesn't in time."""
-    WebDriverWait(driver, PATIENCE, 0.05).until(lambda _: what())
-
-
 def opened(driver: WebDriver, server: Server) -> None:
     """Opens the page and waits for its rows."""
     driver.get(server.address)
@@ -84,11 +49,6 @@ def opened(driver: WebDriver, server: Server) -> None:
 def is_current(driver: WebDriver, server: Server) -> bool:
     """Whether the page shows the session as it is."""
     return bool(evaluated(driver, "return document.body.dataset.version") == str(server.session.version))
-
-
-def one(driver: WebDriver, selector: str) -> WebElement:
-    found: WebElement = driver.find_element(By.CSS_SELECTOR, selector)
-    return found
 
 
 def states(driver: WebDriver) -> dict[int, str]:
@@ -101,15 +61,6 @@ def listed(lines: list[str]) -> dict[int, str]:
     """The same by the program's own list."""
     words = [row.split(" ") for row in answers(lines + ["list"])[-1][1:]]
     return {int(row[0]): "settled" if row[3] == "settled" else "unsettled" for row in words}
-
-
-def cells(driver: WebDriver, selector: str) -> list[str]:
-    """The numbers of a grid on the page."""
-    script = (
-        "return [...document.querySelectorAll(arguments[0] + ' td:not(.pv-corner)')].map(cell => cell.firstChild.data)"
-    )
-    numbers: list[str] = evaluated(driver, script, selector)
-    return numbers
 
 
 def click(driver: WebDriver, server: Server, selector: str, place: int = 0) -> None:
@@ -188,6 +139,8 @@ def test_rows_are_edited_in_place(browser: WebDriver, served: Server) -> None:
     until(browser, lambda: served.session.version > version and is_current(browser, served))
     lines += ["replace 1 scan-with-u-max-1L prefix v 0 16 upward inclusive none"]
     until(browser, lambda: states(browser) == listed(lines))
+    focus = "return document.activeElement.dataset.act + ' ' + document.activeElement.closest('article').dataset.row"
+    until(browser, lambda: bool(evaluated(browser, focus) == "edit 1"))
     click(browser, served, "[data-act=settle]")
     lines += ["settle"]
     assert cells(browser, "[data-row='1'] [data-key='prefix']") == shown(lines, "show prefix after 1")
@@ -206,17 +159,22 @@ def test_the_caret_shows_values_and_takes_rows(browser: WebDriver, served: Serve
     click(browser, served, "[data-act=up]")
     assert one(browser, "#place").text == "at the start"
     assert cells(browser, "#values-part [data-key='prefix']") == shown(lines, "show prefix start") == ["0"] * 8
-    version = served.session.version
-    one(browser, "form.caret input").send_keys("u-move-constant-1L v 1 16", Keys.ENTER)
-    until(browser, lambda: served.session.version > version and is_current(browser, served))
-    lines += ["insert start u-move-constant-1L v 1 16"]
-    assert states(browser) == listed(lines) and list(states(browser)) == [3, 1, 2]
+    texts = ["u-move-constant-1L v 1 16", "u-move-1L prefix v 16"]
+    for text, place in zip(texts, ("start", "after 3")):
+        if place == "start":
+            one(browser, "form.caret input").click()
+        browser.switch_to.active_element.send_keys(text, Keys.ENTER)
+        lines += [f"insert {place} {text}"]
+        until(browser, lambda: len(states(browser)) == len(listed(lines)))
+        until(browser, lambda: one(browser, "#place").text == f"after row {len(states(browser))}")
+    assert states(browser) == listed(lines) and list(states(browser)) == [3, 4, 1, 2]
+    assert "v is pending, until row 3 has run" in one(browser, "#values").text
     evaluated(browser, "document.activeElement.blur()")
     version = served.session.version
     one(browser, "body").send_keys(Keys.ARROW_DOWN)
     until(browser, lambda: served.session.version > version and is_current(browser, served))
-    assert one(browser, "#place").text == "after row 3"
-    assert "pending" in one(browser, "#values-part").text
+    assert one(browser, "#place").text == "after row 1"
+    assert "prefix is pending, until row 1 has run" in one(browser, "#values").text
 
 
 @pytest.mark.parametrize("served", ["sum-by-scan"], indirect=True)
@@ -229,14 +187,19 @@ def test_a_number_is_typed_into_a_cell(browser: WebDriver, served: Server) -> No
     assert typed.get_attribute("value") == "4"
     typed.send_keys("99999", Keys.ENTER)
     until(browser, lambda: typed.get_attribute("aria-invalid") == "true")
-    assert "does not fit the width" in one(browser, "#refused").text
+    until(browser, lambda: "does not fit the width" in one(browser, "#cell-answer").text)
     version = served.session.version
+    for word in ("-5", "0x10", ""):
+        typed.send_keys(Keys.CONTROL + "a")
+        typed.send_keys(Keys.DELETE, word, Keys.ENTER)
+        until(browser, lambda: "without a sign is wanted" in one(browser, "#cell-answer").text)
     typed.send_keys(Keys.CONTROL + "a")
     typed.send_keys("1000", Keys.ENTER)
     until(browser, lambda: served.session.version > version and is_current(browser, served))
     lines += ["input v 2 1000"]
     until(browser, lambda: cells(browser, "#inputs [data-input='v']") == shown(lines, "show v start"))
     assert states(browser) == listed(lines) == {1: "unsettled", 2: "unsettled"}
+    assert one(browser, "#cell-answer").text == ""
 
 
 @pytest.mark.parametrize("served", ["life"], indirect=True)
@@ -305,8 +268,7 @@ def test_units_are_switched(browser: WebDriver, served: Server) -> None:
 
 
 def test_the_browser_complained_of_nothing(browser: WebDriver) -> None:
-    words = [entry["message"] for entry in browser.get_log("browser")]  # type: ignore[no-untyped-call]
-    assert [text for text in words if "Content Security" in text or "Uncaught" in text] == []
+    assert complaints(browser) == []
 
 
 def test_ctrl_c_ends_the_server_and_its_child(tmp_path: Path) -> None:
@@ -325,6 +287,20 @@ def test_ctrl_c_ends_the_server_and_its_child(tmp_path: Path) -> None:
             process.kill()
 
 
+def test_a_page_says_that_its_server_has_ended(browser: WebDriver) -> None:
+    words = [sys.executable, "-m", "pevudlo", "live"]
+    with subprocess.Popen(words, cwd=REPOSITORY / "python", stdout=subprocess.PIPE, text=True) as process:
+        try:
+            assert process.stdout is not None
+            browser.get(process.stdout.readline().split(" ")[1])
+            until(browser, lambda: "It begins with commands" in one(browser, "#head").text)
+            process.send_signal(signal.SIGINT)
+            assert process.wait(PATIENCE) == 0
+            until(browser, lambda: "Nobody answers" in one(browser, "#trouble").text)
+        finally:
+            process.kill()
+
+
 def until_gone(process: int) -> None:
     """Waits for the end of a process, and fails where it doesn't come."""
     for _ in range(100):
@@ -338,3 +314,10 @@ def until_gone(process: int) -> None:
 def test_wrong_words_have_status_2(words: list[str], capsys: pytest.CaptureFixture[str]) -> None:
     assert live.main(words) == 2
     assert capsys.readouterr().err == live.USAGE + "\n"
+
+
+def test_a_port_that_is_taken(capsys: pytest.CaptureFixture[str]) -> None:
+    with socket.create_server(("127.0.0.1", 0)) as taken:
+        port = taken.getsockname()[1]
+        assert live.main(["--port", str(port)]) == 2
+    assert capsys.readouterr().err == f"paris live: can't listen at port {port}: Address already in use\n"

@@ -11,7 +11,7 @@ import time
 from collections.abc import Iterator
 
 import pytest
-from pages import answers, script_of
+from pages import Tree, answers, numbers_of, script_of
 
 from pevudlo.live_http import HOST, MOST_BYTES, Server
 from pevudlo.live_session import Session
@@ -217,3 +217,36 @@ def test_a_slow_request_blocks_nobody(server: Server) -> None:
         begun = time.monotonic()
         assert asked(server, "GET", page(server, "state"))[0] == 200
         assert time.monotonic() - begun < 5
+
+
+def test_commands_from_many_sides_at_once(server: Server) -> None:
+    """Threads send edits while others fetch what is new: each edit is done once, and what stands is the program's."""
+    wrong: list[object] = []
+
+    def edit(first: int) -> None:
+        for value in range(first, first + 20):
+            status, answer = command(server, f"input b {value % 4} {value}")
+            wrong.extend([] if (status, answer["reply"]) == (200, ["ok"]) else [answer])
+
+    def fetch() -> None:
+        seen = 0
+        for _ in range(20):
+            status, data, _ = asked(server, "GET", page(server, f"state?seen={seen}"))
+            wrong.extend([] if status == 200 and json.loads(data)["version"] >= seen else [data])
+            seen = json.loads(data)["version"]
+
+    before = len(server.session.taken)
+    threads = [threading.Thread(target=edit, args=(20 * number,)) for number in range(4)]
+    threads += [threading.Thread(target=fetch) for _ in range(2)]
+    for thread in threads:
+        thread.start()
+    for thread in threads:
+        thread.join(30)
+    assert wrong == [] and not any(thread.is_alive() for thread in threads)
+    taken = server.session.taken
+    assert len(taken) == before + 80
+    status, data, _ = asked(server, "GET", page(server, "script"))
+    assert data.decode().splitlines() == taken
+    state = json.loads(asked(server, "GET", page(server, "state"))[1])
+    shown = numbers_of(Tree(state["html"]["input-b"]).root)
+    assert ["values", *shown] == answers(taken + ["show b start"])[-1][0].split(" ")

@@ -1,4 +1,4 @@
-"""Machine: worked rows and gallery give their transcripts, values keep their set's shape, refusals are raised."""
+"""Machine: values come and go in their set's shape, what is refused is raised, and a child that ends is said."""
 
 from __future__ import annotations
 
@@ -12,27 +12,13 @@ from typing import Any, Iterator
 import numpy
 import pytest
 
-from pevudlo import (
-    END,
-    START,
-    Ended,
-    Machine,
-    Pending,
-    Place,
-    Refusal,
-    Row,
-    Status,
-    WrongShape,
-    after,
-    signed,
-    unsigned,
-)
+from pevudlo import START, Ended, Machine, Pending, Refusal, Row, Status, WrongShape, after, signed, unsigned
 from pevudlo.arrays import ValueArray
+from pevudlo.grids import Grid
 from pevudlo.replies import Cause, OrderTaken, RowFault, Verdict, Word
 from pevudlo.values import input_lines
 
 REPOSITORY = Path(__file__).resolve().parents[2]
-SCRIPTS = sorted(REPOSITORY.glob("examples/*.paris")) + sorted(REPOSITORY.glob("rows/*/*.paris"))
 
 
 @pytest.fixture
@@ -48,113 +34,6 @@ def machine() -> Iterator[Machine]:
 def numbers(values: object) -> list[int]:
     assert isinstance(values, ValueArray)
     return [int(number) for number in values.ravel().tolist()]
-
-
-def place_of(words: list[str]) -> tuple[Place, list[str]]:
-    if words[0] == "after":
-        return after(int(words[1])), words[2:]
-    return {"start": START, "end": END}[words[0]], words[1:]
-
-
-def edited(machine: Machine, words: list[str]) -> str:
-    """The reply to an edit, made by Machine's calls."""
-    match words:
-        case ["set", name, axes]:
-            machine.set(name, *map(int, axes.split("x")))
-        case ["field", name, of, width]:
-            machine.field(name, of, int(width))
-        case ["input", key, first, *values]:
-            machine[key, int(first) :] = [int(value) for value in values]
-        case ["insert", *rest]:
-            place, text = place_of(rest)
-            return f"row {machine.insert(' '.join(text), place)}"
-        case ["delete", row]:
-            machine.delete(int(row))
-        case ["replace", row, *text]:
-            machine.replace(int(row), " ".join(text))
-        case _:
-            return looked(machine, words)
-    return "ok"
-
-
-def looked(machine: Machine, words: list[str]) -> str:
-    """The reply to a command that is no edit, made by Machine's calls."""
-    match words:
-        case ["take"]:
-            order = machine.take()
-            return f"order {order.order} row {order.row} edition {order.edition}" if order else "nothing"
-        case ["bring", order_number]:
-            verdict = machine.bring(int(order_number))
-            return verdict.word.value if verdict.edition is None else f"{verdict.word.value} {verdict.edition}"
-        case ["release"]:
-            machine.release()
-            return "ok"
-        case ["show", key, *rest]:
-            values = machine.show(key, place_of(rest)[0])
-            if isinstance(values, Pending):
-                return f"pending {values.row}"
-            return "values " + " ".join(map(str, numbers(values)))
-        case ["list"]:
-            rows = machine.rows()
-            return "\n".join(
-                [f"rows {len(rows)}"] + [f"{r.row} edition {r.edition} {r.status.value} {r.text}" for r in rows]
-            )
-        case ["faults"]:
-            faults = machine.faults()
-            return "\n".join([f"faults {len(faults)}"] + [f"{f.row} {f.cause.value} {f.processor}" for f in faults])
-        case ["settle"]:
-            return f"settled {machine.settle()}"
-    raise AssertionError(words)
-
-
-@pytest.mark.parametrize("path", SCRIPTS, ids=lambda path: str(path.relative_to(REPOSITORY)))
-def test_each_script_gives_its_transcript(path: Path) -> None:
-    written = []
-    with Machine() as machine:
-        for line in path.read_text().split("\n"):
-            if not line or line.startswith("#"):
-                continue
-            replies = machine.raw(line) if is_no_call(line) else None
-            if replies is None:
-                try:
-                    replies = [edited(machine, line.split(" "))]
-                except Refusal as refusal:
-                    detail = refusal.explanation.detail
-                    replies = [f"refused {refusal.number}" + (f" {detail}" if detail is not None else "")]
-                    assert refusal.line == line and refusal.hint
-            written += replies
-        status = machine.close()
-    transcript = path.with_suffix(".expected").read_text()
-    assert "\n".join([*written, ""] if written else [""]) == transcript
-    assert status == any(line.startswith("refused") for line in transcript.split("\n"))
-
-
-def is_no_call(line: str) -> bool:
-    """Whether no call writes such a line: it leaves the grammar before an instruction."""
-    words = line.split(" ")
-    if words[0] == "insert":
-        return words[1] not in ("start", "end", "after") or (words[1] == "after" and not words[2].isdigit())
-    sizes = {
-        "set": 3,
-        "field": 4,
-        "delete": 2,
-        "bring": 2,
-        "take": 1,
-        "release": 1,
-        "list": 1,
-        "faults": 1,
-        "settle": 1,
-    }
-    if words[0] in sizes:
-        return len(words) != sizes[words[0]] or not all(word[0:1].isalnum() for word in words)
-    if words[0] == "show":
-        return not (words[2:] in (["start"], ["end"]) or (words[2:3] == ["after"] and len(words) == 4))
-    return words[0] not in ("input", "replace") or not all(word.isdigit() for word in words[2:3])
-
-
-def test_most_scripts_are_made_by_calls() -> None:
-    lines = [line for path in SCRIPTS for line in path.read_text().split("\n") if line and not line.startswith("#")]
-    assert sum(map(is_no_call, lines)) < 30 < 1_000 < len(lines)
 
 
 def test_values_in_the_shape_of_the_axes() -> None:
@@ -241,9 +120,31 @@ def test_values_that_are_pending_are_no_numbers(machine: Machine) -> None:
         signed(machine["c"], 8)
     with pytest.raises(TypeError):
         int(machine["c"])  # type: ignore[arg-type]
+    with pytest.raises(TypeError, match=f"pending: row {row} "):
+        bool(machine["c"])
     assert machine.settle() == 1
     assert numbers(machine["c"]) == [0, 0, 0, 0]
     assert numbers(machine.show("c", START)) == numbers(machine.show("c", after(row))) == [0] * 4
+
+
+def test_keys_and_places_of_other_types_ask_nothing(machine: Machine) -> None:
+    for key in (("a", 1), 0, None):
+        with pytest.raises(TypeError, match="a key is a name"):
+            machine[key]  # type: ignore[index]
+    with pytest.raises(TypeError, match="a key is a name"):
+        assert "a" in machine  # type: ignore[operator]
+    row = machine.insert("u-add-3-1L c a b 8")
+    with pytest.raises(TypeError, match=r"a place is START, END or after\(row\), and not 1"):
+        machine.insert("set-context S", row)  # type: ignore[arg-type]
+    with pytest.raises(TypeError, match="a place is START"):
+        machine.show("c", "end")  # type: ignore[arg-type]
+    assert machine.close() == 0
+
+
+def test_workers_are_1_to_16() -> None:
+    for workers in (0, 17, -1):
+        with pytest.raises(ValueError, match="workers are 1 to 16"):
+            Machine(workers=workers)
 
 
 def test_rows_orders_and_verdicts(machine: Machine) -> None:
@@ -345,6 +246,12 @@ def test_arrays_are_looks_and_what_is_computed_is_plain(machine: Machine) -> Non
     assert isinstance(part, ValueArray) and part._repr_html_() is None
 
 
+def test_numbers_beyond_64_bits_are_those_of_python() -> None:
+    values = ValueArray.of(Grid("w", (2,), 100, (2**99, 1)))
+    assert values.dtype == object and values.tolist() == [2**99, 1]
+    assert ValueArray.of(Grid("w", (2,), 64, (2**64 - 1, 1))).dtype == numpy.uint64
+
+
 def test_rows_as_html(machine: Machine) -> None:
     machine.insert("u-add-3-1L c a b 8")
     machine.settle()
@@ -397,7 +304,7 @@ with pevudlo.Machine() as machine:
     machine.set("S", 2, 2)
     machine.field("a", "S", 8)
     machine["a"] = [[1, 2], [3, 200]]
-    assert machine["a"] == [[1, 2], [3, 200]], machine["a"]
+    assert machine["a"] == machine["a"].tolist() == [[1, 2], [3, 200]], machine["a"]
     assert pevudlo.signed(machine["a"], 8) == [[1, 2], [3, -56]]
     assert ">200<" in machine["a"]._repr_html_()
     machine["a"] = range(4)

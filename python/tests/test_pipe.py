@@ -119,6 +119,15 @@ def test_an_ended_program_is_named_with_status_and_line(tmp_path: Path) -> None:
     assert pipe.close() == 4
 
 
+def test_a_program_that_takes_no_more_lines_is_killed(tmp_path: Path) -> None:
+    with Pipe(fake(tmp_path, "os.close(0); time.sleep(60)")) as pipe:
+        with pytest.raises(Ended) as ended:
+            # More than a pipe holds.
+            pipe.ask("x" * 2_000_000)
+    assert ended.value.status == -signal.SIGKILL
+    assert not is_alive(pipe.process)
+
+
 def test_wrong_workers_end_the_program(program: Path) -> None:
     with Pipe(program, workers=17) as pipe:
         with pytest.raises(Ended) as ended:
@@ -152,6 +161,40 @@ def test_a_program_that_answers_out_of_turn_is_killed(tmp_path: Path, body: str)
             time.sleep(0.05)
     assert error.value.status == -signal.SIGKILL
     assert not is_alive(pipe.process)
+
+
+def test_what_comes_between_two_lines_is_out_of_turn(tmp_path: Path) -> None:
+    """The text is there before the second line is written, and isn't taken for its reply."""
+    body = "for line in sys.stdin:\n    print('ok', flush=True); time.sleep(0.05); print('late', flush=True)"
+    with Pipe(fake(tmp_path, body)) as pipe:
+        assert pipe.ask("release") == ["ok"]
+        time.sleep(1)
+        with pytest.raises(OutOfTurn, match="late"):
+            pipe.ask("release")
+    assert not is_alive(pipe.process)
+
+
+def test_more_than_a_reply_is_out_of_turn_at_once(tmp_path: Path) -> None:
+    with Pipe(fake(tmp_path, "for line in sys.stdin: os.write(1, b'rows 1\\nrow\\nok\\n')")) as pipe:
+        with pytest.raises(OutOfTurn, match="more than a reply"):
+            pipe.ask("list")
+    assert not is_alive(pipe.process)
+
+
+def test_ctrl_c_at_a_terminal_reaches_who_holds_the_pipe_alone(program: Path) -> None:
+    """A terminal sends it to a whole group of processes. Between two lines it can be caught, and the child lives on."""
+    held = (
+        "import sys, time; sys.path.insert(0, sys.argv[1]); from pevudlo.pipe import Pipe; from pathlib import Path\n"
+    )
+    held += "with Pipe(Path(sys.argv[2])) as pipe:\n    print(pipe.ask('set S 4'), flush=True)\n"
+    held += "    try: time.sleep(20)\n    except KeyboardInterrupt: print(pipe.ask('field a S 8'), pipe.close())\n"
+    words = [sys.executable, "-c", held, str(REPOSITORY / "python"), str(program)]
+    holder = subprocess.Popen(words, stdout=subprocess.PIPE, text=True, start_new_session=True)
+    assert holder.stdout is not None and holder.stdout.readline() == "['ok']\n"
+    time.sleep(0.3)
+    os.killpg(holder.pid, signal.SIGINT)
+    said, _ = holder.communicate(timeout=20)
+    assert said == "['ok'] 0\n"
 
 
 def test_ctrl_c_leaves_no_process(program: Path) -> None:

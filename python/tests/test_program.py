@@ -3,6 +3,7 @@
 from __future__ import annotations
 
 import subprocess
+import tomllib
 from pathlib import Path
 
 import pytest
@@ -68,3 +69,14 @@ def test_a_folder_that_is_no_repository(tmp_path: Path) -> None:
     looked: list[str] = []
     assert program.by_repository(looked, tmp_path) is None
     assert looked == [f"{tmp_path} is no repository of it"]
+
+
+def test_all_that_lies_in_the_package_is_installed() -> None:
+    """Each folder with modules is named as a package, and each other file is named as data of one."""
+    setuptools = tomllib.loads((REPOSITORY / "python/pyproject.toml").read_text())["tool"]["setuptools"]
+    root = REPOSITORY / "python/pevudlo"
+    folders = {path.parent.relative_to(root.parent) for path in root.rglob("*.py")}
+    assert set(setuptools["packages"]) == {".".join(folder.parts) for folder in folders}
+    data = {path for pattern in setuptools["package-data"]["pevudlo"] for path in root.glob(pattern)}
+    others = {path for path in root.rglob("*") if path.is_file() and path.suffix not in (".py", ".pyc")}
+    assert others and others <= data

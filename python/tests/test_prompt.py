@@ -1,8 +1,9 @@
-"""The prompt without a terminal: lines come from a pipe. Views, words of its own, files, and what Tab would offer."""
+"""The prompt without a terminal: lines come from a pipe. Views, words of its own, and files."""
 
 from __future__ import annotations
 
 import os
+import re
 import subprocess
 import sys
 from pathlib import Path
@@ -11,15 +12,13 @@ from random import Random
 import pytest
 from random_lines import RandomLines
 
-from pevudlo.board import Board, Declared
 from pevudlo.grammar import COMMANDS
 from pevudlo.program import ROOT, find
-from pevudlo.prompt import Prompt
-from pevudlo.prompt_complete import offers
+from pevudlo.prompt import Prompt, talk
 from pevudlo.prompt_files import read_lines, write_lines
 from pevudlo.prompt_help import OWN, help_for
+from pevudlo.prompt_lines import Reader
 from pevudlo.prompt_session import Session
-from pevudlo.reference import ENTRIES
 
 BASE = ["set S 4", "field a S 8", "input a 0 1 200 3 16"]
 
@@ -60,6 +59,24 @@ def test_lines_that_come_from_a_pipe_are_answered_as_those_that_are_typed() -> N
     ran = prompt([*lines, "quit", "set T 4"])
     assert (ran.returncode, ran.stderr) == (0, "")
     assert ran.stdout.split("\n")[:-1] == answers(lines, [])
+
+
+def test_the_document_s_prompt_answers_as_it_stands_there(tmp_path: Path, monkeypatch: pytest.MonkeyPatch) -> None:
+    text = (ROOT / "docs" / "PEOPLE.md").read_text().split("\n## prompt\n")[1]
+    (block,) = re.findall(r"^```\n(paris> .*?)^```$", text, re.M | re.S)
+    turns = [turn.rstrip("\n").split("\n") for turn in block.split("paris> ")[1:]]
+    monkeypatch.chdir(tmp_path)
+    told = [line for turn in turns for line in turn[1:]]
+    assert answers([turn[0] for turn in turns], []) == told
+    assert len(turns) == 9 and (tmp_path / "double.paris").is_file()
+
+
+def test_workers_are_as_many_as_said(tmp_path: Path) -> None:
+    program = tmp_path / "words"
+    program.write_text('#!/bin/sh\nread -r line\necho "$@" >&2\nexit 4\n')
+    program.chmod(0o755)
+    for words, wanted in ((), "2"), (("--workers", "5"), "5"), (("--workers=16",), "16"):
+        assert f"(exit status 4: --workers {wanted})" in prompt(["set S 4"], *words, program=program).stdout
 
 
 def test_no_word_of_its_own_is_a_command() -> None:
@@ -106,13 +123,21 @@ def test_a_word_that_is_written_otherwise_is_said(line: str) -> None:
     assert answers([line]) == [f"it is written `{OWN[line.split(' ')[0]].spelling}`"]
 
 
+def test_a_word_of_the_prompt_s_own_that_is_misspelled_is_guessed() -> None:
+    for line, meant in (("halp", "help"), ("sav x.paris", "save"), ("HEX a", "hex"), ("loadd x", "load")):
+        said = answers([line])
+        assert said[0].startswith("refused 20 1: ")
+        assert said[-1] == f"  did you mean the prompt's own word `{meant}`? It is written `{OWN[meant].spelling}`"
+    assert not any("own word" in line for line in answers(["shw a", "Set S 4", "lst", "xyzzy", "delete 9"]))
+
+
 def test_help_finds_numbers_parts_and_likely_words() -> None:
     assert help_for("12") == help_for("BadLength") == help_for("badlength")
     assert help_for("12")[0] == "refused 12   (fault BadLength)"
     parts = help_for("scan-with-u")
     assert " ".join(parts[1:]).split() == ["scan-with-u-add-1L", "scan-with-u-max-1L", "scan-with-u-min-1L"]
     assert help_for("setle") == ["there is no help for `setle`: did you mean `settle`?"]
-    assert help_for("xyzzy") == ["there is no help for `xyzzy`"]
+    assert help_for("xyzzy") == ["there is no help for `xyzzy`: `help` alone lists what there is"]
 
 
 def test_new_begins_with_nothing_declared() -> None:
@@ -170,7 +195,7 @@ def test_save_keeps_what_the_file_held_and_writes_whole_files(tmp_path: Path) ->
 def test_odd_bytes_are_written_as_escapes_and_end_nothing(tmp_path: Path) -> None:
     ran = prompt(["help \udcff\x1b[31m", f"load {tmp_path}/\x00", f"save {tmp_path}/a\x00", "hex \x1b", "set S 4"])
     said = ran.stdout.split("\n")
-    assert said[0] == "there is no help for `\\xff\\x1b[31m`"
+    assert said[0] == "there is no help for `\\xff\\x1b[31m`: `help` alone lists what there is"
     assert said[1:3] == [
         f"can't {way} {tmp_path}/{name}\\x00: embedded null byte" for way, name in (("read", ""), ("write", "a"))
     ]
@@ -206,10 +231,12 @@ def test_random_lines_are_answered_each(tmp_path: Path) -> None:
         comments = sum(not line or line.startswith("#") for line in lines)
         assert silent == comments
         answering.handle(f"save {tmp_path / 'random.paris'}")
-        wanted = session.tell("list"), session.tell("faults"), session.tell("take")
+        looks = ["list", "faults", *(f"show {key} end" for key in session.board.keys()), "take"]
+        wanted = [session.tell(look) for look in looks]
+        assert len(looks) > 12
         session.begin()
         answering.handle(f"load {tmp_path / 'random.paris'}")
-        assert (session.tell("list"), session.tell("faults"), session.tell("take")) == wanted
+        assert [session.tell(look) for look in looks] == wanted
         assert shown[-1].endswith(" commands, none refused")
     finally:
         session.close()
@@ -227,9 +254,9 @@ def test_a_file_that_cannot_be_read_or_written_is_said(tmp_path: Path) -> None:
 
 
 def test_wrong_words_have_a_usage_line_and_status_2() -> None:
-    for words in (["a", "b"], ["--grid"]):
+    for words in (["a", "b"], ["--grid"], ["--workers"], ["--workers", "17"], ["--workers=0"], ["--workers", "02"]):
         ran = prompt([], *words)
-        assert (ran.returncode, ran.stdout, ran.stderr) == (2, "", "usage: paris prompt [FILE]\n")
+        assert (ran.returncode, ran.stdout, ran.stderr) == (2, "", "usage: paris prompt [--workers 1-16] [FILE]\n")
     ran = prompt([], "--help")
     assert ran.returncode == 0 and all(word.spelling in ran.stdout for word in OWN.values())
 
@@ -247,69 +274,74 @@ def test_a_program_that_ends_at_once_is_said(tmp_path: Path) -> None:
     assert ran.returncode == 0
 
 
+class Lines(Reader):
+    """Lines that a test gives. An empty one stands for Ctrl-C before any line was typed."""
+
+    def __init__(self, lines: list[str]) -> None:
+        self.lines = lines
+
+    def read(self) -> str | None:
+        line = self.lines.pop(0) if self.lines else None
+        if line == "":
+            raise KeyboardInterrupt
+        return line
+
+
+def test_ctrl_c_while_a_reply_is_shown_loses_nothing() -> None:
+    shown: list[str] = []
+
+    def show(text: str) -> None:
+        shown.append(text)
+        if text == "row 1":
+            raise KeyboardInterrupt
+
+    session = Session(find())
+    session.begin()
+    try:
+        rows = ["insert end set-test S", "insert end clear-test S"]
+        talk(Prompt(session, show, False), Lines(["set S 4", "", *rows, "again", rows[1], "list"]))
+    finally:
+        session.close()
+    assert shown[:3] == ["ok", "", "row 1"]
+    assert shown[3:6] == ["", "no program runs: it was interrupted", shown[5]] and shown[5].startswith("2 accepted")
+    assert shown[6] == "no program runs: it was interrupted"
+    assert shown[8] == "the program is started again, and 2 accepted commands are told"
+    assert shown[9:11] == ["row 2", "rows 2"] and len(shown) == 13
+
+
+def test_one_question_is_no_answer_to_another() -> None:
+    shown: list[str] = []
+    session = Session(find())
+    session.begin()
+    try:
+        asking = Prompt(session, shown.append, True)
+        assert [asking.handle(line) for line in ("set S 4", "quit", "new", "quit")] == [True] * 4
+        assert [line.split(", and ")[1] for line in shown[1:]] == [
+            f"the same once more {what}" for what in ("ends the prompt", "begins anew", "ends the prompt")
+        ]
+        assert not asking.handle("quit")
+    finally:
+        session.close()
+
+
+def test_new_keeps_what_was_accepted_where_no_program_can_be_started(tmp_path: Path) -> None:
+    program = tmp_path / "program"
+    program.symlink_to(find())
+    session = Session(program)
+    session.begin()
+    try:
+        session.tell("set S 4")
+        program.unlink()
+        shown: list[str] = []
+        Prompt(session, shown.append, False).handle("new")
+        assert shown[0].startswith("no program runs: it can't be started: ") and session.accepted == ["set S 4"]
+    finally:
+        session.close()
+
+
 def test_a_program_that_is_gone_is_said(tmp_path: Path) -> None:
     program = tmp_path / "gone"
     program.write_text("#!/nowhere/at/all\n")
     program.chmod(0o755)
     ran = prompt(["set S 4"], program=program)
     assert ran.returncode == 2 and ran.stderr.startswith("paris prompt: no program runs: it can't be started: ")
-
-
-def board() -> Board:
-    made = Board()
-    made.sets = {"S": (4,), "G": (4, 2)}
-    made.fields = {"a": Declared("S", 8), "ab": Declared("S", 4), "f": Declared("S", 1), "g": Declared("G", 16)}
-    made.rows, made.orders = [3, 1], 2
-    return made
-
-
-@pytest.mark.parametrize(
-    ("line", "wanted"),
-    [
-        ("se", ["set ", "settle"]),
-        ("ta", ["take"]),
-        ("lo", ["load "]),
-        ("q", ["quit"]),
-        ("insert ", ["insert start ", "insert after ", "insert end "]),
-        ("insert after ", ["insert after 3 ", "insert after 1 "]),
-        ("delete ", ["delete 3", "delete 1"]),
-        ("bring ", ["bring 1", "bring 2"]),
-        ("set ", []),
-        ("field x ", ["field x S ", "field x G "]),
-        ("insert end send-with-l", [f"insert end send-with-{name}-1L " for name in ("logior", "logand", "logxor")]),
-        ("insert end u-add-3-1L a", ["insert end u-add-3-1L a ", "insert end u-add-3-1L ab "]),
-        ("insert end u-add-3-1L g ", ["insert end u-add-3-1L g g "]),
-        ("insert end u-add-3-1L a ab a ", ["insert end u-add-3-1L a ab a 4"]),
-        ("insert end load-test ", ["insert end load-test f"]),
-        ("insert end set-test ", ["insert end set-test S", "insert end set-test G"]),
-        ("insert end get-from-news-1L g g ", [f"insert end get-from-news-1L g g {axis} " for axis in (0, 1)]),
-        ("insert end get-from-news-1L g g 0 u", ["insert end get-from-news-1L g g 0 upward "]),
-        ("insert end send-1L a a a 8 ", ["insert end send-1L a a a 8 f", "insert end send-1L a a a 8 none"]),
-        ("show G.c", ["show G.context ", "show G.carry "]),
-        ("show a ", ["show a start", "show a after ", "show a end"]),
-        ("hex G.t", ["hex G.test"]),
-        ("signed ab a", ["signed ab after "]),
-        ("help rows", []),
-        ("help Rows", ["help RowsFull"]),
-        ("help sa", ["help save"]),
-        ("nonsense a", []),
-        ("insert end nonsense ", []),
-        ("settle ", []),
-    ],
-)
-def test_tab_offers_what_may_stand_there(line: str, wanted: list[str]) -> None:
-    begin = line.rpartition(" ")[0]
-    assert [f"{begin} {offer}".lstrip(" ") for offer in offers(line, board())] == wanted
-
-
-def test_tab_offers_every_name_to_help_and_every_instruction_to_insert() -> None:
-    assert set(offers("help ", board())) == {*OWN, *(entry.name for entry in ENTRIES)}
-    assert len(offers("insert end ", board())) == 77
-
-
-def test_tab_offers_files(tmp_path: Path) -> None:
-    (tmp_path / "one.paris").write_text("")
-    (tmp_path / "folder").mkdir()
-    assert offers(f"load {tmp_path}/", board()) == [f"{tmp_path}/folder/", f"{tmp_path}/one.paris"]
-    assert offers(f"save {tmp_path}/o", board()) == [f"{tmp_path}/one.paris"]
-    assert offers(f"load {tmp_path}/[", board()) == []

@@ -3,6 +3,7 @@
 from __future__ import annotations
 
 import os
+import re
 import signal
 import time
 from collections.abc import Iterator
@@ -11,8 +12,10 @@ from pathlib import Path
 import pytest
 from terminals import PROMPT, Terminal, children_of
 
-from pevudlo.program import ROOT
+from pevudlo.pipe import Pipe
+from pevudlo.program import ROOT, find
 from pevudlo.prompt_help import OWN_WORDS
+from pevudlo.prompt_lines import tidy
 from pevudlo.reference import ENTRIES
 from pevudlo.reference_text import help_lines
 
@@ -154,20 +157,52 @@ def test_ctrl_d_ends_with_all_children(terminal: Terminal) -> None:
     assert not Path(f"/proc/{child}").exists()
 
 
-def test_the_end_is_asked_for_twice_where_commands_are_not_saved(terminal: Terminal, tmp_path: Path) -> None:
-    terminal.answer("set S 4")
-    for key in (CTRL_D, "quit\n"):
-        terminal.press(key)
-        assert "1 accepted command is not saved" in terminal.until(PROMPT)
-        assert terminal.answer("field a S 8")[0] in ("ok", "refused 3: a set or a field has this name")
-        terminal.answer("delete 1")
-        assert terminal.answer(f"save {tmp_path / 'one.paris'}")[0].endswith("saved")
-        terminal.answer("new")
-        terminal.answer("set S 4")
-    terminal.press("quit\n")
-    terminal.until(PROMPT)
-    terminal.press(CTRL_D)
+@pytest.mark.parametrize("key", [CTRL_D, "quit\n", "exit\n"], ids=["ctrl-d", "quit", "exit"])
+def test_the_end_is_asked_for_twice_where_commands_are_not_saved(terminal: Terminal, key: str, tmp_path: Path) -> None:
+    assert terminal.answer("set S 4") == ["ok"]
+    terminal.press(key)
+    assert "1 accepted command is not saved: `save FILE` saves them" in terminal.until(PROMPT)
+    # Another line comes between, so the next one is the first again.
+    assert terminal.answer("field a S 8") == ["ok"]
+    terminal.press(key)
+    assert "2 accepted commands are not saved" in terminal.until(PROMPT)
+    terminal.press(key)
     assert terminal.wait() == 0
+
+
+def test_the_end_comes_at_once_where_all_is_saved(terminal: Terminal, tmp_path: Path) -> None:
+    assert terminal.answer("set S 4") == ["ok"]
+    assert terminal.answer("show S.test end")[1] == "  0 0 0 0"
+    assert terminal.answer(f"save {tmp_path / 'one.paris'}")[0].endswith("1 accepted command is saved")
+    terminal.press("quit\n")
+    assert terminal.wait() == 0
+
+
+def test_the_lesson_begins_anew_behind_commands_that_are_not_saved(terminal: Terminal) -> None:
+    declare(terminal)
+    assert terminal.answer("insert end set-context S") == ["row 1"]
+    lesson = (ROOT / "docs/LESSON.md").read_text(encoding="utf-8")
+    (block,) = re.findall(r"^```text\n(new\n.*?)^```$", lesson, re.M | re.S)
+    seen = {line: terminal.answer(line.replace(" examples/", f" {ROOT}/examples/")) for line in block.splitlines()}
+    look = "cell after 17"
+    with Pipe(find()) as pipe:
+        for line in (ROOT / "examples/life.paris").read_text(encoding="utf-8").splitlines():
+            pipe.ask(line)
+        values = pipe.ask(f"show {look}")[0]
+    assert " ".join(seen[f"grid {look}"][1:]).split() == values.split(" ")[1:]
+
+
+def test_new_is_asked_for_twice_where_commands_are_not_saved(terminal: Terminal) -> None:
+    declare(terminal)
+    assert terminal.answer("new")[0].startswith("6 accepted commands are not saved")
+    assert terminal.answer("set S 4") == [
+        "refused 3: a set or a field has this name",
+        "  set S 4",
+        *terminal.answer("set S 4")[2:],
+    ]
+    assert terminal.answer("new")[0].startswith("6 accepted commands are not saved")
+    assert terminal.answer("new") == ["nothing is declared"]
+    assert terminal.answer("set S 4") == ["ok"]
 
 
 def test_lines_come_back_by_the_arrow_also_in_the_next_prompt(tmp_path: Path) -> None:
@@ -186,15 +221,46 @@ def test_lines_come_back_by_the_arrow_also_in_the_next_prompt(tmp_path: Path) ->
         assert second.until(PROMPT).split("\n")[-2] == "ok"
 
 
+def test_a_prompt_that_is_killed_leaves_its_history_and_no_program(tmp_path: Path) -> None:
+    with Terminal(tmp_path) as killed:
+        assert killed.answer("set Killed 4") == ["ok"]
+        assert killed.answer("") == killed.answer("") == []
+        (child,) = children_of(killed.process)
+        os.kill(killed.process, signal.SIGKILL)
+        assert killed.wait() == -signal.SIGKILL
+    until = time.monotonic() + 10
+    while Path(f"/proc/{child}/exe").exists() and time.monotonic() < until:
+        time.sleep(0.02)
+    assert not Path(f"/proc/{child}/exe").exists()
+    history = tmp_path / "pevudlo" / "history"
+    assert history.read_text() == "set Killed 4\n" and history.stat().st_mode & 0o777 == 0o600
+
+
 @pytest.mark.parametrize("inputrc", ["", "set enable-bracketed-paste on\n"], ids=["plain", "bracketed"])
 def test_an_example_can_be_pasted(tmp_path: Path, inputrc: str) -> None:
-    lines = ["set S 4", "field a S 8", "# a comment", "", "input a 0 1 2 3 4", "line a", "show a end "]
+    lines = ["set S 4", "field a S 8", "# a comment", "", "input a 0 1 2 3 4", "line a", " show  a end "]
     text = "\n".join(lines) + "\n"
     with Terminal(tmp_path, inputrc=inputrc) as terminal:
         terminal.press(f"\x1b[200~{text}\x1b[201~\n" if inputrc else text)
         shown = terminal.until("a at the end (S 4, 8 bits)") if not inputrc else terminal.until("values 1 2 3 4")
         assert "refused" not in shown
         assert "refused" not in terminal.until(PROMPT)
+
+
+def test_a_line_that_is_typed_is_tidied() -> None:
+    assert tidy("  insert end  set-test S ") == "insert end set-test S"
+    assert tidy("# two  spaces ") == "# two  spaces"
+    assert tidy("save two  spaces ") == "save two  spaces"
+    assert tidy("   ") == ""
+    assert tidy("set\tS 4") == "set\tS 4"
+
+
+def test_a_space_behind_a_word_that_tab_completed_does_no_harm(terminal: Terminal) -> None:
+    declare(terminal)
+    terminal.press(f"sh{TAB} al{TAB} e{TAB}")
+    terminal.until("alpha  end")
+    terminal.press("\n")
+    assert "alpha at the end (S 4, 8 bits)" in terminal.until(PROMPT)
 
 
 def test_a_wrong_line_is_explained_and_nothing_is_lost(terminal: Terminal) -> None:

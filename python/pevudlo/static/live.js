@@ -60,11 +60,11 @@
 
   function placeCaret() {
     const rows = at("rows");
-    if (caret === "start") rows.prepend(form);
-    else {
-      const row = elements.rows.get("row-" + caret.slice(6));
-      if (row) row.after(form); else rows.append(form);
-    }
+    const row = caret === "end" ? rows.querySelector(":scope > [data-name]:last-of-type") : elements.rows.get("row-" + caret.slice(6));
+    const inside = form.contains(document.activeElement) ? document.activeElement : null;
+    if (!row && rows.firstElementChild !== form) rows.prepend(form);
+    if (row && row.nextElementSibling !== form) row.after(form);
+    if (inside) inside.focus();
     at("place").textContent = caret.replace("after", "after row").replace(/^(start|end)$/, "at the $1");
   }
 
@@ -108,7 +108,8 @@
 
   const news = new EventSource(base + "news");
   news.addEventListener("message", (event) => { if (Number(event.data) !== version) refresh(); });
-  news.addEventListener("error", () => { if (news.readyState === EventSource.CLOSED) lost(); });
+  // Where nobody answers what is asked then, the server has ended.
+  news.addEventListener("error", () => { if (news.readyState === EventSource.CLOSED) lost(); else refresh(); });
 
   async function ask(name, body) {
     try {
@@ -154,14 +155,20 @@
     const close = () => {
       if (!editor.isConnected) return;
       editor.replaceWith(button);
+      button.focus();
       const outer = row.parentElement;
-      if (outer && outer.waits !== undefined) { const waits = outer.waits; delete outer.waits; fill(outer, waits); }
+      if (outer && outer.waits !== undefined) {
+        const waits = outer.waits;
+        delete outer.waits;
+        fill(outer, waits);
+        outer.querySelector("button.text").focus();
+      }
     };
     editor.addEventListener("submit", async (event) => {
       event.preventDefault();
       answered(await command(`replace ${row.dataset.row} ${input.value}`), editor.querySelector(".answer"), close);
     });
-    input.addEventListener("keydown", (event) => { if (event.key === "Escape") { close(); button.focus(); } });
+    input.addEventListener("keydown", (event) => { if (event.key === "Escape") close(); });
     button.replaceWith(editor);
     input.focus();
   }
@@ -184,7 +191,12 @@
   form.addEventListener("submit", async (event) => {
     event.preventDefault();
     const input = form.elements.row;
-    answered(await command(`insert ${caret} ${input.value}`), form.querySelector(".answer"), () => { input.value = ""; });
+    const place = caret;
+    const answer = await command(`insert ${place} ${input.value}`);
+    answered(answer, form.querySelector(".answer"), () => {
+      input.value = "";
+      if (place !== "end") ask("caret", { place: answer.reply[0].replace("row", "after") });
+    });
   });
 
   const lines = [];
@@ -219,22 +231,42 @@
   }
 
   function focused() {
-    const cell = document.activeElement;
-    if (!cell || cell.tagName !== "TD") return null;
-    const grid = cell.closest("figure");
-    return { key: grid.dataset.key, place: cellsOf(grid).indexOf(cell), cell };
+    const element = document.activeElement;
+    const act = element && element.dataset.act;
+    if (act) {
+      const row = element.closest("article");
+      return { element, selector: row ? `[data-row="${row.dataset.row}"] [data-act=${act}]` : `#head [data-act=${act}]` };
+    }
+    if (!element || element.tagName !== "TD") return null;
+    const grid = element.closest("figure");
+    return { key: grid.dataset.key, place: cellsOf(grid).indexOf(element), element };
   }
 
   function refocus(was) {
-    if (!was || was.cell.isConnected) return;
+    if (!was || was.element.isConnected) return;
+    if (was.selector) {
+      const button = document.querySelector(was.selector);
+      if (button) button.focus();
+      return;
+    }
     const holder = at("inputs-part").querySelector(`[data-input="${CSS.escape(was.key)}"] figure`);
     const cell = holder && cellsOf(holder)[was.place];
     if (cell) cell.focus();
   }
 
+  const unitShown = () => document.querySelector("[name=unit]:checked").value;
+
+  // What a cell takes, by the unit that is shown.
+  const wanted = {
+    unsigned: "A whole number without a sign is wanted here. For a negative one, switch the numbers to signed.",
+    signed: "A whole number is wanted here.",
+    hex: "A number in hex is wanted here: digits and the letters a to f alone.",
+    bits: "A number in bits is wanted here: the digits 0 and 1 alone.",
+  };
+
   // The number that a text is in the unit that is shown, or null.
   function numberOf(text, bits) {
-    const unit = document.querySelector("[name=unit]:checked").value;
+    const unit = unitShown();
     const forms = { unsigned: /^[0-9]+$/, signed: /^-?[0-9]+$/, hex: /^[0-9a-f]+$/i, bits: /^[01]+$/ };
     if (!forms[unit].test(text)) return null;
     if (unit === "hex") return BigInt("0x" + text);
@@ -255,16 +287,17 @@
     input.className = "editing";
     input.value = text;
     input.setAttribute("aria-label", `${key}, processor ${processor}`);
-    cell.replaceChildren(input);
+    cell.append(input);
     input.select();
     input.focus();
     let isDone = false;
     const close = () => {
       if (isDone) return;
       isDone = true;
+      at("cell-answer").innerHTML = "";
       const outer = cell.closest("[data-name]");
       outer.shown = null;
-      cell.replaceChildren(text);
+      input.remove();
       const waits = outer.waits;
       delete outer.waits;
       fill(outer, waits === undefined ? html.get(outer.dataset.name) : waits);
@@ -278,10 +311,14 @@
       if (event.key === "Escape") close();
       if (event.key !== "Enter") return;
       const value = numberOf(input.value.trim(), bits);
-      if (value === null || value < 0n) { input.setAttribute("aria-invalid", "true"); return; }
+      if (value === null || value < 0n) {
+        at("cell-answer").textContent = wanted[unitShown()];
+        input.setAttribute("aria-invalid", "true");
+        return;
+      }
       const answer = await command(`input ${key} ${processor} ${value}`);
-      at("refused").innerHTML = answer.refused || "";
-      if (answer.refused) input.setAttribute("aria-invalid", "true"); else close();
+      answered(answer, at("cell-answer"), close);
+      if (answer.refused) input.setAttribute("aria-invalid", "true");
     });
     return null;
   }
