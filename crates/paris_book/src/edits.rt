@@ -1,6 +1,6 @@
 //! Edits of a book: declarations, input data, and rows that are put in, taken out and replaced.
 
-ghost use Rattle.std.specs.Prelude.{◌≡◌, ◌<◌, ◌≤◌, length, Ok, Some, None, IfOk, IfErr, IfSome, IsSome, OnOk, OnErr, ◌+◌, if◌then◌else◌};
+ghost use Rattle.std.specs.Prelude.{◌≡◌, ◌<◌, ◌≤◌, length, Ok, Some, None, IfOk, IfErr, OnOk, OnErr, ◌+◌, if◌then◌else◌};
 ghost use Rattle.std.specs.Option.{option_or};
 ghost use Rattle.paris_names.specs.Faults.{IsFaultOf};
 ghost use Rattle.paris_names.specs.declared.faults.Fault.TheVariants as FaultCase;
@@ -8,10 +8,11 @@ ghost use Rattle.paris_names.specs.declared.ids.Spot.TheVariants as SpotCase;
 ghost use Rattle.paris_geometry.specs.Geometry.{is_geometry};
 ghost use Rattle.paris_board.specs.Board.{set_fault, field_fault, key_named, set_named};
 ghost use Rattle.paris_instr.specs.Resolve.{IsFittedTo};
-ghost use Rattle.paris_machine.specs.State.{find_row, input_of, place_of_spot, with_input};
+ghost use Rattle.paris_machine.specs.State.{find_row, place_of_spot, with_input};
 ghost use Rattle.paris_machine.specs.Edits.{HasEditsLeft, edit_fault, edit_answer, content_fault, accepted, input_fault, set_added, field_added, edited, input_set, known_rows, row_inserted, replaced_from};
 ghost use Rattle.paris_events.specs.declared.edits.Edit.TheVariants as EditCase;
 ghost use Rattle.paris_book.specs.Marks.{fresh_data};
+ghost use Rattle.paris_book.specs.Whole.{shape_in};
 
 use crate::book::Book;
 use crate::inputs::{
@@ -98,7 +99,8 @@ impl Book {
             Some(input) => given_input(self.alloc, input, number, from, values)?,
             None => unreachable!(),
         };
-        Ok(self.put_input(key, input)?)
+        self.put_input(key, input)?;
+        Ok(())
     }
 
     /// Gives a key numbers of one word each from a processor on, if there are edits left.
@@ -115,15 +117,15 @@ impl Book {
             Some(input) => given_words(self.alloc, input, number, from, words)?,
             None => unreachable!(),
         };
-        Ok(self.put_input(key, input)?)
+        self.put_input(key, input)?;
+        Ok(())
     }
 
     /// Gives a key the input data that the next edit makes for it, and ends that edit.
     fn put_input(&mut self, key: Key, input: Input) -> Result<(), AllocError>
         requires left { HasEditsLeft self.old }
         requires number { input.number ≡ self.old.edits + 1 }
-        requires there { IfSome (input_of self.old.inputs key) (λ old. (input.value.width ≡ old.value.width) × (length input.value.numbers ≡ length old.value.numbers)) }
-        requires declared { IsSome (input_of self.old.inputs key) }
+        requires shape { shape_in self.old.inputs key ≡ Some (input.value.width, length input.value.numbers) }
         ensures ok { OnOk result (self.new ≡ edited self.old self.old.board (with_input self.old.inputs key input) self.old.next (known_rows self.old)) }
         ensures err { OnErr result (self.new ≡ self.old) }
     {

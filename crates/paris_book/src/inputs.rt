@@ -1,6 +1,6 @@
 //! The input data: what each key holds at the start of the program.
 
-ghost use Rattle.std.specs.Prelude.{◌≡◌, ◌<◌, ◌≤◌, ◌+◌, ◌^◌, ◌==◌, ◌||◌, ◌++◌, ◌∷◌, [], ℕ, length, nat_lt, None, IfOk, IfErr, IsSome, vec_len, vec_capacity};
+ghost use Rattle.std.specs.Prelude.{◌≡◌, ◌<◌, ◌≤◌, ◌+◌, ◌^◌, ◌==◌, ◌||◌, ◌++◌, ◌∷◌, [], ℕ, false, length, nat_lt, None, IfOk, IfErr, IsSome, vec_len, vec_capacity};
 ghost use Rattle.paris_names.specs.Faults.{IsFaultOf};
 ghost use Rattle.paris_field.specs.Fields.{AllFit, overwritten};
 ghost use Rattle.std.specs.Option.{option_copied};
@@ -51,11 +51,11 @@ pub(crate) fn set_input(inputs: &mut InputData, key: &Key, input: Input)
     }
 }
 
-/// Whether so many numbers are none, or more than there are processors from one on.
-fn is_wrong_count(value: &FieldValue, from: u64, given: usize) -> bool
-    ensures { result ≡ (given == 0) || nat_lt (length value.now.numbers) (from + given) }
+/// Whether so many numbers are none, or more than there are processors from one on, of `count`.
+fn is_wrong_count(count: u64, from: u64, given: usize) -> bool
+    ensures value { result ≡ (given == 0) || nat_lt count (from + given) }
+    ensures within { result ≡ false → from + given ≤ count }
 {
-    let count = value.len() as u64;
     given == 0 || from > count || given as u64 > count - from
 }
 
@@ -65,7 +65,7 @@ fn values_fault(value: &FieldValue, from: u64, values: &[u128]) -> Option<Fault>
     ensures within { result ≡ None → from + length values.now ≤ length value.now.numbers }
     ensures fit { result ≡ None → AllFit value.now.width values.now }
 {
-    if is_wrong_count(value, from, values.len()) {
+    if is_wrong_count(value.len() as u64, from, values.len()) {
         return Some(Fault::WrongCount);
     }
     FieldValue::first_too_wide(value.width(), values).map(|i| Fault::TooWide(from + i as u64))
@@ -77,7 +77,7 @@ fn words_fault(value: &FieldValue, from: u64, words: &[u64]) -> Option<Fault>
     ensures within { result ≡ None → from + length words.now ≤ length value.now.numbers }
     ensures fit { result ≡ None → AllFit value.now.width words.now }
 {
-    if is_wrong_count(value, from, words.len()) {
+    if is_wrong_count(value.len() as u64, from, words.len()) {
         return Some(Fault::WrongCount);
     }
     FieldValue::first_word_too_wide(value.width(), words).map(|i| Fault::TooWide(from + i as u64))
