@@ -16,7 +16,8 @@ ghost use Rattle.paris_book.specs.Whole.{shape_in};
 
 use crate::book::Book;
 use crate::inputs::{
-    declare_flags, declare_input, given_input, given_words, input_at, push_field, push_flags, set_input,
+    declare_flags, declare_input, given_input, given_words, input_at, push_field, push_flags,
+    set_input,
 };
 use crate::marks::{end_edit, unsettled_by_replace};
 use crate::rows::RowData;
