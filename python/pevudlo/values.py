@@ -25,9 +25,13 @@ LINE_BYTES = 65_000
 
 @dataclass(frozen=True)
 class Pending:
-    """A value that isn't there: this row writes the key last, and is unsettled. It is no number."""
+    """A value that isn't there: this row writes the key last, and is unsettled. It is no number, true or false."""
 
     row: int
+
+    def __bool__(self) -> bool:
+        """Raises TypeError, as of an array: a test of a value that isn't there would pass unnoticed."""
+        raise TypeError(f"the value is pending: row {self.row} writes it last, and is unsettled")
 
 
 class ValueList(list[Any]):

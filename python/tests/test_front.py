@@ -3,6 +3,7 @@
 from __future__ import annotations
 
 import os
+import pty
 import subprocess
 from pathlib import Path
 
@@ -28,6 +29,18 @@ def test_scripts() -> None:
     ran = paris(stdin=FIRST.read_text())
     assert (ran.returncode, ran.stdout) == (0, TRANSCRIPT)
     assert paris(stdin="delete 9\n").returncode == 1
+
+
+def test_a_terminal_is_told_what_is_waited_for() -> None:
+    ours, theirs = pty.openpty()
+    with subprocess.Popen([PARIS], stdin=theirs, stdout=subprocess.PIPE, stderr=theirs, text=True) as child:
+        os.close(theirs)
+        told = os.read(ours, 1000).decode()
+        os.write(ours, b"list\n\x04")
+        written, _ = child.communicate(timeout=60)
+    os.close(ours)
+    assert "Ctrl-D ends it" in told and "./paris prompt" in told
+    assert (written, child.returncode) == ("rows 0\n", 0)
 
 
 @pytest.mark.parametrize(

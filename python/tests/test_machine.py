@@ -120,6 +120,8 @@ def test_values_that_are_pending_are_no_numbers(machine: Machine) -> None:
         signed(machine["c"], 8)
     with pytest.raises(TypeError):
         int(machine["c"])  # type: ignore[arg-type]
+    with pytest.raises(TypeError, match=f"pending: row {row} "):
+        bool(machine["c"])
     assert machine.settle() == 1
     assert numbers(machine["c"]) == [0, 0, 0, 0]
     assert numbers(machine.show("c", START)) == numbers(machine.show("c", after(row))) == [0] * 4

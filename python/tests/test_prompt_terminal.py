@@ -3,6 +3,7 @@
 from __future__ import annotations
 
 import os
+import re
 import signal
 import time
 from collections.abc import Iterator
@@ -11,7 +12,8 @@ from pathlib import Path
 import pytest
 from terminals import PROMPT, Terminal, children_of
 
-from pevudlo.program import ROOT
+from pevudlo.pipe import Pipe
+from pevudlo.program import ROOT, find
 from pevudlo.prompt_help import OWN_WORDS
 from pevudlo.prompt_lines import tidy
 from pevudlo.reference import ENTRIES
@@ -174,6 +176,20 @@ def test_the_end_comes_at_once_where_all_is_saved(terminal: Terminal, tmp_path: 
     assert terminal.answer(f"save {tmp_path / 'one.paris'}")[0].endswith("1 accepted command is saved")
     terminal.press("quit\n")
     assert terminal.wait() == 0
+
+
+def test_the_lesson_begins_anew_behind_commands_that_are_not_saved(terminal: Terminal) -> None:
+    declare(terminal)
+    assert terminal.answer("insert end set-context S") == ["row 1"]
+    lesson = (ROOT / "docs/LESSON.md").read_text(encoding="utf-8")
+    (block,) = re.findall(r"^```text\n(new\n.*?)^```$", lesson, re.M | re.S)
+    seen = {line: terminal.answer(line.replace(" examples/", f" {ROOT}/examples/")) for line in block.splitlines()}
+    look = "cell after 17"
+    with Pipe(find()) as pipe:
+        for line in (ROOT / "examples/life.paris").read_text(encoding="utf-8").splitlines():
+            pipe.ask(line)
+        values = pipe.ask(f"show {look}")[0]
+    assert " ".join(seen[f"grid {look}"][1:]).split() == values.split(" ")[1:]
 
 
 def test_new_is_asked_for_twice_where_commands_are_not_saved(terminal: Terminal) -> None:

@@ -3,6 +3,7 @@
 
 mod program;
 mod words;
+mod workers;
 
 pub use program::{Tallies, refuse_words, run_words};
 pub use words::{WordsFault, read_workers};

@@ -10,6 +10,7 @@ ghost use Rattle.paris_cli.specs.Words.{AreTaken, refusal_line, refusal_status};
 ghost use Rattle.paris_names.specs.declared.limits.TheConstants.{MAX_WORKERS};
 
 use crate::words::{WordsFault, read_workers};
+use crate::workers::Workers;
 use paris_calls::{Tally, write_out};
 use paris_session::{RunFault, run_script};
 use std::io::{Read, Write};
@@ -102,7 +103,8 @@ fn run<H: Threads + Wait + Sync + AllocGlobal, R: Read, W: Write, E: Write>(
         (E.contents errors.old) (E.contents errors.new) tallies.new.run tallies.new.errors result }
     ensures status { result ≢ 2 }
 {
-    match run_script(rt, rt.alloc(), reader, writer, workers, &mut tallies.run) {
+    let workers = Workers { rt, count: workers };
+    match run_script(rt, &workers, rt.alloc(), reader, writer, &mut tallies.run) {
         Ok(summary) => { if summary.refusals == 0 { 0 } else { 1 } }
         Err(fault) => {
             report(rt, errors, &mut tallies.errors, run_fault_line(fault));

@@ -4,7 +4,7 @@ ghost use Rattle.std.specs.Prelude.{Some};
 
 use paris_calls::Tally;
 use paris_cli::{Tallies, read_workers, run_words};
-use paris_session::{RunFault, Summary, run_counted};
+use paris_session::{Alone, RunFault, Summary, run_counted, transcript};
 use std::alloc::Global;
 use std::io;
 use std::io::{ErrorKind, Read, Write};
@@ -344,8 +344,19 @@ fn counts_read_calls(rt: HostRuntime) {
         let mut out = Vec::new(rt.alloc());
         let mut tally = Tally::new();
         let mut input = slow_reader(b"take\n", 1);
-        let summary = run_counted(&rt, rt.alloc(), &mut input, &mut out, 2, bound, &mut tally);
+        let alloc = rt.alloc();
+        let summary = run_counted(&rt, &Alone, alloc, &mut input, &mut out, bound, &mut tally);
         assert_eq!(rt; summary, want);
         assert_eq!(rt; tally.reads(), bound);
     }
+}
+
+#[test]
+fn tells_a_whole_script_at_once(rt: HostRuntime) -> Result<(), Fail> {
+    let script =
+        b"set S 4\nfield a S 8\n\ninsert end u-move-constant-1L a 5 8\nsettle\n# note\nshow a end\nset S 4\ntake";
+    let want = b"ok\nok\nrow 1\nsettled 1\nvalues 5 5 5 5\nrefused 3\nnothing\n";
+    let text = transcript(rt.alloc(), script)?;
+    assert_eq!(rt; text.as_slice(), want.as_slice());
+    Ok(())
 }

@@ -26,21 +26,21 @@ use Rattle.paris_machine.specs.declared.events.Shown.{Shown}
 use Rattle.paris_replies.specs.Replies.{ok_text, edit_text, order_text, nothing_text, verdict_text, list_text, faults_text, settled_text}
 use Rattle.paris_session.specs.Transcript.{Sitting, with_command, with_book, fault_answer, answer_to_edit, answer_to_edit_by, answer_to_take, answer_to_take_by, answer_to_bring, answer_to_bring_by, answer_to_release, answer_to_list, answer_to_faults, answer_to_settle, shown_text, answer_to_show, answer_to_show_by, order_at, answer_to_read, longest_line, answer}
 
-pub edit_accepted : (s : Sitting) (e : Edit) (new : State) (reply : EditReply) (text : List ℕ) → edit_fault s.state e ≡ None
-    → reply ≡ edit_answer s.state e → new ≡ accepted s.state e → text ≡ edit_text reply → (with_book s new s.tray, text) ≡ answer_to_edit s e
+pub edit_accepted : (s new : Sitting) (e : Edit) (reply : EditReply) (text : List ℕ) → edit_fault s.state e ≡ None
+    → reply ≡ edit_answer s.state e → new ≡ with_book s (accepted s.state e) s.tray → text ≡ edit_text reply → (new, text) ≡ answer_to_edit s e
 unfolding answer_to_edit
-edit_accepted s e new reply text none answer after said =
-    ap (λ (x : State). (with_book s x s.tray, text)) after ∙ ap (λ (t : List ℕ). (with_book s (accepted s.state e) s.tray, t)) (said ∙ ap edit_text answer)
+edit_accepted s new e reply text none answer after said =
+    ap (λ (x : Sitting). (x, text)) after ∙ ap (λ (t : List ℕ). (with_book s (accepted s.state e) s.tray, t)) (said ∙ ap edit_text answer)
     ∙ ap (answer_to_edit_by s e) (sym none)
 
-pub edit_refused : (s : Sitting) (e : Edit) (fault : Fault) (out : Sitting × List ℕ) → IsFaultOf (edit_fault s.state e) fault
-    → (fault ≡ NoMemory → ⊥) → out ≡ fault_answer s fault → out ≡ answer_to_edit s e
+pub edit_refused : (s new : Sitting) (e : Edit) (fault : Fault) (out : Sitting × List ℕ) → new ≡ s → IsFaultOf (edit_fault s.state e) fault
+    → (fault ≡ NoMemory → ⊥) → out ≡ fault_answer new fault → out ≡ answer_to_edit s e
 unfolding answer_to_edit
-edit_refused s e fault out due other said = go (edit_fault s.state e) due
+edit_refused s new e fault out same due other said = go (edit_fault s.state e) due
   where
     go : (o : Option Fault) → IsFaultOf o fault → out ≡ answer_to_edit_by s e o
     go None h = absurd (other h)
-    go (Some f) h = said ∙ ap (fault_answer s) h
+    go (Some f) h = said ∙ ap (λ (x : Sitting). fault_answer x fault) same ∙ ap (fault_answer s) h
 
 pub take_none : (s : Sitting) (new : State) (text : List ℕ) → None ≡ take_reply s.state → new ≡ after_take s.state → text ≡ nothing_text
     → (with_book s new s.tray, text) ≡ answer_to_take s
@@ -89,11 +89,11 @@ pub faults_listed : (s : Sitting) (faults : List RowFault) (text : List ℕ) →
 unfolding answer_to_faults
 faults_listed s faults text are said = ap (λ (t : List ℕ). (s, t)) (said ∙ ap faults_text are)
 
-pub rows_settled : (s : Sitting) (new : State) (ran : ℕ) (text : List ℕ) → new ≡ all_settled s.state → ran ≡ unsettled_rows s.state.rows → text ≡ settled_text ran
-    → (with_book s new s.tray, text) ≡ answer_to_settle s
+pub rows_settled : (s new : Sitting) (ran : ℕ) (text : List ℕ) → new ≡ with_book s (all_settled s.state) s.tray → ran ≡ unsettled_rows s.state.rows
+    → text ≡ settled_text ran → (new, text) ≡ answer_to_settle s
 unfolding answer_to_settle
 rows_settled s new ran text after count said =
-    ap (λ (x : State). (with_book s x s.tray, text)) after ∙ ap (λ (t : List ℕ). (with_book s (all_settled s.state) s.tray, t)) (said ∙ ap settled_text count)
+    ap (λ (x : Sitting). (x, text)) after ∙ ap (λ (t : List ℕ). (with_book s (all_settled s.state) s.tray, t)) (said ∙ ap settled_text count)
 
 -- a line that is no command, where memory isn't what is wanted
 pub line_refused : (s : Sitting) (line : List ℕ) (fault : Fault) (out : Sitting × List ℕ) → IsRefusal (command_of line) fault

@@ -2,3 +2,4 @@ pub mod AnswerLemmas
 pub mod ScriptLemmas
 pub mod LineLemmas
 pub mod Reading
+pub mod WholeLemmas

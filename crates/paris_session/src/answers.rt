@@ -1,21 +1,25 @@
 //! Answers the lines of a script from a book.
 
-ghost use Rattle.std.specs.Prelude.{◌≡◌, ℕ, ◌+◌, ◌^◌, ◌<◌, ◌≤◌, List, length, IfOk, OnOk, option_map, slice_get, nat_lt};
+ghost use Rattle.std.specs.Prelude.{◌≡◌, ℕ, ◌+◌, ◌^◌, ◌<◌, ◌≤◌, List, length, None, Ok, Err, IfOk, IfErr, OnOk, option_map, slice_get, nat_lt};
 ghost use Rattle.paris_text.specs.CommandReading.{command_of};
 ghost use Rattle.paris_book.specs.Among.{look_shown};
-ghost use Rattle.paris_session.specs.Transcript.{longest_line, shown_text, start, with_command, fault_answer, answer_to_edit, answer_to_take, answer_to_bring, answer_to_release, answer_to_show, answer_to_list, answer_to_faults, answer_to_settle, order_at, answer_to_command, answer_to_read, answer};
+ghost use Rattle.paris_names.specs.Faults.{IsFaultOf};
+ghost use Rattle.paris_machine.specs.Edits.{edit_fault, edit_answer, accepted};
+ghost use Rattle.paris_machine.specs.Lists.{list_of};
+ghost use Rattle.paris_machine.specs.Settling.{all_settled, unsettled_rows};
+ghost use Rattle.paris_machine.specs.Show.{show_reply};
+ghost use Rattle.paris_session.specs.Transcript.{longest_line, shown_text, start, with_book, with_command, fault_answer, answer_to_edit, answer_to_take, answer_to_bring, answer_to_release, answer_to_show, answer_to_list, answer_to_faults, answer_to_settle, order_at, answer_to_command, answer_to_read, answer};
 ghost use Rattle.paris_session.specs.Progress.{IsCounted};
-ghost use Rattle.paris_names.specs.declared.limits.TheConstants.{MAX_WORKERS};
 
-use paris_book::{Book, Look};
-use paris_events::Edit;
-use paris_exec::{OpenGate, Order, execute};
+use crate::settlers::Settler;
+use paris_book::{Book, Look, SettleFault};
+use paris_events::{Edit, EditReply, RowLook};
+use paris_exec::{Order, execute};
 use paris_names::limits::MAX_LINE;
-use paris_names::{Fault, KeyName, Spot};
+use paris_names::{Fault, Items, KeyName, Spot};
 use paris_text::{Command, read_command};
 use std::alloc::{AllocError, Global};
 use std::marker::Model;
-use std::thread::Threads;
 
 /// How many commands a run answered, and how many of them it refused.
 #[derive(Clone, Copy, Debug, PartialEq, Eq)]
@@ -44,19 +48,17 @@ fn look_text(alloc: Global, look: &Look<'_>) -> Result<Vec<u8>, AllocError>
     }
 }
 
-/// A book, the orders that this run took of it, how many workers settle it, from 1 to 16, and how many commands were answered and
-/// how many of them refused. A clause sees the book's state, the tasks of the orders, and the counts of commands.
+/// A book, the orders that this run took of it, and how many commands were answered and how many of them refused. A clause sees the
+/// book's state, the tasks of the orders, and the counts of commands.
 #[derive(Drop)]
 pub struct Session {
     book: Book,
     tray: Vec<Order>,
-    workers: usize,
     commands: u64,
     refusals: u64,
 }
 
 impl Model for Session {
-    ghost use Rattle.paris_names.specs.declared.limits.TheConstants.{MAX_WORKERS};
     ghost use Rattle.std.specs.Prelude.{◌≤◌, length};
     ghost use Rattle.paris_session.specs.Transcript.{Sitting};
 
@@ -64,19 +66,17 @@ impl Model for Session {
 
     ghost view = { λ s. record { state = s.book; tray = s.tray.items; commands = s.commands; refusals = s.refusals } };
 
-    ghost invariant = { λ s. (s.refusals ≤ s.commands) × (length s.tray.items ≤ s.commands) × (1 ≤ s.workers) × (s.workers ≤ MAX_WORKERS) };
+    ghost invariant = { λ s. (s.refusals ≤ s.commands) × (length s.tray.items ≤ s.commands) };
 }
 
 impl Session {
     /// A session with an empty book and no orders.
-    pub fn new(alloc: Global, workers: usize) -> Session
-        requires { (1 ≤ workers) × (workers ≤ MAX_WORKERS) }
+    pub fn new(alloc: Global) -> Session
         ensures { result ≡ start }
     {
         Session {
             book: Book::new(alloc),
             tray: Vec::new(alloc),
-            workers,
             commands: 0,
             refusals: 0,
         }
@@ -115,12 +115,49 @@ impl Session {
         Ok(text)
     }
 
+    /// Makes an edit that no line says: it is no command, and leaves the counts. What is refused leaves the session as it was.
+    pub fn edit(&mut self, edit: Edit) -> Result<EditReply, Fault>
+        ensures ok { IfOk result (λ answer. (edit_fault self.old.state edit ≡ None)
+            × (answer ≡ edit_answer self.old.state edit)
+            × (self.new ≡ with_book self.old (accepted self.old.state edit) self.old.tray)) }
+        ensures err { IfErr result (λ fault. (self.new ≡ self.old) × IsFaultOf (edit_fault self.old.state edit) fault) }
+    {
+        self.book.edit(edit)
+    }
+
+    /// Settles the book, with no line that says so: it is no command, and leaves the counts. The answer is how many rows were
+    /// unsettled. The error says that memory was refused, and the session can be settled again.
+    pub fn settle<S: Settler>(&mut self, settler: &S) -> Result<u64, SettleFault>
+        requires { S.can_settle settler.now }
+        ensures count { IfOk result (λ ran. ran ≡ unsettled_rows self.old.state.rows) }
+        ensures settled { OnOk result (self.new ≡ with_book self.old (all_settled self.old.state) self.old.tray) }
+        ensures left { IfErr result (λ fault. unsettled_rows self.new.state.rows + fault.ran ≡ unsettled_rows self.old.state.rows) }
+        ensures fewer { IfErr result (λ fault. fault.ran < unsettled_rows self.old.state.rows) }
+    {
+        settler.settle(&mut self.book)
+    }
+
+    /// What a key holds at a place of the program: its value, lent, or the row that is pending.
+    pub fn look(&self, name: KeyName, spot: Spot) -> Result<Look<'_>, Fault>
+        ensures shown { IfOk result (λ look. Ok (look_shown look) ≡ show_reply self.now.state name spot) }
+        ensures refused { IfErr result (λ fault. Err fault ≡ show_reply self.now.state name spot) }
+    {
+        self.book.show(name, spot)
+    }
+
+    /// The rows of the program.
+    pub fn rows(&self) -> Result<Items<RowLook>, AllocError>
+        ensures { IfOk result (λ looks. looks ≡ list_of self.now.state) }
+    {
+        self.book.list()
+    }
+
     /// Answers a command that is an edit.
     fn answer_edit(&mut self, edit: Edit) -> Result<Vec<u8>, AllocError>
         requires { IsCounted self.old }
         ensures { IfOk result (λ text. (self.new, text.items) ≡ answer_to_edit self.old edit) }
     {
-        match self.book.edit(edit) {
+        match self.edit(edit) {
             Ok(reply) => paris_replies::edit_text(self.alloc(), reply),
             Err(fault) => {
                 if fault.is_no_memory() {
@@ -194,7 +231,7 @@ impl Session {
         requires { IsCounted self.old }
         ensures { IfOk result (λ text. (self.new, text.items) ≡ answer_to_show self.old name spot) }
     {
-        match self.book.show(name, spot) {
+        match self.look(name, spot) {
             Ok(look) => look_text(self.alloc(), &look),
             Err(fault) => self.refuse(fault),
         }
@@ -205,7 +242,7 @@ impl Session {
     fn answer_list(&self) -> Result<Vec<u8>, AllocError>
         ensures { IfOk result (λ text. (self.now, text.items) ≡ answer_to_list self.now) }
     {
-        let looks = self.book.list()?;
+        let looks = self.rows()?;
         paris_replies::list_text(self.alloc(), looks.as_slice())
     }
 
@@ -220,22 +257,24 @@ impl Session {
 
     /// Answers `settle`.
     #[tactic(auto, unfolding(crate::specs::Transcript::answer_to_settle))]
-    fn answer_settle<H: Threads + Sync>(&mut self, rt: &H) -> Result<Vec<u8>, AllocError>
+    fn answer_settle<S: Settler>(&mut self, settler: &S) -> Result<Vec<u8>, AllocError>
+        requires { S.can_settle settler.now }
         ensures { IfOk result (λ text. (self.new, text.items) ≡ answer_to_settle self.old) }
     {
-        match self.book.settle_par(rt, self.workers, &OpenGate) {
+        match self.settle(settler) {
             Ok(ran) => paris_replies::settled_text(self.alloc(), ran),
             Err(_) => Err(AllocError),
         }
     }
 
     /// Answers a command.
-    fn answer_command<H: Threads + Sync>(
+    fn answer_command<S: Settler>(
         &mut self,
-        rt: &H,
+        settler: &S,
         command: Command,
     ) -> Result<Vec<u8>, AllocError>
-        requires { IsCounted self.old }
+        requires counted { IsCounted self.old }
+        requires settler { S.can_settle settler.now }
         ensures { IfOk result (λ text. (self.new, text.items) ≡ answer_to_command self.old command) }
     {
         match command {
@@ -246,17 +285,18 @@ impl Session {
             Command::Show { key, spot } => self.answer_show(key, spot),
             Command::List => self.answer_list(),
             Command::Faults => self.answer_faults(),
-            Command::Settle => self.answer_settle(rt),
+            Command::Settle => self.answer_settle(settler),
         }
     }
 
     /// Answers a line by the reply to its command, and one that is no command by the column from which it is none.
-    fn answer_line<H: Threads + Sync>(&mut self, rt: &H, line: &[u8]) -> Result<Vec<u8>, AllocError>
-        requires { IsCounted self.old }
+    fn answer_line<S: Settler>(&mut self, settler: &S, line: &[u8]) -> Result<Vec<u8>, AllocError>
+        requires counted { IsCounted self.old }
+        requires settler { S.can_settle settler.now }
         ensures { IfOk result (λ text. (self.new, text.items) ≡ answer_to_read self.old (command_of line.now)) }
     {
         match read_command(self.alloc(), line) {
-            Ok(command) => self.answer_command(rt, command),
+            Ok(command) => self.answer_command(settler, command),
             Err(fault) => {
                 if fault.is_no_memory() {
                     return Err(AllocError);
@@ -269,8 +309,9 @@ impl Session {
     /// Answers a line: an empty one and one that begins with `#` by nothing, one that is too long by its first column past the
     /// longest line, and every other one by the reply to its command.
     #[tactic(auto, unfolding(crate::specs::Transcript::answer))]
-    pub fn answer<H: Threads + Sync>(&mut self, rt: &H, line: &[u8]) -> Result<Vec<u8>, AllocError>
-        requires { self.old.commands < 2 ^ 62 }
+    pub fn answer<S: Settler>(&mut self, settler: &S, line: &[u8]) -> Result<Vec<u8>, AllocError>
+        requires room { self.old.commands < 2 ^ 62 }
+        requires settler { S.can_settle settler.now }
         ensures { IfOk result (λ text. (self.new, text.items) ≡ answer self.old line.now) }
     {
         if line.is_empty() || line[0] == b'#' {
@@ -280,6 +321,6 @@ impl Session {
         if is_overlong(line) {
             return self.refuse(Fault::Syntax(MAX_LINE as u64 + 1));
         }
-        self.answer_line(rt, line)
+        self.answer_line(settler, line)
     }
 }

@@ -7,15 +7,14 @@ ghost use Rattle.paris_calls.specs.Texts.{WritesFront};
 ghost use Rattle.paris_session.specs.Transcript.{answer, start};
 ghost use Rattle.paris_session.specs.Progress.{open_line, said, sitting_at};
 ghost use Rattle.paris_session.specs.Run.{most_reads, IsWriteFault, HasCause, HasEnded, EndsWell, StopsShort};
-ghost use Rattle.paris_names.specs.declared.limits.TheConstants.{MAX_WORKERS};
 
 use crate::answers::{Session, Summary};
+use crate::settlers::Settler;
 use paris_calls::{Given, Tally, read_once, write_out};
 use paris_names::limits::{MAX_LINE, MAX_READS};
 use std::alloc::Global;
 use std::io::{Read, Write};
 use std::sync::Wait;
-use std::thread::Threads;
 
 /// Why a run stops before its script ends.
 #[derive(Clone, Copy, Debug, PartialEq, Eq)]
@@ -57,26 +56,26 @@ struct Script {
 }
 
 impl Script {
-    fn new(alloc: Global, workers: usize) -> Script
-        requires { (1 ≤ workers) × (workers ≤ MAX_WORKERS) }
+    fn new(alloc: Global) -> Script
         ensures session { result.session ≡ start }
         ensures line { result.line.items ≡ [] }
     {
         Script {
-            session: Session::new(alloc, workers),
+            session: Session::new(alloc),
             line: Vec::new(alloc),
         }
     }
 
     /// Answers the line that has begun, and begins a new one.
-    fn end_line<H: Threads + Sync>(&mut self, rt: &H) -> Result<Vec<u8>, RunFault>
+    fn end_line<S: Settler>(&mut self, settler: &S) -> Result<Vec<u8>, RunFault>
         requires room { self.old.session.commands < 2 ^ 62 }
+        requires settler { S.can_settle settler.now }
         ensures answer { IfOk result (λ text. (self.new.session, text.items) ≡ answer self.old.session self.old.line.items) }
         ensures line { OnOk result (self.new.line.items ≡ []) }
         ensures count { OnOk result (self.new.session.commands ≤ self.old.session.commands + 1) }
         ensures err { IfErr result (λ e. e ≡ RunFault.NoMemory) }
     {
-        match self.session.answer(rt, self.line.as_slice()) {
+        match self.session.answer(settler, self.line.as_slice()) {
             Ok(text) => {
                 self.line.clear();
                 Ok(text)
@@ -86,14 +85,16 @@ impl Script {
     }
 
     /// Takes one byte, and answers the line that it ends.
-    fn take_byte<H: Threads + Wait + Sync, W: Write>(
+    fn take_byte<H: Wait, S: Settler, W: Write>(
         &mut self,
         rt: &H,
+        settler: &S,
         writer: &mut W,
         tally: &mut Tally,
         byte: u8,
     ) -> Result<(), RunFault>
         requires room { self.old.session.commands < 2 ^ 62 }
+        requires settler { S.can_settle settler.now }
         ensures session { OnOk result (self.new.session ≡ sitting_at self.old.session self.old.line.items (byte ∷ [])) }
         ensures line { OnOk result (self.new.line.items ≡ open_line self.old.line.items (byte ∷ [])) }
         ensures written { OnOk result (Appends (W.contents writer.old) (W.contents writer.new)
@@ -106,7 +107,7 @@ impl Script {
         ensures count { OnOk result (self.new.session.commands ≤ self.old.session.commands + 1) }
     {
         if byte == b'\n' {
-            let reply = self.end_line(rt)?;
+            let reply = self.end_line(settler)?;
             return write_reply(rt, writer, tally, reply.as_slice());
         }
         if self.line.len() <= MAX_LINE && self.line.push(byte).is_err() {
@@ -116,14 +117,16 @@ impl Script {
     }
 
     /// Takes some bytes, and answers each line that they end.
-    fn take_bytes<H: Threads + Wait + Sync, W: Write>(
+    fn take_bytes<H: Wait, S: Settler, W: Write>(
         &mut self,
         rt: &H,
+        settler: &S,
         writer: &mut W,
         tally: &mut Tally,
         bytes: &[u8],
     ) -> Result<(), RunFault>
         requires room { self.old.session.commands + length bytes.now < 2 ^ 62 }
+        requires settler { S.can_settle settler.now }
         ensures session { OnOk result (self.new.session ≡ sitting_at self.old.session self.old.line.items bytes.now) }
         ensures line { OnOk result (self.new.line.items ≡ open_line self.old.line.items bytes.now) }
         ensures written { OnOk result (Appends (W.contents writer.old) (W.contents writer.new)
@@ -136,19 +139,21 @@ impl Script {
         ensures count { OnOk result (self.new.session.commands ≤ self.old.session.commands + length bytes.now) }
     {
         for byte in bytes {
-            self.take_byte(rt, writer, tally, *byte)?;
+            self.take_byte(rt, settler, writer, tally, *byte)?;
         }
         Ok(())
     }
 
     /// Answers the line that has begun, as the last one.
-    fn finish<H: Threads + Wait + Sync, W: Write>(
+    fn finish<H: Wait, S: Settler, W: Write>(
         &mut self,
         rt: &H,
+        settler: &S,
         writer: &mut W,
         tally: &mut Tally,
     ) -> Result<Summary, RunFault>
         requires room { self.old.session.commands < 2 ^ 62 }
+        requires settler { S.can_settle settler.now }
         ensures ok { IfOk result (λ summary. let last = answer self.old.session self.old.line.items in
             Appends (W.contents writer.old) (W.contents writer.new) last.1
             × (summary ≡ record { commands = last.0.commands; refusals = last.0.refusals })) }
@@ -157,7 +162,7 @@ impl Script {
         ensures reads { SameReads tally.old tally.new }
         ensures kept { OnOk result (tally.new ≡ tally.old) }
     {
-        let reply = self.end_line(rt)?;
+        let reply = self.end_line(settler)?;
         write_reply(rt, writer, tally, reply.as_slice())?;
         Ok(self.session.summary())
     }
@@ -166,19 +171,18 @@ impl Script {
 /// Room for the bytes of one read.
 const ROOM: usize = 4096;
 
-/// Reads a script to its end, by at most `bound` reads, and writes its transcript, with at most so many workers. The tally says
-/// what came of it.
-pub fn run_counted<H: Threads + Wait + Sync, R: Read, W: Write>(
+/// Reads a script to its end, by at most `bound` reads, and writes its transcript. The tally says what came of it.
+pub fn run_counted<H: Wait, S: Settler, R: Read, W: Write>(
     rt: &H,
+    settler: &S,
     alloc: Global,
     reader: &mut R,
     writer: &mut W,
-    workers: usize,
     bound: u64,
     tally: &mut Tally,
 ) -> Result<Summary, RunFault>
-    requires workers { (1 ≤ workers) × (workers ≤ MAX_WORKERS) }
     requires bound { bound ≤ most_reads }
+    requires settler { S.can_settle settler.now }
     requires fresh { tally.old ≡ no_marks }
     ensures ended { OnOk result (HasEnded tally.new) }
     ensures ok { IfOk result (λ summary. EndsWell (R.remaining reader.old) (R.remaining reader.new)
@@ -187,12 +191,12 @@ pub fn run_counted<H: Threads + Wait + Sync, R: Read, W: Write>(
         (W.contents writer.old) (W.contents writer.new) fault) }
     ensures fault { IfErr result (λ fault. HasCause fault tally.new bound) }
 {
-    let mut script = Script::new(alloc, workers);
+    let mut script = Script::new(alloc);
     let mut room = [0u8; ROOM];
     for _ in 0..bound {
         match read_once(reader, tally, &mut room) {
-            Given::Bytes(n) => script.take_bytes(rt, writer, tally, &room[..n])?,
-            Given::End => return script.finish(rt, writer, tally),
+            Given::Bytes(n) => script.take_bytes(rt, settler, writer, tally, &room[..n])?,
+            Given::End => return script.finish(rt, settler, writer, tally),
             Given::Interrupted => {}
             Given::Failed => return Err(RunFault::Read),
         }
@@ -200,17 +204,16 @@ pub fn run_counted<H: Threads + Wait + Sync, R: Read, W: Write>(
     Err(RunFault::TooLong)
 }
 
-/// Reads a script to its end, and writes its transcript, which is the same for every number of workers. The tally says what came of
-/// it.
-pub fn run_script<H: Threads + Wait + Sync, R: Read, W: Write>(
+/// Reads a script to its end, and writes its transcript, which is the same whoever settles. The tally says what came of it.
+pub fn run_script<H: Wait, S: Settler, R: Read, W: Write>(
     rt: &H,
+    settler: &S,
     alloc: Global,
     reader: &mut R,
     writer: &mut W,
-    workers: usize,
     tally: &mut Tally,
 ) -> Result<Summary, RunFault>
-    requires workers { (1 ≤ workers) × (workers ≤ MAX_WORKERS) }
+    requires settler { S.can_settle settler.now }
     requires fresh { tally.old ≡ no_marks }
     ensures ended { OnOk result (HasEnded tally.new) }
     ensures ok { IfOk result (λ summary. EndsWell (R.remaining reader.old) (R.remaining reader.new)
@@ -219,5 +222,5 @@ pub fn run_script<H: Threads + Wait + Sync, R: Read, W: Write>(
         (W.contents writer.old) (W.contents writer.new) fault) }
     ensures fault { IfErr result (λ fault. HasCause fault tally.new most_reads) }
 {
-    run_counted(rt, alloc, reader, writer, workers, MAX_READS, tally)
+    run_counted(rt, settler, alloc, reader, writer, MAX_READS, tally)
 }

@@ -1,0 +1,33 @@
+//! Who settles the book of a session.
+
+ghost use Rattle.std.specs.Prelude.{◌≡◌, ◌<◌, ◌+◌, IfOk, IfErr, OnOk};
+ghost use Rattle.paris_machine.specs.Settling.{all_settled, unsettled_rows};
+
+use paris_book::{Book, SettleFault};
+
+/// One who settles books.
+pub trait Settler {
+    /// What one needs to settle a book.
+    ghost can_settle: { Self → Type 0 };
+
+    /// Gives up the orders that are out, and runs every unsettled row. The answer is how many rows were unsettled. The error says that
+    /// memory was refused: so many rows more are settled, and the book can be settled again.
+    fn settle(&self, book: &mut Book) -> Result<u64, SettleFault>
+        requires { can_settle self.now }
+        ensures count { IfOk result (λ ran. ran ≡ unsettled_rows book.old.rows) }
+        ensures settled { OnOk result (book.new ≡ all_settled book.old) }
+        ensures left { IfErr result (λ fault. unsettled_rows book.new.rows + fault.ran ≡ unsettled_rows book.old.rows) }
+        ensures fewer { IfErr result (λ fault. fault.ran < unsettled_rows book.old.rows) };
+}
+
+/// One who runs one row after another, in the caller's thread.
+#[derive(Clone, Copy, PartialEq, Eq, Debug)]
+pub struct Alone;
+
+impl Settler for Alone {
+    ghost can_settle = { λ _. Unit {0} };
+
+    fn settle(&self, book: &mut Book) -> Result<u64, SettleFault> {
+        book.settle()
+    }
+}
