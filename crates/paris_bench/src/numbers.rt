@@ -76,7 +76,71 @@ impl Work for Writing {
     }
 }
 
-/// Measures both ways at a size.
+/// A value that is given other numbers, of which it is looked whether each fits.
+#[derive(Drop)]
+struct Giving {
+    numbers: Vec<u128>,
+    value: FieldValue,
+}
+
+impl Work for Giving {
+    fn run(&mut self, _alloc: Global) -> Result<(), AllocError> {
+        let width = self.value.width();
+        if self.numbers.len() > self.value.len()
+            || FieldValue::first_too_wide(width, &self.numbers).is_some()
+        {
+            return Ok(());
+        }
+        self.value = self.value.with_numbers(0, &self.numbers)?;
+        Ok(())
+    }
+
+    fn checksum(&self) -> u64 {
+        checksum_of(self.value.planes())
+    }
+}
+
+/// The same with numbers of one word each.
+#[derive(Drop)]
+struct GivingWords {
+    words: Vec<u64>,
+    value: FieldValue,
+}
+
+impl Work for GivingWords {
+    fn run(&mut self, _alloc: Global) -> Result<(), AllocError> {
+        let width = self.value.width();
+        if self.words.len() > self.value.len()
+            || FieldValue::first_word_too_wide(width, &self.words).is_some()
+        {
+            return Ok(());
+        }
+        self.value = self.value.with_words(0, &self.words)?;
+        Ok(())
+    }
+
+    fn checksum(&self) -> u64 {
+        checksum_of(self.value.planes())
+    }
+}
+
+/// Measures how a value is given numbers, from wide ones and from words.
+fn measure_giving(rt: &HostRuntime, size: Size) -> io::Result<()> {
+    let alloc = rt.alloc();
+    let numbers = random_value(alloc, 2, size.width, size.vps)?.numbers()?;
+    let words = numbers
+        .iter()
+        .map(|x| (*x % (1 << 64)) as u64)
+        .collect(alloc)?;
+    let value = random_value(alloc, 1, size.width, size.vps)?;
+    let mut giving = Giving { numbers, value };
+    timing::measure(rt, "with-numbers", size, WORDS, &mut giving)?;
+    let value = random_value(alloc, 1, size.width, size.vps)?;
+    let mut giving = GivingWords { words, value };
+    timing::measure(rt, "with-words", size, WORDS, &mut giving)
+}
+
+/// Measures all ways at a size.
 pub fn measure(rt: &HostRuntime, size: Size) -> io::Result<()> {
     let mut reading = Reading {
         value: random_value(rt.alloc(), 1, size.width, size.vps)?,
@@ -85,5 +149,6 @@ pub fn measure(rt: &HostRuntime, size: Size) -> io::Result<()> {
     timing::measure(rt, "numbers", size, WORDS, &mut reading)?;
     let value = random_value(rt.alloc(), 1, size.width, size.vps)?;
     let mut writing = Writing::of(value)?;
-    timing::measure(rt, "from-numbers", size, WORDS, &mut writing)
+    timing::measure(rt, "from-numbers", size, WORDS, &mut writing)?;
+    measure_giving(rt, size)
 }

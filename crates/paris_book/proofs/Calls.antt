@@ -11,7 +11,7 @@ use Rattle.paris_events.specs.Rows.{is_settled}
 use Rattle.paris_machine.specs.State.{Row, Inputs, State, find_id, input_of}
 use Rattle.paris_machine.specs.Show.{show_at, show_from}
 use Rattle.paris_machine.specs.Edits.{known, input_changed, input_set}
-use Rattle.paris_book.specs.Whole.{input_shape, Shaped, Fitted}
+use Rattle.paris_book.specs.Whole.{input_shape, shape_in, Shaped, Fitted}
 use Rattle.paris_program.specs.Program.{place_of}
 use Rattle.paris_book.specs.Entries.{Entry, machine_row}
 use Rattle.paris_book.proofs.Entering.{find_is}
@@ -32,9 +32,9 @@ use Rattle.paris_board.specs.Board.{key_named}
 use Rattle.paris_instr.specs.Resolve.{IsFittedTo}
 use Rattle.paris_field.specs.Fields.{overwritten}
 use Rattle.paris_machine.specs.declared.events.Shown.{Shown as AnyShown}
-use Rattle.paris_machine.specs.State.{place_of_spot}
+use Rattle.paris_machine.specs.State.{place_of_spot, with_input}
 use Rattle.paris_machine.specs.Show.{show_reply, show_key}
-use Rattle.paris_machine.specs.Edits.{fault_of_values, input_fault}
+use Rattle.paris_machine.specs.Edits.{edited, fault_of_values, input_fault, known_rows}
 use Rattle.paris_machine.specs.Settling.{unsettled_rows}
 use Rattle.paris_book.proofs.Inserts.{state_of}
 use Rattle.paris_book.proofs.Shows.{show_is}
@@ -109,6 +109,40 @@ width_given i from values h =
     let last = length-drop (from + length values) i.value.numbers in
     omega (arith, all, first, rest, last, h)
 
+not_less : (m n : ℕ) → nat_lt m n ≡ false → n ≤ m
+not_less m n e = grind (arith, nat_tests)
+
+pub values_within : (count width from : ℕ) (values : List ℕ) → fault_of_values count width from values ≡ None → from + length values ≤ count
+values_within count width from values h = by_test (eqb (length values) 0) (nat_lt count (from + length values)) refl h
+  where
+    by_test : (a t : Bool) → nat_lt count (from + length values) ≡ t → cond (a || t) (Some WrongCount) (option_map (λ i. TooWide (from + i)) (position (λ x. nat_le (2 ^ width) x) values)) ≡ None → from + length values ≤ count
+    by_test true t e x = absurd (cc)
+    by_test false true e x = absurd (cc)
+    by_test false false e x = not_less count (from + length values) e
+
+-- the input data that values make has the shape of what was there
+pub given_shape : (b : Board) (n m : ℕ) (inputs : Inputs) (es : List Entry) (s : State) (from : ℕ) (values : List ℕ) (k : Key) (i j : Input)
+    → state_of b n m inputs es ≡ s → input_of inputs k ≡ Some j → fault_of_values (length j.value.numbers) j.value.width from values ≡ None
+    → i ≡ record { value = record { width = j.value.width; numbers = overwritten j.value.numbers from values }; number = n + 1 }
+    → shape_in s.inputs k ≡ Some (i.value.width, length i.value.numbers)
+given_shape b n m inputs es s from values k i j y there none given =
+    ap (λ (z : State). shape_in z.inputs k) (sym y) ∙ ap input_shape there
+    ∙ ap (λ c. Some (j.value.width, c)) (width_given j from values (values_within (length j.value.numbers) j.value.width from values none))
+    ∙ ap (λ (x : Input). Some (x.value.width, length x.value.numbers)) (sym given)
+
+-- it is what the edit of these values makes
+pub given_named : (b : Board) (n m : ℕ) (inputs : Inputs) (es : List Entry) (s new : State) (name : KeyName) (from : ℕ) (values : List ℕ) (k : Key) (i j : Input)
+    → state_of b n m inputs es ≡ s → Ok k ≡ ok_or (key_named b name) NoField → input_of inputs k ≡ Some j
+    → i ≡ record { value = record { width = j.value.width; numbers = overwritten j.value.numbers from values }; number = n + 1 }
+    → new ≡ edited s s.board (with_input s.inputs k i) s.next (known_rows s)
+    → new ≡ input_set s (key_named s.board name) from values
+given_named b n m inputs es s new name from values k i j y named there given made =
+    let old : State = state_of b n m inputs es in
+    made
+    ∙ ap (λ (z : State). edited z z.board (with_input z.inputs k i) z.next (known_rows z)) (sym y)
+    ∙ ap (λ (x : Input). edited old b (with_input inputs k x) m (known_rows old)) given
+    ∙ input_named b n m inputs es s name from values k j y named there
+
 unsettled-append : (xs ys : List Row) → unsettled_rows (xs ++ ys) ≡ unsettled_rows xs + unsettled_rows ys
 unsettled-append [] ys = omega arith
 unsettled-append (x ∷ xs) ys = let rest = unsettled-append xs ys in rw rest (omega arith)
@@ -128,17 +162,6 @@ unsettled_more es i e h at =
     ∙ ap unsettled_rows (map-append machine_row (take i es) (e ∷ []))
     ∙ unsettled-append (map machine_row (take i es)) (machine_row e ∷ [])
     ∙ ap (λ x. unsettled_rows (map machine_row (take i es)) + x) (add-zero (cond (is_settled e.1.status) 0 1))
-
-not_less : (m n : ℕ) → nat_lt m n ≡ false → n ≤ m
-not_less m n e = grind (arith, nat_tests)
-
-pub values_within : (count width from : ℕ) (values : List ℕ) → fault_of_values count width from values ≡ None → from + length values ≤ count
-values_within count width from values h = by_test (eqb (length values) 0) (nat_lt count (from + length values)) refl h
-  where
-    by_test : (a t : Bool) → nat_lt count (from + length values) ≡ t → cond (a || t) (Some WrongCount) (option_map (λ i. TooWide (from + i)) (position (λ x. nat_le (2 ^ width) x) values)) ≡ None → from + length values ≤ count
-    by_test true t e x = absurd (cc)
-    by_test false true e x = absurd (cc)
-    by_test false false e x = not_less count (from + length values) e
 
 pub few_edits : (b : Board) (n m : ℕ) (inputs : Inputs) (es : List Entry) (s : State) → state_of b n m inputs es ≡ s → s.edits < MAX_EDITS → n < MAX_EDITS
 few_edits b n m inputs es s y h = subst (λ (z : State). z.edits < MAX_EDITS) (sym y) h

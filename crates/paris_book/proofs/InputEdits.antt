@@ -3,7 +3,7 @@ use Rattle.std.proofs.Common.{◌≡◌, ℕ, ◌<◌, ◌≤◌, ◌+◌, List,
 use Rattle.std.proofs.Math.Path.{ap₂}
 use Rattle.std.proofs.lemmas.Bool.{eqb-true, eq-eqb}
 use Rattle.std.specs.Prelude.{not, ◌&&◌, ◌||◌}
-use Rattle.std.specs.Option.{option_map}
+use Rattle.std.specs.Option.{option_map, unwrap_or}
 use Rattle.paris_names.specs.declared.keys.Key.{Key}
 use Rattle.paris_names.specs.declared.keys.Key.TheVariants.{Field, Flag}
 use Rattle.paris_names.specs.declared.keys.FlagName.{FlagName}
@@ -147,6 +147,22 @@ flags_stay inputs (Flag s flag) i = by_there (slice_get inputs.flags s)
     by_there : (o : Option FlagInputs) → length (set_flags inputs.flags s flag i o) ≡ length inputs.flags
     by_there None = refl
     by_there (Some x) = length-set inputs.flags s (with_flag_input x flag i)
+
+-- the input data of a key that has the shape of another
+pub record Before (inputs : Inputs) (k : Key) (i : Input) : Type 0 where
+  pub old : Input
+  pub there : input_of inputs k ≡ Some old
+  pub width : i.value.width ≡ old.value.width
+  pub count : length i.value.numbers ≡ length old.value.numbers
+
+pub before : (inputs : Inputs) (k : Key) (i : Input) → shape_in inputs k ≡ Some (i.value.width, length i.value.numbers) → Before inputs k i
+before inputs k i shape = by_there (input_of inputs k) refl shape
+  where
+    by_there : (o : Option Input) → input_of inputs k ≡ o → input_shape o ≡ Some (i.value.width, length i.value.numbers) → Before inputs k i
+    by_there None there e = absurd (cc)
+    by_there (Some j) there e =
+        let same : (i.value.width, length i.value.numbers) ≡ (j.value.width, length j.value.numbers) = sym (ap (λ o. unwrap_or o (i.value.width, length i.value.numbers)) e) in
+        record { old = j; there = there; width = ap (λ (p : ℕ × ℕ). p.0) same; count = ap (λ (p : ℕ × ℕ). p.1) same }
 
 pub input_whole : (b : Board) (n m : ℕ) (inputs : Inputs) (es zs : List Entry) (k : Key) (i j : Input) → n < MAX_EDITS → input_of inputs k ≡ Some j → i.number ≡ n + 1 → i.value.width ≡ j.value.width → length i.value.numbers ≡ length j.value.numbers
     → IsWhole b n m inputs es → zs ≡ swept_entries (n + 1) (has_key (k ∷ [])) es → IsWhole b (n + 1) m (with_input inputs k i) zs

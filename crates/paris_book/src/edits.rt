@@ -1,6 +1,6 @@
 //! Edits of a book: declarations, input data, and rows that are put in, taken out and replaced.
 
-ghost use Rattle.std.specs.Prelude.{◌≡◌, ◌<◌, ◌≤◌, length, Ok, Some, None, IfOk, IfErr, OnOk, if◌then◌else◌};
+ghost use Rattle.std.specs.Prelude.{◌≡◌, ◌<◌, ◌≤◌, length, Ok, Some, None, IfOk, IfErr, OnOk, OnErr, ◌+◌, if◌then◌else◌};
 ghost use Rattle.std.specs.Option.{option_or};
 ghost use Rattle.paris_names.specs.Faults.{IsFaultOf};
 ghost use Rattle.paris_names.specs.declared.faults.Fault.TheVariants as FaultCase;
@@ -8,23 +8,27 @@ ghost use Rattle.paris_names.specs.declared.ids.Spot.TheVariants as SpotCase;
 ghost use Rattle.paris_geometry.specs.Geometry.{is_geometry};
 ghost use Rattle.paris_board.specs.Board.{set_fault, field_fault, key_named, set_named};
 ghost use Rattle.paris_instr.specs.Resolve.{IsFittedTo};
-ghost use Rattle.paris_machine.specs.State.{find_row, place_of_spot};
-ghost use Rattle.paris_machine.specs.Edits.{HasEditsLeft, edit_fault, edit_answer, content_fault, accepted, input_fault, set_added, field_added, input_set, row_inserted, replaced_from};
+ghost use Rattle.paris_machine.specs.State.{find_row, place_of_spot, with_input};
+ghost use Rattle.paris_machine.specs.Edits.{HasEditsLeft, edit_fault, edit_answer, content_fault, accepted, input_fault, set_added, field_added, edited, input_set, known_rows, row_inserted, replaced_from};
 ghost use Rattle.paris_events.specs.declared.edits.Edit.TheVariants as EditCase;
 ghost use Rattle.paris_book.specs.Marks.{fresh_data};
+ghost use Rattle.paris_book.specs.Whole.{shape_in};
 
 use crate::book::Book;
 use crate::inputs::{
-    declare_flags, declare_input, given_input, input_at, push_field, push_flags, set_input,
+    declare_flags, declare_input, given_input, given_words, input_at, push_field, push_flags,
+    set_input,
 };
 use crate::marks::{end_edit, unsettled_by_replace};
 use crate::rows::RowData;
 use paris_events::{Edit, EditReply, Status};
 use paris_geometry::Geometry;
 use paris_instr::{Plan, resolve};
+use paris_machine::Input;
 use paris_model::Instr;
 use paris_names::limits::{MAX_EDITS, MAX_ROWS};
-use paris_names::{Edition, Fault, KeyName, Name, RowId, Spot};
+use paris_names::{Edition, Fault, Key, KeyName, Name, RowId, Spot};
+use std::alloc::AllocError;
 
 /// A row that the edit of this number gives this plan.
 fn fresh_row(plan: Plan, number: u64) -> RowData
@@ -96,6 +100,36 @@ impl Book {
             Some(input) => given_input(self.alloc, input, number, from, values)?,
             None => unreachable!(),
         };
+        self.put_input(key, input)?;
+        Ok(())
+    }
+
+    /// Gives a key numbers of one word each from a processor on, if there are edits left.
+    fn set_input_words(&mut self, name: KeyName, from: u64, words: &[u64]) -> Result<(), Fault>
+        requires left { HasEditsLeft self.old }
+        ensures ok { OnOk result ((input_fault self.old from words.now (key_named self.old.board name) ≡ None)
+            × (self.new ≡ input_set self.old (key_named self.old.board name) from words.now)) }
+        ensures err { IfErr result (λ fault. (self.new ≡ self.old)
+            × IsFaultOf (input_fault self.old from words.now (key_named self.old.board name)) fault) }
+    {
+        let key = self.board.key_of(name)?;
+        let number = self.edits + 1;
+        let input = match input_at(&self.inputs, &key) {
+            Some(input) => given_words(self.alloc, input, number, from, words)?,
+            None => unreachable!(),
+        };
+        self.put_input(key, input)?;
+        Ok(())
+    }
+
+    /// Gives a key the input data that the next edit makes for it, and ends that edit.
+    fn put_input(&mut self, key: Key, input: Input) -> Result<(), AllocError>
+        requires left { HasEditsLeft self.old }
+        requires number { input.number ≡ self.old.edits + 1 }
+        requires shape { shape_in self.old.inputs key ≡ Some (input.value.width, length input.value.numbers) }
+        ensures ok { OnOk result (self.new ≡ edited self.old self.old.board (with_input self.old.inputs key input) self.old.next (known_rows self.old)) }
+        ensures err { OnErr result (self.new ≡ self.old) }
+    {
         let ids = self.rows.affected(self.alloc, 0, &[key])?;
         set_input(&mut self.inputs, &key, input);
         end_edit(&mut self.rows, &mut self.edits, ids.as_slice());
@@ -179,6 +213,20 @@ impl Book {
         self.rows.replace(id, fresh_row(plan, number))?;
         end_edit(&mut self.rows, &mut self.edits, ids.as_slice());
         Ok(())
+    }
+
+    /// Gives a key numbers of one word each from a processor on: the edit of input data with these numbers, which needs no list of
+    /// wide ones. It is refused as that edit is, and what is refused leaves the book as it was.
+    pub fn set_words(&mut self, key: KeyName, from: u64, words: &[u64]) -> Result<(), Fault>
+        ensures ok { OnOk result ((edit_fault self.old (EditCase.Input key from words.now) ≡ None)
+            × (self.new ≡ accepted self.old (EditCase.Input key from words.now))) }
+        ensures err { IfErr result (λ fault. (self.new ≡ self.old)
+            × IsFaultOf (edit_fault self.old (EditCase.Input key from words.now)) fault) }
+    {
+        if self.edits >= MAX_EDITS {
+            return Err(Fault::EditionsSpent);
+        }
+        self.set_input_words(key, from, words)
     }
 
     /// Makes an edit that is lent.

@@ -1,6 +1,6 @@
 //! The input data: what each key holds at the start of the program.
 
-ghost use Rattle.std.specs.Prelude.{◌≡◌, ◌<◌, ◌≤◌, ◌+◌, ◌^◌, ◌++◌, ◌∷◌, [], ℕ, length, None, IfOk, IfErr, IsSome, vec_len, vec_capacity};
+ghost use Rattle.std.specs.Prelude.{◌≡◌, ◌<◌, ◌≤◌, ◌+◌, ◌^◌, ◌==◌, ◌||◌, ◌++◌, ◌∷◌, [], ℕ, false, length, nat_lt, None, IfOk, IfErr, IsSome, vec_len, vec_capacity};
 ghost use Rattle.paris_names.specs.Faults.{IsFaultOf};
 ghost use Rattle.paris_field.specs.Fields.{AllFit, overwritten};
 ghost use Rattle.std.specs.Option.{option_copied};
@@ -51,17 +51,36 @@ pub(crate) fn set_input(inputs: &mut InputData, key: &Key, input: Input)
     }
 }
 
+/// Whether so many numbers are none, or more than there are processors from one on, of `count`.
+fn is_wrong_count(count: u64, from: u64, given: usize) -> bool
+    ensures value { result ≡ (given == 0) || nat_lt count (from + given) }
+    ensures within { result ≡ false → from + given ≤ count }
+{
+    given == 0 || from > count || given as u64 > count - from
+}
+
 /// Why values can't be given from a processor on in place of numbers of a key, if they can't.
 fn values_fault(value: &FieldValue, from: u64, values: &[u128]) -> Option<Fault>
     ensures fault { result ≡ fault_of_values (length value.now.numbers) value.now.width from values.now }
     ensures within { result ≡ None → from + length values.now ≤ length value.now.numbers }
     ensures fit { result ≡ None → AllFit value.now.width values.now }
 {
-    let count = value.len() as u64;
-    if values.is_empty() || from > count || values.len() as u64 > count - from {
+    if is_wrong_count(value.len() as u64, from, values.len()) {
         return Some(Fault::WrongCount);
     }
     FieldValue::first_too_wide(value.width(), values).map(|i| Fault::TooWide(from + i as u64))
+}
+
+/// Why words can't be given from a processor on in place of numbers of a key, if they can't.
+fn words_fault(value: &FieldValue, from: u64, words: &[u64]) -> Option<Fault>
+    ensures fault { result ≡ fault_of_values (length value.now.numbers) value.now.width from words.now }
+    ensures within { result ≡ None → from + length words.now ≤ length value.now.numbers }
+    ensures fit { result ≡ None → AllFit value.now.width words.now }
+{
+    if is_wrong_count(value.len() as u64, from, words.len()) {
+        return Some(Fault::WrongCount);
+    }
+    FieldValue::first_word_too_wide(value.width(), words).map(|i| Fault::TooWide(from + i as u64))
 }
 
 /// A value that is the input data of a key, to be shared.
@@ -91,6 +110,26 @@ pub(crate) fn given_input(
         return Err(fault);
     }
     let given = value.with_numbers(from as usize, values)?;
+    Ok(input_with(alloc, given, number)?)
+}
+
+/// Input data with numbers of one word each in place of as many from a processor on, as an edit gives it.
+pub(crate) fn given_words(
+    alloc: Global,
+    input: &Input,
+    number: u64,
+    from: u64,
+    words: &[u64],
+) -> Result<Input, Fault>
+    ensures ok { IfOk result (λ given. (fault_of_values (length input.now.value.numbers) input.now.value.width from words.now ≡ None)
+        × (given ≡ record { value = record { width = input.now.value.width; numbers = overwritten input.now.value.numbers from words.now }; number = number })) }
+    ensures err { IfErr result (IsFaultOf (fault_of_values (length input.now.value.numbers) input.now.value.width from words.now)) }
+{
+    let value = input.value.get();
+    if let Some(fault) = words_fault(value, from, words) {
+        return Err(fault);
+    }
+    let given = value.with_words(from as usize, words)?;
     Ok(input_with(alloc, given, number)?)
 }
 

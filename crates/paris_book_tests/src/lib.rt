@@ -17,3 +17,5 @@ mod sizes;
 mod spellings;
 #[cfg(test)]
 mod steps;
+#[cfg(test)]
+mod words;

@@ -21,6 +21,11 @@ bit_test : (b : Bool) → eqb (bit b) 1 ≡ b
 bit_test true = refl
 bit_test false = refl
 
+-- a number has no bit where it is below the bit's weight
+pub word_bit-past : (w k : ℕ) → w < 2 ^ k → word_bit w k ≡ false
+unfolding word_bit
+word_bit-past w k small = ap (λ x. eqb (x % 2) 1) (div-eq_of_lt small)
+
 -- bit k of a number is that of plane k, and 0 past the planes
 pub word_bit-number_at : (ps : List (List Bool)) (k v : ℕ) → word_bit (number_at ps v) k ≡ get_or (plane_at ps k) v false
 unfolding word_bit
@@ -29,8 +34,7 @@ word_bit-number_at ps k v =
       | inl below ↦
           ap (λ x. eqb x 1) (bit_of_number ps k v below) ∙ bit_test (get_or (plane_at ps k) v false)
       | inr past ↦
-          let small : number_at ps v < 2 ^ k = omega (arith, number_at_lt ps v, pow_mono past) in
-          ap (λ x. eqb (x % 2) 1) (div-eq_of_lt small) ∙ sym (ap (λ p. get_or p v false) (get_or-past ps k [] past))
+          word_bit-past (number_at ps v) k (omega (arith, number_at_lt ps v, pow_mono past)) ∙ sym (ap (λ p. get_or p v false) (get_or-past ps k [] past))
     ]
 
 -- a word whose bits are those of the low 64 planes

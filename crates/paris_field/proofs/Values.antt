@@ -115,12 +115,12 @@ pub length-overwritten : (xs ys : List ℕ) (from : ℕ) → from + length ys �
 length-overwritten xs ys from room =
     omega (arith, length-append (take from xs) (ys ++ drop (from + length ys) xs), length-append ys (drop (from + length ys) xs), length-take-le from xs (omega arith), length-drop (from + length ys) xs)
 
-pub put_is : (old new : ℕ → ℕ) (xs ys : List ℕ) (from : ℕ) → from + length ys ≤ length xs → ((v : ℕ) → v < length xs → old v ≡ get_or xs v 0) → ((i : ℕ) → i < length ys → new (from + i) ≡ get_or ys i 0) → ((v : ℕ) → v < from → new v ≡ old v) → ((v : ℕ) → from + length ys ≤ v → new v ≡ old v) → (v : ℕ) → v < length xs → new v ≡ get_or (overwritten xs from ys) v 0
-put_is old new xs ys from room at put before after v h =
+pub put_is : (old new : ℕ → ℕ) (xs ys : List ℕ) (from : ℕ) → from + length ys ≤ length xs → ((v : ℕ) → v < length xs → old v ≡ get_or xs v 0) → ((i : ℕ) → i < length ys → new (from + i) ≡ get_or ys i 0) → ((v : ℕ) → v < length xs → (from ≤ v → from + length ys ≤ v) → new v ≡ old v) → (v : ℕ) → v < length xs → new v ≡ get_or (overwritten xs from ys) v 0
+put_is old new xs ys from room at put others v h =
     let front : length (take from xs) ≡ from = length-take-le from xs (omega arith) in
     elim (cases_lt v from) [
       | inl below ↦
-          before v below ∙ at v h
+          others v h (λ here. absurd (omega (arith, here, below))) ∙ at v h
           ∙ sym (get_or-append (take from xs) (ys ++ drop (from + length ys) xs) 0 v (omega arith) ∙ get_or-take from xs v 0 below)
       | inr above ↦
           elim (cases_lt v (from + length ys)) [
@@ -129,7 +129,7 @@ put_is old new xs ys from room at put before after v h =
                 ∙ sym (get_or-append_right (take from xs) (ys ++ drop (from + length ys) xs) from v 0 front above
                 ∙ get_or-append ys (drop (from + length ys) xs) 0 (v - from) (omega arith))
             | inr beyond ↦
-                after v beyond ∙ at v h
+                others v h (λ _. beyond) ∙ at v h
                 ∙ sym (get_or-append_right (take from xs) (ys ++ drop (from + length ys) xs) from v 0 front above
                 ∙ get_or-append_right ys (drop (from + length ys) xs) (length ys) (v - from) 0 refl (omega arith)
                 ∙ get_or-drop (from + length ys) xs (v - from - length ys) 0

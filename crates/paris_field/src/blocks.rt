@@ -102,6 +102,28 @@ fn words_from(numbers: &[u128], from: u32) -> [u64; 64]
     words
 }
 
+/// Puts a word of each processor of a block into the planes from plane `from` on, up to 64 of them.
+pub(crate) fn put_rows(
+    planes: &mut [Plane],
+    words: [u64; 64],
+    block: usize,
+    from: usize,
+    vps: usize,
+)
+    requires within { 64 * block < vps }
+    requires long { AllOf vps planes.old }
+    ensures long { AllOf vps planes.new }
+    ensures bits { (k : ℕ) → k < 64 → from + k < length planes.old → (i : ℕ) → i < 64 → 64 * block + i < vps → slice_index_or (plane_at planes.new (from + k)) (64 * block + i) false ≡ word_bit (slice_index words i) k }
+    ensures low { (k : ℕ) → k < from → plane_at planes.new k ≡ plane_at planes.old k }
+    ensures others { (k : ℕ) → k < length planes.old → (v : ℕ) → v < vps → v / 64 ≢ block → slice_index_or (plane_at planes.new k) v false ≡ slice_index_or (plane_at planes.old k) v false }
+{
+    let mut rows = words;
+    transpose64(&mut rows);
+    for k in 0..planes.len().saturating_sub(from).min(64) {
+        planes[from + k].set_word(block, rows[k]);
+    }
+}
+
 /// Puts the bits from bit `from` on of the numbers of a block into the planes from there on, up to 64 of them.
 fn put_words(planes: &mut [Plane], numbers: &[u128], block: usize, from: usize, vps: usize)
     requires narrow { from < 128 }
@@ -113,11 +135,8 @@ fn put_words(planes: &mut [Plane], numbers: &[u128], block: usize, from: usize, 
     ensures low { (k : ℕ) → k < from → plane_at planes.new k ≡ plane_at planes.old k }
     ensures others { (k : ℕ) → k < length planes.old → (v : ℕ) → v < vps → v / 64 ≢ block → slice_index_or (plane_at planes.new k) v false ≡ slice_index_or (plane_at planes.old k) v false }
 {
-    let mut rows = words_from(numbers, from as u32);
-    transpose64(&mut rows);
-    for k in 0..planes.len().saturating_sub(from).min(64) {
-        planes[from + k].set_word(block, rows[k]);
-    }
+    let words = words_from(numbers, from as u32);
+    put_rows(planes, words, block, from, vps);
 }
 
 /// Puts numbers into the processors of a block, as far as their bits have planes.

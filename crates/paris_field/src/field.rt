@@ -10,6 +10,7 @@ use crate::planes::{
     address_planes, copy_planes, fill_planes, merge_planes, number_in, put_numbers, same_planes,
     zero_planes,
 };
+use crate::words::put_words_from;
 use paris_plane::Plane;
 use std::alloc::{AllocError, Global};
 use std::marker::Model;
@@ -102,6 +103,14 @@ impl FieldValue {
         numbers.iter().position(|x| is_too_wide(width, *x))
     }
 
+    /// The place of the first word that doesn't fit this width in bits.
+    pub fn first_word_too_wide(width: u64, words: &[u64]) -> Option<usize>
+        ensures place { result ≡ position (λ x. nat_le (2 ^ width) x) words.now }
+        ensures fit { result ≡ None → AllFit width words.now }
+    {
+        words.iter().position(|x| is_word_too_wide(width, *x))
+    }
+
     /// The value whose bits are these planes, the lowest first, each with a bit for each of `vps` processors.
     pub fn from_planes(planes: Vec<Plane>, vps: usize) -> FieldValue
         requires narrow { length planes.items ≤ 128 }
@@ -161,6 +170,20 @@ impl FieldValue {
     {
         let mut planes = copy_planes(*self.planes.allocator(), &self.planes)?;
         put_numbers(&mut planes, from, numbers, self.vps);
+        Ok(FieldValue {
+            planes,
+            vps: self.vps,
+        })
+    }
+
+    /// A copy with these numbers, each of one word, in place of as many from a processor on.
+    pub fn with_words(&self, from: usize, words: &[u64]) -> Result<FieldValue, AllocError>
+        requires within { from + length words.now ≤ length self.now.numbers }
+        requires fit { AllFit self.now.width words.now }
+        ensures { IfOk result (λ value. value ≡ record { width = self.now.width; numbers = overwritten self.now.numbers from words.now }) }
+    {
+        let mut planes = copy_planes(*self.planes.allocator(), &self.planes)?;
+        put_words_from(&mut planes, from, words, self.vps);
         Ok(FieldValue {
             planes,
             vps: self.vps,
@@ -256,4 +279,11 @@ fn is_too_wide(width: u64, number: u128) -> bool
     ensures { result ≡ nat_le (2 ^ width) number }
 {
     width < 128 && number >= 1u128 << width
+}
+
+/// Whether a word needs more bits than a width has.
+fn is_word_too_wide(width: u64, word: u64) -> bool
+    ensures { result ≡ nat_le (2 ^ width) word }
+{
+    width < 64 && word >= 1u64 << width
 }

@@ -6,6 +6,7 @@ mod field;
 mod planes;
 mod shared;
 mod transpose;
+mod words;
 
 pub use blocks::{block_numbers, put_block};
 pub use field::FieldValue;

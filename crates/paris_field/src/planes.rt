@@ -129,7 +129,7 @@ pub(crate) fn fill_planes(planes: &mut [Plane], number: u128, vps: usize)
 }
 
 /// Puts a number into processor `v` of `vps`, as far as its bits have planes.
-fn put_number(planes: &mut [Plane], v: usize, number: u128, vps: usize)
+pub(crate) fn put_number(planes: &mut [Plane], v: usize, number: u128, vps: usize)
     requires within { v < vps }
     requires long { AllOf vps planes.old }
     ensures long { AllOf vps planes.new }

@@ -183,6 +183,92 @@ fn numbers_are_put_in_the_middle(rt: HostRuntime) -> Result<(), Fail> {
     Ok(())
 }
 
+/// Processors round the first and the last of a block.
+const PLACES: &[usize] = &[0, 1, 63, 64, 65, 127, 128, 129, 299, 300];
+
+/// Words are put in place of as many numbers from a processor up to another, and the others stay.
+fn takes_words(
+    rt: &impl Abort,
+    alloc: Global,
+    value: &FieldValue,
+    all: &[u64],
+    from: usize,
+    to: usize,
+) -> Result<(), AllocError> {
+    let count = value.len();
+    if from > to || to > count || count != all.len() {
+        return Ok(());
+    }
+    let words = &all[from..to];
+    if FieldValue::first_word_too_wide(value.width(), words).is_some() {
+        assert!(rt; false, "a word is too wide");
+        return Ok(());
+    }
+    let edited = value.with_words(from, words)?;
+    assert!(rt; edited.width() == value.width() && edited.len() == count);
+    for v in 0..count {
+        let want = if v >= from && v < to {
+            u128::from(all[v])
+        } else {
+            value.get(v)
+        };
+        assert_eq!(rt; edited.get(v), want, "processor {v} of {from} to {to}");
+    }
+    Ok(())
+}
+
+/// Words of this width, or of 64 bits, are put between any two of some places.
+fn takes_words_anywhere(
+    rt: &impl Abort,
+    alloc: Global,
+    width: u64,
+    count: usize,
+) -> Result<(), AllocError>
+    requires positive { 0 < width }
+    requires narrow { width ≤ 128 }
+{
+    let value = FieldValue::from_numbers(alloc, width, &list(alloc, width, 1, count)?)?;
+    let narrow = width.min(64);
+    let all: Vec<u64> = (0..count)
+        .map(|v| number(narrow, 1000, v) as u64)
+        .collect(alloc)?;
+    for from in PLACES {
+        for to in PLACES {
+            takes_words(rt, alloc, &value, &all, *from, *to)?;
+        }
+    }
+    takes_words(rt, alloc, &value, &all, 0, count)
+}
+
+#[test]
+fn words_are_put_anywhere(rt: HostRuntime) -> Result<(), Fail> {
+    for case in CASES {
+        if case.width > 0 && case.width <= 128 {
+            takes_words_anywhere(&rt, rt.alloc(), case.width, case.count)?;
+        }
+    }
+    Ok(())
+}
+
+#[test]
+fn the_first_word_that_is_too_wide_is_found(rt: HostRuntime) -> Result<(), Fail> {
+    assert_eq!(rt; FieldValue::first_word_too_wide(0, &[0, 1]), Some(1));
+    assert_eq!(rt;
+        FieldValue::first_word_too_wide(8, &[0, 255, 256, 257]),
+        Some(2)
+    );
+    assert_eq!(rt;
+        FieldValue::first_word_too_wide(63, &[1 << 62, 1 << 63]),
+        Some(1)
+    );
+    assert_eq!(rt; FieldValue::first_word_too_wide(64, &[u64::MAX]), None);
+    assert_eq!(rt;
+        FieldValue::first_word_too_wide(u64::MAX, &[u64::MAX]),
+        None
+    );
+    Ok(())
+}
+
 /// The low half of the bits is stored in each third processor.
 fn is_merged(rt: &impl Abort, alloc: Global, width: u64, count: usize) -> Result<(), AllocError>
     requires positive { 0 < width }

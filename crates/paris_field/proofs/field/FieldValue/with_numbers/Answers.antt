@@ -1,4 +1,5 @@
-use Rattle.std.proofs.Common.{◌≡◌, ◌<◌, ◌^◌, ◌%◌, ◌∙◌, ap, arith, length, get_or}
+use Rattle.std.proofs.Common.{◌≡◌, ◌<◌, ◌^◌, ◌%◌, ◌∙◌, ap, arith, length, get_or, inl, inr}
+use Rattle.std.proofs.lemmas.Bool.{cases_lt}
 use Rattle.std.proofs.Math.Nat.{mod-eq_of_lt}
 use Rattle.std.proofs.lemmas.List.Elements.{All-get_or}
 use Rattle.paris_plane.proofs.Bits.{written}
@@ -22,4 +23,7 @@ returns c =
     (λ v h. put_is (number_at c.deref_mut.result.now) (number_at c.put_numbers.new.planes) c.args.self.now.numbers c.args.numbers.now c.args.from c.requires.within
     (λ u g. ap (λ ps. number_at ps u) same ∙ at_is c.self.inside.vps c.self.inside.planes.items c.self.view_is u (omega arith))
     (λ i g. c.put_numbers.ensures.put i g ∙ ap (λ w. get_or c.args.numbers.now i 0 % 2 ^ w) width ∙ mod-eq_of_lt (All-get_or (λ x. x < 2 ^ c.args.self.now.width) c.args.numbers.now i 0 g c.requires.fit))
-    c.put_numbers.ensures.before c.put_numbers.ensures.after v (omega arith))
+    (λ u _ outside. elim (cases_lt u c.args.from) [
+      | inl below ↦ c.put_numbers.ensures.before u below
+      | inr above ↦ c.put_numbers.ensures.after u (outside above)
+    ]) v (omega arith))

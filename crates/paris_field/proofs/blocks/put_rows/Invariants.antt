@@ -1,7 +1,7 @@
 use Rattle.std.proofs.Common.{◌≡◌, ◌≢◌, ℕ, ◌+◌, ◌*◌, ◌/◌, ◌<◌, get_or, length, false}
 use Rattle.paris_plane.specs.Bits.{word_bit}
 use Rattle.paris_field.specs.Numbers.{AllOf, plane_at}
-use Rattle.paris_field.proofs.blocks.put_words.Given as goal
+use Rattle.paris_field.proofs.blocks.put_rows.Given as goal
 
 abbrev pub invariant-loop-k : goal.invariant-loop-k
 invariant-loop-k l = record {

@@ -1,0 +1,176 @@
+//! Tests of input data from words, beside the edit of the same numbers.
+
+use crate::programs::shows;
+use crate::spellings::*;
+use crate::steps::Change::{Field, Set};
+use crate::steps::Step::*;
+use crate::steps::{Step, plays_in};
+use paris_book::Book;
+use paris_events::{Edit, EditReply};
+use paris_names::Spot::End;
+use paris_names::{Fault, Items};
+use std::alloc::{AllocError, Global};
+use std::process::Abort;
+use std::test::*;
+
+/// Numbers that a key is given from a processor on, why they are refused, if they are, and what `a` holds then.
+type Row = (Text, u64, &'static [u64], Option<Fault>, &'static [u128]);
+
+/// Rows that follow each other.
+const ROWS: &[Row] = &[
+    (b"a", 0, &[1, 2, 3, 4], None, &[1, 2, 3, 4]),
+    (b"a", 2, &[9], None, &[1, 2, 9, 4]),
+    (b"a", 1, &[255, 0], None, &[1, 255, 0, 4]),
+    (b"d", 0, &[1], Some(Fault::NoField), &[1, 255, 0, 4]),
+    (b"a", 0, &[], Some(Fault::WrongCount), &[1, 255, 0, 4]),
+    (b"a", 3, &[1, 256], Some(Fault::WrongCount), &[1, 255, 0, 4]),
+    (b"a", 4, &[1], Some(Fault::WrongCount), &[1, 255, 0, 4]),
+    (
+        b"a",
+        u64::MAX,
+        &[1],
+        Some(Fault::WrongCount),
+        &[1, 255, 0, 4],
+    ),
+    (b"a", 2, &[1, 256], Some(Fault::TooWide(3)), &[1, 255, 0, 4]),
+    (
+        b"a",
+        0,
+        &[u64::MAX],
+        Some(Fault::TooWide(0)),
+        &[1, 255, 0, 4],
+    ),
+    (
+        b"s.context",
+        1,
+        &[0, 2],
+        Some(Fault::TooWide(2)),
+        &[1, 255, 0, 4],
+    ),
+    (b"s.context", 1, &[0, 1, 0], None, &[1, 255, 0, 4]),
+    (b"a", 3, &[7], None, &[1, 255, 0, 7]),
+];
+
+/// Gives a key of a book words, and of another book the same numbers by an edit. Both answer alike, which is handed back, and both
+/// books have as many edits and the same rows then.
+fn gives(
+    rt: &impl Abort,
+    alloc: Global,
+    book: &mut Book,
+    other: &mut Book,
+    text: &[u8],
+    from: u64,
+    words: &[u64],
+) -> Result<Option<Fault>, Fail> {
+    let values: Vec<u128> = words.iter().map(|word| u128::from(*word)).collect(alloc)?;
+    let edited = other.edit(Edit::Input {
+        key: key(rt, text),
+        from,
+        values: Items::new(values),
+    });
+    let answer = book.set_words(key(rt, text), from, words);
+    assert_eq!(rt; answer.map(|_| EditReply::Accepted), edited);
+    assert_eq!(rt; book.edits(), other.edits());
+    assert_eq!(rt; book.list()?.as_slice(), other.list()?.as_slice());
+    Ok(answer.err())
+}
+
+#[test]
+fn words_are_input_data_and_are_refused_as_it_is(rt: HostRuntime) -> Result<(), Fail> {
+    const STEPS: &[Step] = &[Accepts(Set(b"s", &[4])), DeclaresFields(&[b"a"])];
+    let alloc = rt.alloc();
+    let mut book = Book::new(alloc);
+    let mut other = Book::new(alloc);
+    plays_in(&rt, alloc, &mut book, STEPS)?;
+    plays_in(&rt, alloc, &mut other, STEPS)?;
+    for (text, from, words, fault, wanted) in ROWS {
+        let answer = gives(&rt, alloc, &mut book, &mut other, *text, *from, *words)?;
+        assert_eq!(rt; answer, *fault);
+        shows(&rt, &book, b"a", *wanted)?;
+    }
+    shows(&rt, &book, b"s.context", &[1, 0, 1, 0])?;
+    Ok(())
+}
+
+#[test]
+fn the_readers_of_words_become_unsettled(rt: HostRuntime) -> Result<(), Fail> {
+    const STEPS: &[Step] = &[
+        Accepts(Set(b"s", &[4])),
+        DeclaresFields(&[b"a", b"b", b"c"]),
+        Inserts(End, b"u-move-1L b a 8", 1),
+        Inserts(End, b"u-move-1L c c 8", 2),
+        Settles(2),
+    ];
+    const AFTER: &[Step] = &[HasUnsettled(1), Settles(1), Shows(b"b", End, &[0, 7, 8, 0])];
+    let alloc = rt.alloc();
+    let mut book = Book::new(alloc);
+    let mut other = Book::new(alloc);
+    plays_in(&rt, alloc, &mut book, STEPS)?;
+    plays_in(&rt, alloc, &mut other, STEPS)?;
+    assert_eq!(rt;
+        gives(&rt, alloc, &mut book, &mut other, b"a", 1, &[7, 8])?,
+        None
+    );
+    plays_in(&rt, alloc, &mut book, AFTER)?;
+    plays_in(&rt, alloc, &mut other, AFTER)
+}
+
+#[test]
+fn words_after_the_last_edit_are_refused(rt: HostRuntime) -> Result<(), Fail> {
+    let alloc = rt.alloc();
+    let mut book = Book::starting_at(alloc, 9_223_372_036_854_775_807);
+    let mut other = Book::starting_at(alloc, 9_223_372_036_854_775_807);
+    let answer = gives(&rt, alloc, &mut book, &mut other, b"a", 0, &[1])?;
+    assert_eq!(rt; answer, Some(Fault::EditionsSpent));
+    Ok(())
+}
+
+/// A word of 8 bits for each processor from one up to another.
+fn words(alloc: Global, seed: u64, from: u64, to: u64) -> Result<Vec<u64>, AllocError> {
+    (from..to)
+        .map(|v| v.wrapping_mul(seed) % 256)
+        .collect(alloc)
+}
+
+/// All words, and then others from a processor up to another, are what a field of 65,536 processors holds.
+fn fills(rt: &impl Abort, alloc: Global, steps: &[Step]) -> Result<(), Fail> {
+    let mut book = Book::new(alloc);
+    let mut other = Book::new(alloc);
+    plays_in(rt, alloc, &mut book, steps)?;
+    plays_in(rt, alloc, &mut other, steps)?;
+    let all = words(alloc, 37, 0, 65_536)?;
+    let others = words(alloc, 91, 100, 64_536)?;
+    assert_eq!(rt;
+        gives(rt, alloc, &mut book, &mut other, b"a", 0, all.as_slice())?,
+        None
+    );
+    assert_eq!(rt;
+        gives(
+            rt,
+            alloc,
+            &mut book,
+            &mut other,
+            b"a",
+            100,
+            others.as_slice()
+        )?,
+        None
+    );
+    let wanted: Vec<u128> = (0..65_536u128)
+        .map(|v| v.wrapping_mul(if v >= 100 && v < 64_536 { 91 } else { 37 }) % 256)
+        .collect(alloc)?;
+    shows(rt, &book, b"a", wanted.as_slice())?;
+    shows(rt, &other, b"a", wanted.as_slice())?;
+    Ok(())
+}
+
+#[test]
+fn words_fill_a_field_of_65536_processors(rt: HostRuntime) -> Result<(), Fail> {
+    const NARROW: &[Step] = &[Accepts(Set(b"s", &[65_536])), Accepts(Field(b"a", b"s", 8))];
+    const WIDE: &[Step] = &[
+        Accepts(Set(b"s", &[256, 256])),
+        Accepts(Field(b"a", b"s", 64)),
+    ];
+    fills(&rt, rt.alloc(), NARROW)?;
+    fills(&rt, rt.alloc(), WIDE)
+}
