@@ -1,0 +1,2 @@
+mod KeptValues
+mod FaultNumbers

@@ -1,0 +1,208 @@
+//! The calls from C.
+
+ghost use Rattle.std.specs.Prelude.{◌≡◌, ◌≢◌, ◌⊎◌, ◌≤◌, None, length};
+ghost use Rattle.paris_text.specs.Words.{key_word};
+ghost use Rattle.paris_session.specs.Transcript.{transcript};
+ghost use Rattle.paris_c.specs.Calls.{filled, looked, IsFresh, IsAnswered, IsReply, IsSet, IsSetFault, ShowsNumbers, ShowsCount, ShowsPending, ShowsFault, HasRows, CountsRows, IsSettled, IsPartlySettled};
+ghost use Rattle.paris_c.specs.declared.statuses.TheConstants.{OK, NO_MEMORY, CLOSED, NO_KEY, PENDING, WRONG_ROOM, TOO_MANY};
+
+use crate::desk::Desk;
+use crate::handle::Handle;
+use crate::statuses::{CLOSED, NO_MEMORY, OK, TOO_MANY};
+use std::alloc::Global;
+
+/// Opens a session in a handle, and drops what it held.
+#[unsafe(no_mangle)]
+pub extern "C" fn paris_open(alloc: Global, handle: &mut Handle) -> u32
+    ensures fresh { result ≡ OK → IsFresh handle.new.kept.value }
+    ensures closed { result ≢ OK → (result ≡ NO_MEMORY) × (handle.new.kept.value ≡ None) }
+{
+    drop(handle.take(alloc));
+    match Box::new(alloc, Desk::new(alloc)) {
+        Ok(desk) => {
+            handle.put(desk);
+            OK
+        }
+        Err(_) => NO_MEMORY,
+    }
+}
+
+/// Drops what a handle holds, and leaves it closed.
+#[unsafe(no_mangle)]
+pub extern "C" fn paris_close(alloc: Global, handle: &mut Handle) -> u32
+    ensures closed { handle.new.kept.value ≡ None }
+    ensures status { (result ≡ OK) ⊎ (result ≡ CLOSED) }
+    ensures was_closed { result ≡ CLOSED → handle.old.kept.value ≡ None }
+    ensures was_open { result ≡ OK → handle.old.kept.value ≢ None }
+{
+    match handle.take(alloc) {
+        Some(desk) => {
+            drop(desk);
+            OK
+        }
+        None => CLOSED,
+    }
+}
+
+/// Answers a line, keeps the reply, and says its length.
+#[unsafe(no_mangle)]
+pub extern "C" fn paris_answer(
+    alloc: Global,
+    handle: &mut Handle,
+    line: &[u8],
+    reply: &mut usize,
+) -> u32
+    ensures answered { result ≡ OK → IsAnswered handle.old.kept.value handle.new.kept.value line.now reply.new }
+    ensures closed { result ≡ CLOSED → (handle.old.kept.value ≡ None) × (handle.new.kept.value ≡ None) }
+    ensures full { result ≡ TOO_MANY → handle.new.kept.value ≡ handle.old.kept.value }
+    ensures open { result ≢ CLOSED → handle.new.kept.value ≢ None }
+    ensures status { (result ≡ OK) ⊎ ((result ≡ CLOSED) ⊎ ((result ≡ NO_MEMORY) ⊎ (result ≡ TOO_MANY))) }
+{
+    let Some(mut desk) = handle.take(alloc) else {
+        return CLOSED;
+    };
+    let status = desk.answer(line);
+    *reply = desk.reply.len();
+    handle.put(desk);
+    status
+}
+
+/// Copies the reply that is kept to a room, as much of it as there is room for.
+#[unsafe(no_mangle)]
+pub extern "C" fn paris_reply(alloc: Global, handle: &mut Handle, room: &mut [u8]) -> u32
+    ensures reply { result ≡ OK → IsReply handle.old.kept.value room.old room.new }
+    ensures closed { result ≢ OK → (result ≡ CLOSED) × (handle.old.kept.value ≡ None) }
+    ensures kept { handle.new.kept.value ≡ handle.old.kept.value }
+{
+    let Some(desk) = handle.take(alloc) else {
+        return CLOSED;
+    };
+    fill(room, desk.reply.as_slice());
+    handle.put(desk);
+    OK
+}
+
+/// Copies a text to a room, as much of it as there is room for.
+fn fill(room: &mut [u8], text: &[u8])
+    ensures { room.new ≡ filled room.old text.now }
+{
+    let fit = text.len().min(room.len());
+    room[..fit].copy_from_slice(&text[..fit]);
+}
+
+/// Writes the transcript of a script to a room, as much of it as there is room for, and says its length.
+#[unsafe(no_mangle)]
+pub extern "C" fn paris_script(
+    alloc: Global,
+    script: &[u8],
+    room: &mut [u8],
+    len: &mut usize,
+) -> u32
+    ensures written { result ≡ OK → room.new ≡ filled room.old (transcript script.now) }
+    ensures len { result ≡ OK → len.new ≡ length (transcript script.now) }
+    ensures kept { result ≢ OK → room.new ≡ room.old }
+    ensures status { (result ≡ OK) ⊎ ((result ≡ NO_MEMORY) ⊎ (result ≡ TOO_MANY)) }
+{
+    if script.len() >= 1 << 62 {
+        return TOO_MANY;
+    }
+    match paris_session::transcript(alloc, script) {
+        Ok(text) => {
+            *len = text.len();
+            fill(room, text.as_slice());
+            OK
+        }
+        Err(_) => NO_MEMORY,
+    }
+}
+
+/// Gives the key that a word names numbers from a processor on, a word a number.
+#[unsafe(no_mangle)]
+pub extern "C" fn paris_set(
+    alloc: Global,
+    handle: &mut Handle,
+    key: &[u8],
+    from: u64,
+    words: &[u64],
+) -> u32
+    ensures set { result ≡ OK → IsSet handle.old.kept.value handle.new.kept.value (key_word key.now) from words.now }
+    ensures kept { result ≢ OK → handle.new.kept.value ≡ handle.old.kept.value }
+    ensures closed { result ≡ CLOSED → handle.old.kept.value ≡ None }
+    ensures key { result ≡ NO_KEY → key_word key.now ≡ None }
+    ensures fault { 1 ≤ result → result ≤ 23 → result ≢ NO_MEMORY →
+        IsSetFault handle.old.kept.value (key_word key.now) from words.now result }
+{
+    let Some(mut desk) = handle.take(alloc) else {
+        return CLOSED;
+    };
+    let status = desk.set(alloc, key, from, words);
+    handle.put(desk);
+    status
+}
+
+/// Puts the numbers that the key of a word holds at a place of the program into a room of as many words, and says how many they
+/// are. Where a row is pending, it says its id.
+#[unsafe(no_mangle)]
+pub extern "C" fn paris_get(
+    alloc: Global,
+    handle: &mut Handle,
+    key: &[u8],
+    place: u64,
+    room: &mut [u64],
+    told: &mut u64,
+) -> u32
+    ensures numbers { result ≡ OK → ShowsNumbers (looked handle.old.kept.value (key_word key.now) place) room.new }
+    ensures count { (result ≡ OK) ⊎ (result ≡ WRONG_ROOM) → ShowsCount (looked handle.old.kept.value (key_word key.now) place) told.new }
+    ensures pending { result ≡ PENDING → ShowsPending (looked handle.old.kept.value (key_word key.now) place) told.new }
+    ensures fault { 1 ≤ result → result ≤ 23 → result ≢ NO_MEMORY →
+        ShowsFault (looked handle.old.kept.value (key_word key.now) place) result }
+    ensures closed { result ≡ CLOSED → handle.old.kept.value ≡ None }
+    ensures key { result ≡ NO_KEY → key_word key.now ≡ None }
+    ensures room { result ≢ OK → room.new ≡ room.old }
+    ensures kept { handle.new.kept.value ≡ handle.old.kept.value }
+{
+    let Some(desk) = handle.take(alloc) else {
+        return CLOSED;
+    };
+    let status = desk.get(key, place, room, told);
+    handle.put(desk);
+    status
+}
+
+/// Puts the ids of the rows in program order into a room of as many words, and says how many they are.
+#[unsafe(no_mangle)]
+pub extern "C" fn paris_rows(
+    alloc: Global,
+    handle: &mut Handle,
+    room: &mut [u64],
+    count: &mut usize,
+) -> u32
+    ensures ids { result ≡ OK → HasRows handle.old.kept.value room.new }
+    ensures count { (result ≡ OK) ⊎ (result ≡ WRONG_ROOM) → CountsRows handle.old.kept.value count.new }
+    ensures closed { result ≡ CLOSED → handle.old.kept.value ≡ None }
+    ensures room { result ≢ OK → room.new ≡ room.old }
+    ensures kept { handle.new.kept.value ≡ handle.old.kept.value }
+{
+    let Some(desk) = handle.take(alloc) else {
+        return CLOSED;
+    };
+    let status = desk.rows(room, count);
+    handle.put(desk);
+    status
+}
+
+/// Settles every row, and says how many were unsettled.
+#[unsafe(no_mangle)]
+pub extern "C" fn paris_settle(alloc: Global, handle: &mut Handle, ran: &mut u64) -> u32
+    ensures settled { result ≡ OK → IsSettled handle.old.kept.value handle.new.kept.value ran.new }
+    ensures partly { result ≡ NO_MEMORY → IsPartlySettled handle.old.kept.value handle.new.kept.value ran.new }
+    ensures closed { result ≡ CLOSED → (handle.old.kept.value ≡ None) × (handle.new.kept.value ≡ None) }
+    ensures status { (result ≡ OK) ⊎ ((result ≡ CLOSED) ⊎ (result ≡ NO_MEMORY)) }
+{
+    let Some(mut desk) = handle.take(alloc) else {
+        return CLOSED;
+    };
+    let status = desk.settle(ran);
+    handle.put(desk);
+    status
+}

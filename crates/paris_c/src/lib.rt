@@ -1,0 +1,9 @@
+//! The session of a script as calls from C. `include/paris.h` declares them.
+#![tactic(auto)]
+
+mod desk;
+mod exports;
+mod handle;
+mod inputs;
+mod looks;
+mod statuses;

@@ -1,0 +1,40 @@
+//! What became of a call. A status from 1 to 23 is the number of the fault by which it was refused, as scripts name it.
+
+ghost use Rattle.std.specs.Prelude.{◌≡◌, ◌≤◌};
+ghost use Rattle.paris_names.specs.Faults.{number_of};
+
+use paris_names::Fault;
+
+/// The call did what it is for.
+pub(crate) const OK: u32 = 0;
+
+/// There is no memory left. It is the number of that fault.
+pub(crate) const NO_MEMORY: u32 = 19;
+
+/// The handle is closed.
+pub(crate) const CLOSED: u32 = 101;
+
+/// The word is no key.
+pub(crate) const NO_KEY: u32 = 102;
+
+/// A row has to be settled first.
+pub(crate) const PENDING: u32 = 103;
+
+/// The room has another length than what is to be put there.
+pub(crate) const WRONG_ROOM: u32 = 104;
+
+/// The script is too long, or the session has answered as many lines as it can count.
+pub(crate) const TOO_MANY: u32 = 105;
+
+/// A number is wider than a word.
+pub(crate) const TOO_WIDE: u32 = 106;
+
+/// The status of a call that is refused by a fault.
+#[tactic(auto, using(crate::proofs::FaultNumbers::number_small))]
+pub(crate) fn of_fault(fault: Fault) -> u32
+    ensures number { result ≡ number_of fault }
+    ensures some { 1 ≤ result }
+    ensures few { result ≤ 23 }
+{
+    fault.number() as u32
+}

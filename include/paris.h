@@ -1,0 +1,80 @@
+/* Sessions of Paris programs, for C and C++.
+
+   A handle is two words that the caller keeps. All zeros is a closed one: `paris_handle handle = {0};`. The caller reads and writes
+   neither word, copies a handle nowhere, and passes it to one call at a time, always in the thread that opened it. An open handle
+   owns memory of malloc until paris_close, and nothing else does: what a call writes is the caller's own.
+
+   Bytes, words and rooms are a pointer and a number of items; with 0 items it may be any pointer that isn't null. No two arguments of a
+   call overlap. At a status other than PARIS_OK a call leaves its room and the session as they were, and what it says by a pointer to
+   one number says nothing, where it isn't told otherwise here. Every call returns. */
+#ifndef PARIS_H
+#define PARIS_H
+
+#include <stdbool.h>
+#include <stddef.h>
+#include <stdint.h>
+
+#ifdef __cplusplus
+extern "C" {
+#endif
+
+typedef struct paris_handle {
+  void *at;
+  bool is_open;
+} paris_handle;
+
+/* What became of a call. A status from 1 to 23 is the number of the fault by which it was refused, as scripts name it. */
+enum paris_status {
+  PARIS_OK = 0,
+  PARIS_NO_MEMORY = 19, /* there is no memory left */
+  PARIS_CLOSED = 101,   /* the handle is closed */
+  PARIS_NO_KEY = 102,   /* the word is no key */
+  PARIS_PENDING = 103,  /* a row has to be settled first */
+  PARIS_WRONG_ROOM = 104, /* the room has another number of words than what is to be put there */
+  PARIS_TOO_MANY = 105, /* the script is too long, or the session has answered as many lines as it can count */
+  PARIS_TOO_WIDE = 106  /* a number is wider than a word */
+};
+
+/* A place of the program: its start, its end, or, by any other number, the place just after the row with that id. */
+#define PARIS_START UINT64_C(0)
+#define PARIS_END UINT64_MAX
+
+/* Opens a session with nothing in it, and closes the one that the handle held. Where memory is refused the handle is closed. */
+uint32_t paris_open(paris_handle *handle);
+
+/* Closes a handle, and frees what it owned. A closed handle stays closed, and PARIS_CLOSED says so. */
+uint32_t paris_close(paris_handle *handle);
+
+/* Answers a line of a script, without its line feed. At PARIS_OK the session is the one after the line, its reply, which may be
+   empty, is kept until the next such call, and *reply is how many bytes it has. That a command is refused stands in the reply.
+   At PARIS_NO_MEMORY the line may have taken effect, and its reply is lost; the handle is open, and can be used. */
+uint32_t paris_answer(paris_handle *handle, const uint8_t *line, size_t len, size_t *reply);
+
+/* Copies the reply that is kept, or its first bytes where the room has fewer. */
+uint32_t paris_reply(paris_handle *handle, uint8_t *room, size_t len);
+
+/* Runs a whole script in a session of its own. *transcript is how many bytes its transcript has, and the room has it, or its first
+   bytes where the room has fewer. */
+uint32_t paris_script(const uint8_t *script, size_t len, uint8_t *room, size_t room_len, size_t *transcript);
+
+/* Gives the key that a word names, as `a` or `S.context`, these numbers, from a processor on. What `input` refuses is refused, by
+   the same fault. */
+uint32_t paris_set(paris_handle *handle, const uint8_t *key, size_t key_len, uint64_t from, const uint64_t *numbers, size_t len);
+
+/* Puts the numbers that a key holds at a place into a room of as many words: what `show` shows. *told is how many they are, at
+   PARIS_WRONG_ROOM too, and the id of the row that has to be settled first at PARIS_PENDING. What `show` refuses is refused, by the
+   same fault. */
+uint32_t paris_get(paris_handle *handle, const uint8_t *key, size_t key_len, uint64_t place, uint64_t *room, size_t len, uint64_t *told);
+
+/* Puts the ids of the rows in program order into a room of as many words. *count is how many they are, at PARIS_WRONG_ROOM too. */
+uint32_t paris_rows(paris_handle *handle, uint64_t *room, size_t len, size_t *count);
+
+/* Settles every row. *ran is how many rows were unsettled. At PARIS_NO_MEMORY so many rows more are settled, and the call can be
+   made again. */
+uint32_t paris_settle(paris_handle *handle, uint64_t *ran);
+
+#ifdef __cplusplus
+}
+#endif
+
+#endif
