@@ -9,7 +9,7 @@ use Rattle.paris_machine.specs.declared.events.Reply.{Reply}
 use Rattle.paris_desk.specs.declared.records.Entry.{Entry}
 use Rattle.paris_desk.specs.declared.records.Receipt.{Receipt}
 use Rattle.paris_desk.specs.History.{Legal, LegalFrom, state_of, entry, receipt}
-use Rattle.paris_desk.specs.Seats.{sitting, called}
+use Rattle.paris_desk.specs.Seats.{sitting}
 use Rattle.paris_desk.specs.Calls.{Recorded, hold_fault}
 
 state_snoc : (s : State) (es : List Entry) (e : Entry)
@@ -53,11 +53,13 @@ recorded limit n h h' number front rs rs' s s' t t' ev ev1 ev2 r r1 r2 kept coun
     let keeping = keeps limit h h' s s' t t' (entry number ev r) kept room history answer step total in
     let number_is : n + 1 ≡ length h + 1 = ap (λ z. z + 1) count in
     let told : receipt number (n + 1) ev2 r2 ≡ receipt number (length h + 1) ev r = λ i. receipt number (number_is i) (e2 i) (a2 i) in
-    let receipts : rs' ≡ rs ++ receipt number (length h + 1) ev r ∷ [] = noted ∙ ap (λ z. rs ++ z ∷ []) told in
-    (keeping, record {
-      due = none_due limit (length h) front few room;
-      answer = answer ∙ ap (λ z. reply_to z ev) kept.1;
-      history = history;
-      legal = keeping.0;
-      seat = λ i. sitting number (receipts i) (number_is i);
-    })
+    let receipts : rs' ≡ rs ++ receipt number (length h + 1) ev r ∷ [] = noted ∙ ap (λ z. rs ++ z ∷ []) told in (
+      keeping,
+      record {
+        due = none_due limit (length h) front few room;
+        answer = answer ∙ ap (λ z. reply_to z ev) kept.1;
+        history = history;
+        legal = keeping.0;
+        seat = λ i. sitting number (receipts i) (number_is i);
+      },
+    )

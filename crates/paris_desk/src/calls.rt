@@ -54,8 +54,10 @@ impl<L: Office> Desk<L> {
         match self.call(rt, seat, Event::Bring(done)) {
             Ok(Reply::Bring(verdict)) => Ok(verdict),
             Ok(_) => unreachable!(),
-            Err((Event::Bring(done), fault)) => Err((done, fault)),
-            Err(_) => unreachable!(),
+            Err((event, fault)) => match event {
+                Event::Bring(done) => Err((done, fault)),
+                _ => unreachable!(),
+            },
         }
     }
 

@@ -1,4 +1,4 @@
-use Rattle.std.proofs.Common.{◌≡◌, [], ◌∷◌, ◌++◌, length, ◌<◌, ◌≤◌, ◌+◌, List, ap, ◌∙◌, arith}
+use Rattle.std.proofs.Common.{[], ◌∷◌, ◌++◌, length, ◌<◌, ◌≤◌, ◌+◌, List, ap, ◌∙◌, arith}
 use Rattle.paris_desk.specs.declared.records.Entry.{Entry}
 use Rattle.paris_desk.specs.declared.records.Receipt.{Receipt}
 use Rattle.paris_desk.specs.History.{entry, receipt}
