@@ -1,7 +1,8 @@
 //! What lies under the lock of a desk, and the one call that changes it.
 
-ghost use Rattle.std.specs.Prelude.{◌≡◌, [], IfOk, IfErr, length};
+ghost use Rattle.std.specs.Prelude.{◌≡◌, ◌≤◌, [], IfOk, IfErr, length};
 ghost use Rattle.paris_names.specs.Faults.{IsFaultOf};
+ghost use Rattle.paris_desk.specs.History.{entry, receipt};
 ghost use Rattle.paris_desk.specs.Calls.{Recorded, hold_fault};
 
 use crate::copies::copy_of_event;
@@ -52,6 +53,23 @@ fn two_copies(alloc: Global, event: &Event) -> Result<(Event, Event), AllocError
     Ok((first, second))
 }
 
+fn entry_of(seat: u64, event: Event, reply: Reply) -> Entry
+    ensures { result ≡ entry seat event reply }
+{
+    Entry { seat, event, reply }
+}
+
+fn receipt_of(seat: u64, number: u64, event: Event, reply: Reply) -> Receipt
+    ensures { result ≡ receipt seat number event reply }
+{
+    Receipt {
+        seat,
+        number,
+        event,
+        reply,
+    }
+}
+
 impl<L: Office> Locked<L> {
     /// An empty book with an empty history.
     pub(crate) fn new(alloc: Global, limit: u64, tally: Tally<L>, rest: Share<L>) -> Locked<L>
@@ -67,6 +85,21 @@ impl<L: Office> Locked<L> {
         }
     }
 
+    /// Why a call of a seat with this front is not recorded, whatever memory there is.
+    fn due(&self, front: u64) -> Option<Fault>
+        ensures value { result ≡ hold_fault L.limit (length self.now) front }
+        ensures few { length self.now ≤ L.limit }
+    {
+        let length = self.history.len() as u64;
+        if front > length {
+            return Some(Fault::StrangeSeat(front, length));
+        }
+        if length == self.limit {
+            return Some(Fault::HistoryFull(length));
+        }
+        None
+    }
+
     /// One call of a seat. It is recorded: the history's next entry and the seat's next receipt hold the event and the machine's
     /// reply, which is answered. Or it is refused, and the event comes back: by `StrangeSeat` where the seat was told of more
     /// entries than there are, else by `HistoryFull` where there are as many as the limit, else by `NoMemory` where memory is
@@ -77,12 +110,8 @@ impl<L: Office> Locked<L> {
         ensures event { IfErr result (λ e. e.0 ≡ event) }
         ensures same { IfErr result (λ e. (self.new ≡ self.old) × (seat.new ≡ seat.old)) }
     {
-        let length = self.history.len() as u64;
-        if seat.front > length {
-            return Err((event, Fault::StrangeSeat(seat.front, length)));
-        }
-        if length == self.limit {
-            return Err((event, Fault::HistoryFull(length)));
+        if let Some(fault) = self.due(seat.front) {
+            return Err((event, fault));
         }
         if self.history.reserve(1).is_err() || seat.receipts.reserve(1).is_err() {
             return Err((event, Fault::NoMemory));
@@ -94,18 +123,12 @@ impl<L: Office> Locked<L> {
         match make(alloc, &mut self.book, event) {
             Err((event, _)) => Err((event, Fault::NoMemory)),
             Ok(replies) => {
-                let number = length + 1;
-                self.history.push_reserved(Entry {
-                    seat: seat.number,
-                    event: first,
-                    reply: replies.entry,
-                });
-                seat.receipts.push_reserved(Receipt {
-                    seat: seat.number,
-                    number,
-                    event: second,
-                    reply: replies.receipt,
-                });
+                let caller = seat.number;
+                let number = self.history.len() as u64 + 1;
+                let entry = entry_of(caller, first, replies.entry);
+                let receipt = receipt_of(caller, number, second, replies.receipt);
+                self.history.push_reserved(entry);
+                seat.receipts.push_reserved(receipt);
                 seat.front = number;
                 self.tally.add(&mut seat.share, 1);
                 Ok(replies.given)
