@@ -1,10 +1,12 @@
--- No fault that is due is want of memory, so a refusal for want of memory says that none is due.
-use Rattle.std.proofs.Common.{◌≡◌, ℕ, List, Bool, true, false, cond, Option, Some, None, Result, Ok, Err, refl, sym, ap, ◌∙◌}
+-- A fault that is due at an edit is none of those that have other reasons: it isn't want of memory, so a refusal for want of memory says
+-- that none is due, and its number is at most 17.
+use Rattle.std.proofs.Common.{◌≡◌, ◌≤◌, ℕ, List, Bool, true, false, cond, Option, Some, None, Result, Ok, Err, refl, sym, ap, ◌∙◌, subst, arith}
+use Rattle.std.proofs.lemmas.Bool.Decides.{nat_tests}
 use Rattle.std.specs.Prelude.{length, nat_le, nat_lt, not, position, ◌+◌, ◌==◌, ◌||◌, is_none, ◌^◌}
 use Rattle.std.specs.Option.{option_or, option_map, ok_or}
 use Rattle.paris_names.specs.declared.faults.Fault.{Fault}
 use Rattle.paris_names.specs.declared.faults.Fault.TheVariants.{SetsFull, BadAxes, NameTaken, NoSet, FieldsFull, BadWidth, NoField, WrongCount, TooWide, RowsFull, BadLength, WrongSet, BadAxis, BadOperand, Overlap, EditionsSpent}
-use Rattle.paris_names.specs.Faults.{IsFaultOf, is_no_memory}
+use Rattle.paris_names.specs.Faults.{IsFaultOf, is_no_memory, number_of}
 use Rattle.paris_names.specs.declared.keys.Key.{Key}
 use Rattle.paris_board.specs.Board.{Board, set_named, field_named, key_named, is_taken, set_fault, field_fault, width_of, count_of}
 use Rattle.paris_geometry.specs.Geometry.{is_geometry}
@@ -28,17 +30,21 @@ use Rattle.paris_machine.specs.State.{State, Row, find_row, place_of_spot}
 use Rattle.paris_machine.specs.Edits.{fault_of_values, input_fault, insert_fault, delete_fault, replace_fault, content_fault, edit_fault}
 use Rattle.paris_names.specs.declared.limits.TheConstants.{MAX_EDITS, MAX_ROWS, MAX_SETS, MAX_FIELDS, MAX_WIDTH}
 
--- a result whose fault, if it has one, is no want of memory
+-- whether a fault has other reasons than what an edit says
+abbrev is_other : Fault → Bool
+is_other fault = is_no_memory fault || nat_lt 17 (number_of fault)
+
+-- a result whose fault, if it has one, has none
 abbrev Due : {A : Type 0} → Result A Fault → Type 0
 Due (Ok x) = Unit {0}
-Due (Err fault) = is_no_memory fault ≡ false
+Due (Err fault) = is_other fault ≡ false
 
 -- the same of a fault that may be due
 abbrev Wanted : Option Fault → Type 0
 Wanted None = Unit {0}
-Wanted (Some fault) = is_no_memory fault ≡ false
+Wanted (Some fault) = is_other fault ≡ false
 
-due_or : {A : Type 0} (o : Option A) (fault : Fault) → is_no_memory fault ≡ false → Due (ok_or o fault)
+due_or : {A : Type 0} (o : Option A) (fault : Fault) → is_other fault ≡ false → Due (ok_or o fault)
 due_or None fault h = h
 due_or (Some x) fault h = tt
 
@@ -197,13 +203,22 @@ edit_wanted s e = by_test (nat_le MAX_EDITS s.edits)
     by_test true = refl
     by_test false = content_wanted s e
 
+neither : (a b : Bool) → (a || b) ≡ false → (a ≡ false) × (b ≡ false)
+neither false false h = (refl, refl)
+neither true b h = cc
+neither false true h = cc
+
+-- a fault that is due at an edit has a number of at most 17
+pub edit_number : (s : State) (e : Edit) (fault : Fault) → edit_fault s e ≡ Some fault → number_of fault ≤ 17
+edit_number s e fault is = let n = (neither (is_no_memory fault) (nat_lt 17 (number_of fault)) (subst Wanted is (edit_wanted s e))).1 in grind (arith, nat_tests, n)
+
 -- an edit that is refused for want of memory has no other fault
 pub no_fault_due : (s : State) (e : Edit) (fault : Fault) → IsFaultOf (edit_fault s e) fault → is_no_memory fault ≡ true → edit_fault s e ≡ None
 no_fault_due s e fault due none = by_fault (edit_fault s e) (edit_wanted s e) due
   where
     by_fault : (o : Option Fault) → Wanted o → IsFaultOf o fault → o ≡ None
     by_fault None h f = refl
-    by_fault (Some other) h f = absurd (let x : true ≡ false = sym none ∙ ap is_no_memory f ∙ h in cc)
+    by_fault (Some other) h f = absurd (let x : true ≡ false = sym none ∙ ap is_no_memory f ∙ (neither (is_no_memory other) (nat_lt 17 (number_of other)) h).0 in cc)
 
 -- and one that is refused for another reason is refused by the fault that is due
 pub fault_due : (o : Option Fault) (fault : Fault) → IsFaultOf o fault → is_no_memory fault ≡ false → o ≡ Some fault

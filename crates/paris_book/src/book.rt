@@ -105,6 +105,17 @@ impl Book {
         Ok(order)
     }
 
+    /// The order that `take` would give. It changes nothing, and the error says what that of `take` does.
+    pub fn peek(&self) -> Result<Option<Order>, AllocError>
+        ensures order { IfOk result (λ order. order ≡ take_reply self.now) }
+        ensures ready { OnErr result (IsSome (take_reply self.now)) }
+    {
+        match first_ready(&self.rows) {
+            None => Ok(None),
+            Some(place) => order_at(self.alloc, &self.inputs, &self.rows, place),
+        }
+    }
+
     /// Brings a result, and settles its row where it belongs to the present program and the present input data. It takes no
     /// memory.
     pub fn bring(&mut self, done: Done) -> Verdict

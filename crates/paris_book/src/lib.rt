@@ -21,4 +21,4 @@ mod statuses;
 
 pub use book::Book;
 pub use look::Look;
-pub use settlement::SettleFault;
+pub use settlement::{SettleFault, execute_inside};

@@ -37,7 +37,7 @@ fn recall_all(rows: &mut Rows)
 }
 
 /// Executes an order inside a gate. `None` where memory was refused.
-pub(crate) fn execute_inside<G: Gate>(alloc: Global, gate: &G, order: Order) -> Option<Done>
+pub fn execute_inside<G: Gate>(alloc: Global, gate: &G, order: Order) -> Option<Done>
     ensures { IfSome result (λ done. done ≡ order) }
 {
     let id = order.id();

@@ -172,6 +172,25 @@ fn the_same_input_again_makes_a_result_stale(rt: HostRuntime) -> Result<(), Fail
 }
 
 #[test]
+fn a_peek_before_each_take_answers_the_same(rt: HostRuntime) -> Result<(), Fail> {
+    const STEPS: &[Step] = &[
+        Peeks(1, 7),
+        Takes(1, 7),
+        PeeksAtNothing,
+        Accepts(Input(b"a", 0, &[1, 2, 3, 4])),
+        Brings(0, Stale(Edition(8))),
+        Peeks(1, 8),
+        Takes(1, 8),
+        Brings(1, Kept),
+        Brings(1, Repeated),
+        PeeksAtNothing,
+        TakesNothing,
+        Shows(b"c", End, &[11, 22, 33, 4]),
+    ];
+    plays_after(&rt, rt.alloc(), BOOK_OF_SUM, STEPS)
+}
+
+#[test]
 fn an_input_touches_only_the_rows_that_read_it(rt: HostRuntime) -> Result<(), Fail> {
     const STEPS: &[Step] = &[
         Inserts(Start, b"u-move-constant-1L a 7 8", 2),

@@ -47,6 +47,10 @@ pub(crate) enum Step {
     Loses(u64, u64),
     /// No order is ready.
     TakesNothing,
+    /// The next take would give an order for the row of this id with this edition. The list of rows stays as it was.
+    Peeks(u64, u64),
+    /// The next take would give no order. The list of rows stays as it was.
+    PeeksAtNothing,
     /// A copy of the result in hand that was taken after that many others is brought, and is judged so.
     Brings(usize, Verdict),
     /// The orders that are out are given up.
@@ -220,6 +224,21 @@ fn takes_nothing(rt: &impl Abort, book: &mut Book) -> Result<(), Fail> {
     Ok(())
 }
 
+fn peeks(rt: &impl Abort, book: &Book, id: u64, edition: u64) -> Result<(), Fail> {
+    let rows = book.list()?;
+    let order = book.peek()?.expect(rt, "a row is ready");
+    assert!(rt; order.id() == RowId(id) && order.edition() == Edition(edition));
+    assert_eq!(rt; book.list()?.as_slice(), rows.as_slice());
+    Ok(())
+}
+
+fn peeks_at_nothing(rt: &impl Abort, book: &Book) -> Result<(), Fail> {
+    let rows = book.list()?;
+    assert!(rt; book.peek()?.is_none());
+    assert_eq!(rt; book.list()?.as_slice(), rows.as_slice());
+    Ok(())
+}
+
 fn brings(
     rt: &impl Abort,
     book: &mut Book,
@@ -324,6 +343,8 @@ fn plays_step(
         Step::Takes(id, edition) => takes(rt, alloc, book, hand, *id, *edition),
         Step::Loses(id, edition) => loses(rt, book, *id, *edition),
         Step::TakesNothing => takes_nothing(rt, book),
+        Step::Peeks(id, edition) => peeks(rt, book, *id, *edition),
+        Step::PeeksAtNothing => peeks_at_nothing(rt, book),
         Step::Brings(number, verdict) => brings(rt, book, hand.as_slice(), *number, *verdict),
         Step::Releases => releases(book),
         Step::ReleasesByEvent => releases_by_event(rt, book),

@@ -1,0 +1,17 @@
+//! The desk: a book under a lock, which seats in threads share. Each call is an entry of one history, and a receipt of its seat.
+#![tactic(auto)]
+
+mod calls;
+mod copies;
+mod desk;
+mod hold;
+mod limits;
+mod making;
+mod records;
+mod seat;
+
+pub use desk::{Desk, Opening};
+pub use hold::Locked;
+pub use limits::{MAX_HISTORY, MAX_SEATS};
+pub use records::{Entry, Front, Receipt};
+pub use seat::{Office, Seat};

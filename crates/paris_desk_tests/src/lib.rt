@@ -1,0 +1,7 @@
+//! Tests of desks, with seats in threads. It has no code of its own.
+#![tactic(auto)]
+
+#[cfg(test)]
+mod desks;
+#[cfg(test)]
+mod spellings;
