@@ -4,7 +4,7 @@ ghost use Rattle.std.specs.Prelude.{◌≡◌, ◌≢◌, ◌⊎◌, ◌≤◌, 
 ghost use Rattle.paris_text.specs.Words.{key_word};
 ghost use Rattle.paris_session.specs.Transcript.{transcript};
 ghost use Rattle.paris_c.specs.Calls.{filled, looked, IsFresh, IsAnswered, IsReply, IsSet, IsSetFault, ShowsNumbers, ShowsCount, ShowsPending, ShowsFault, HasRows, CountsRows, IsSettled, IsPartlySettled};
-ghost use Rattle.paris_c.specs.declared.statuses.TheConstants.{OK, NO_MEMORY, CLOSED, NO_KEY, PENDING, WRONG_ROOM, TOO_MANY};
+ghost use Rattle.paris_c.specs.declared.statuses.TheConstants.{OK, NO_MEMORY, CLOSED, NO_KEY, PENDING, WRONG_ROOM, TOO_MANY, TOO_WIDE};
 
 use crate::desk::Desk;
 use crate::handle::Handle;
@@ -53,7 +53,8 @@ pub extern "C" fn paris_answer(
     reply: &mut usize,
 ) -> u32
     ensures answered { result ≡ OK → IsAnswered handle.old.kept.value handle.new.kept.value line.now reply.new }
-    ensures closed { result ≡ CLOSED → (handle.old.kept.value ≡ None) × (handle.new.kept.value ≡ None) }
+    ensures closed { handle.old.kept.value ≡ None → (result ≡ CLOSED) × (handle.new.kept.value ≡ None) }
+    ensures was_closed { result ≡ CLOSED → handle.old.kept.value ≡ None }
     ensures full { result ≡ TOO_MANY → handle.new.kept.value ≡ handle.old.kept.value }
     ensures open { result ≢ CLOSED → handle.new.kept.value ≢ None }
     ensures status { (result ≡ OK) ⊎ ((result ≡ CLOSED) ⊎ ((result ≡ NO_MEMORY) ⊎ (result ≡ TOO_MANY))) }
@@ -127,10 +128,12 @@ pub extern "C" fn paris_set(
 ) -> u32
     ensures set { result ≡ OK → IsSet handle.old.kept.value handle.new.kept.value (key_word key.now) from words.now }
     ensures kept { result ≢ OK → handle.new.kept.value ≡ handle.old.kept.value }
-    ensures closed { result ≡ CLOSED → handle.old.kept.value ≡ None }
+    ensures closed { handle.old.kept.value ≡ None → result ≡ CLOSED }
+    ensures was_closed { result ≡ CLOSED → handle.old.kept.value ≡ None }
     ensures key { result ≡ NO_KEY → key_word key.now ≡ None }
     ensures fault { 1 ≤ result → result ≤ 23 → result ≢ NO_MEMORY →
         IsSetFault handle.old.kept.value (key_word key.now) from words.now result }
+    ensures status { (result ≤ 23) ⊎ ((result ≡ CLOSED) ⊎ (result ≡ NO_KEY)) }
 {
     let Some(mut desk) = handle.take(alloc) else {
         return CLOSED;
@@ -156,8 +159,11 @@ pub extern "C" fn paris_get(
     ensures pending { result ≡ PENDING → ShowsPending (looked handle.old.kept.value (key_word key.now) place) told.new }
     ensures fault { 1 ≤ result → result ≤ 23 → result ≢ NO_MEMORY →
         ShowsFault (looked handle.old.kept.value (key_word key.now) place) result }
-    ensures closed { result ≡ CLOSED → handle.old.kept.value ≡ None }
+    ensures closed { handle.old.kept.value ≡ None → result ≡ CLOSED }
+    ensures was_closed { result ≡ CLOSED → handle.old.kept.value ≡ None }
     ensures key { result ≡ NO_KEY → key_word key.now ≡ None }
+    ensures few { result ≡ WRONG_ROOM → length room.old ≢ told.new }
+    ensures status { (result ≤ 23) ⊎ ((result ≡ CLOSED) ⊎ ((result ≡ NO_KEY) ⊎ ((result ≡ PENDING) ⊎ ((result ≡ WRONG_ROOM) ⊎ (result ≡ TOO_WIDE))))) }
     ensures room { result ≢ OK → room.new ≡ room.old }
     ensures kept { handle.new.kept.value ≡ handle.old.kept.value }
 {
@@ -179,7 +185,10 @@ pub extern "C" fn paris_rows(
 ) -> u32
     ensures ids { result ≡ OK → HasRows handle.old.kept.value room.new }
     ensures count { (result ≡ OK) ⊎ (result ≡ WRONG_ROOM) → CountsRows handle.old.kept.value count.new }
-    ensures closed { result ≡ CLOSED → handle.old.kept.value ≡ None }
+    ensures closed { handle.old.kept.value ≡ None → result ≡ CLOSED }
+    ensures was_closed { result ≡ CLOSED → handle.old.kept.value ≡ None }
+    ensures few { result ≡ WRONG_ROOM → length room.old ≢ count.new }
+    ensures status { (result ≡ OK) ⊎ ((result ≡ CLOSED) ⊎ ((result ≡ NO_MEMORY) ⊎ (result ≡ WRONG_ROOM))) }
     ensures room { result ≢ OK → room.new ≡ room.old }
     ensures kept { handle.new.kept.value ≡ handle.old.kept.value }
 {

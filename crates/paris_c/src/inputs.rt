@@ -1,6 +1,6 @@
 //! Input data from words.
 
-ghost use Rattle.std.specs.Prelude.{◌≡◌, ◌≢◌, ◌≤◌, None, Some, IfOk};
+ghost use Rattle.std.specs.Prelude.{◌≡◌, ◌≢◌, ◌⊎◌, ◌≤◌, None, Some, IfOk};
 ghost use Rattle.paris_text.specs.Words.{key_word};
 ghost use Rattle.paris_machine.specs.Edits.{edit_fault};
 ghost use Rattle.paris_c.specs.Calls.{IsEdited, IsNumberOf, IsSet, IsSetFault};
@@ -45,6 +45,7 @@ impl Desk {
         ensures key { result ≡ NO_KEY → key_word key.now ≡ None }
         ensures fault { 1 ≤ result → result ≤ 23 → result ≢ NO_MEMORY →
             IsSetFault (Some self.old) (key_word key.now) from words.now result }
+        ensures status { (result ≤ 23) ⊎ (result ≡ NO_KEY) }
         ensures open { result ≢ CLOSED }
     {
         let Some(key) = key_of_word(key) else {

@@ -88,7 +88,9 @@ impl Desk {
         ensures pending { result ≡ PENDING → ShowsPending (looked (Some self.now) (key_word key.now) place) told.new }
         ensures fault { 1 ≤ result → result ≤ 23 → result ≢ NO_MEMORY → ShowsFault (looked (Some self.now) (key_word key.now) place) result }
         ensures key { result ≡ NO_KEY → key_word key.now ≡ None }
+        ensures few { result ≡ WRONG_ROOM → length room.old ≢ told.new }
         ensures kept { result ≢ OK → room.new ≡ room.old }
+        ensures status { (result ≤ 23) ⊎ ((result ≡ NO_KEY) ⊎ ((result ≡ PENDING) ⊎ ((result ≡ WRONG_ROOM) ⊎ (result ≡ TOO_WIDE)))) }
         ensures open { result ≢ CLOSED }
     {
         let Some(key) = key_of_word(key) else {
@@ -108,7 +110,9 @@ impl Desk {
     pub(crate) fn rows(&self, room: &mut [u64], count: &mut usize) -> u32
         ensures ids { result ≡ OK → room.new ≡ row_ids self.now.session }
         ensures count { (result ≡ OK) ⊎ (result ≡ WRONG_ROOM) → count.new ≡ length (row_ids self.now.session) }
+        ensures few { result ≡ WRONG_ROOM → length room.old ≢ count.new }
         ensures kept { result ≢ OK → room.new ≡ room.old }
+        ensures status { (result ≡ OK) ⊎ ((result ≡ NO_MEMORY) ⊎ (result ≡ WRONG_ROOM)) }
         ensures open { result ≢ CLOSED }
     {
         match self.session.rows() {
