@@ -32,7 +32,8 @@ enum paris_status {
   PARIS_PENDING = 103,  /* a row has to be settled first */
   PARIS_WRONG_ROOM = 104, /* the room has another number of words than what is to be put there */
   PARIS_TOO_MANY = 105, /* the script is too long, or the session has answered as many lines as it can count */
-  PARIS_TOO_WIDE = 106  /* a number is wider than a word */
+  PARIS_TOO_WIDE = 106, /* a number is wider than a word */
+  PARIS_PARTLY = 107    /* there was no memory left while rows were settled: those that ran are settled */
 };
 
 /* A place of the program: its start, its end, or, by any other number, the place just after the row with that id. */
@@ -47,7 +48,8 @@ uint32_t paris_close(paris_handle *handle);
 
 /* Answers a line of a script, without its line feed. At PARIS_OK the session is the one after the line, its reply, which may be
    empty, is kept until the next such call, and *reply is how many bytes it has. That a command is refused stands in the reply.
-   At PARIS_NO_MEMORY the line may have taken effect, and its reply is lost; the handle is open, and can be used. */
+   At another status but PARIS_CLOSED the kept reply is as it was, and *reply is how many bytes it has. At PARIS_PARTLY, which only
+   the line `settle` comes to, the orders that were out are given up and the rows that ran are settled; the line can be told again. */
 uint32_t paris_answer(paris_handle *handle, const uint8_t *line, size_t len, size_t *reply);
 
 /* Copies the reply that is kept, or its first bytes where the room has fewer. */
@@ -69,8 +71,8 @@ uint32_t paris_get(paris_handle *handle, const uint8_t *key, size_t key_len, uin
 /* Puts the ids of the rows in program order into a room of as many words. *count is how many they are, at PARIS_WRONG_ROOM too. */
 uint32_t paris_rows(paris_handle *handle, uint64_t *room, size_t len, size_t *count);
 
-/* Settles every row. *ran is how many rows were unsettled. At PARIS_NO_MEMORY so many rows more are settled, and the call can be
-   made again. */
+/* Settles every row. *ran is how many rows were unsettled. At PARIS_PARTLY so many rows more are settled, the orders that were out
+   are given up, and the call can be made again. */
 uint32_t paris_settle(paris_handle *handle, uint64_t *ran);
 
 #ifdef __cplusplus

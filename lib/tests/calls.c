@@ -129,11 +129,27 @@ static void a_thousand_handles(void) {
   }
 }
 
+static void a_thousand_handles_at_once(void) {
+  static paris_handle handles[1000];
+  for (uint64_t i = 0; i < 1000; i++) {
+    declare(&handles[i]);
+    const uint64_t numbers[1] = {i};
+    WANT(paris_set(&handles[i], bytes("a"), 1, 2, numbers, 1), PARIS_OK);
+  }
+  for (uint64_t i = 0; i < 1000; i++) {
+    uint64_t room[4] = {0}, told = 0;
+    WANT(paris_get(&handles[i], bytes("a"), 1, PARIS_END, room, 4, &told), PARIS_OK);
+    WANT(room[2], i);
+    WANT(paris_close(&handles[i]), PARIS_OK);
+  }
+}
+
 int main(void) {
   closed_handles();
   open_twice_and_close_twice();
   sums_of_arrays();
   scripts_and_short_rooms();
   a_thousand_handles();
+  a_thousand_handles_at_once();
   return 0;
 }

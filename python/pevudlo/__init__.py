@@ -2,8 +2,11 @@
 
 from pevudlo import paris
 from pevudlo.hints import Explanation, Refusal
-from pevudlo.machine import END, START, Machine, Place, RowList, after
+from pevudlo.library import Library
+from pevudlo.library_places import find_library
+from pevudlo.machine import Machine, RowList
 from pevudlo.pipe import Ended, OutOfTurn, Pipe, PipeError
+from pevudlo.places import END, START, Place, after
 from pevudlo.program import NotFound, find
 from pevudlo.replies import Cause, OrderTaken, Row, RowFault, Status, Verdict, Word
 from pevudlo.values import Pending, ValueList, WrongShape, signed, unsigned
@@ -14,6 +17,7 @@ __all__ = [
     "Cause",
     "Ended",
     "Explanation",
+    "Library",
     "Machine",
     "NotFound",
     "OrderTaken",
@@ -33,6 +37,7 @@ __all__ = [
     "WrongShape",
     "after",
     "find",
+    "find_library",
     "paris",
     "signed",
     "unsigned",

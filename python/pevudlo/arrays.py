@@ -7,6 +7,24 @@ from typing import Any, Callable
 import numpy
 
 from pevudlo.grids import Grid
+from pevudlo.values import negative
+
+
+def words_in(values: Any) -> memoryview:
+    """An array's whole numbers, the last axis fastest, as words of 64 bits. Raises ValueError for a negative one."""
+    if values.dtype.kind == "i" and values.size and values.min() < 0:
+        raise negative(int(values[values < 0][0]))
+    return numpy.ascontiguousarray(values, dtype=numpy.uint64).reshape(-1).data
+
+
+def empty(count: int) -> memoryview:
+    """Room for so many words of 64 bits."""
+    return numpy.empty(count, dtype=numpy.uint64).data
+
+
+def address_of(words: memoryview) -> int:
+    """Where words begin in memory."""
+    return int(numpy.asarray(words).ctypes.data)
 
 
 def change_each(values: Any, change: Callable[[int], int]) -> Any:
@@ -26,7 +44,7 @@ class ValueArray(numpy.ndarray[Any, numpy.dtype[Any]]):
     def of(cls, grid: Grid) -> ValueArray:
         """The array of a grid's numbers."""
         kind = numpy.uint64 if grid.width <= 64 else object
-        array = numpy.array(grid.values, dtype=kind).reshape(tuple(reversed(grid.axes))).view(cls)
+        array = numpy.asarray(grid.values, dtype=kind).reshape(tuple(reversed(grid.axes))).view(cls)
         array.grid = grid
         array.flags.writeable = False
         return array

@@ -1,18 +1,20 @@
-"""A machine: one running program, with its commands as calls. No number comes from anywhere but its replies."""
+"""A machine: one session, with its commands as calls. No number comes from anywhere but its replies."""
 
 from __future__ import annotations
 
 import os
 from collections.abc import Mapping
-from dataclasses import dataclass
+from pathlib import Path
 from types import MappingProxyType, TracebackType
-from typing import TypeVar
 
 from pevudlo.board import Board, Declared
+from pevudlo.data import ArrayData, LineData
 from pevudlo.grids import Grid
-from pevudlo.hints import Refusal
+from pevudlo.library import Library
+from pevudlo.library_places import find_library
 from pevudlo.notebook import rows_html
 from pevudlo.pipe import Pipe
+from pevudlo.places import END, Place, spelled
 from pevudlo.program import find
 from pevudlo.replies import (
     Faults,
@@ -20,43 +22,15 @@ from pevudlo.replies import (
     Nothing,
     Ok,
     OrderTaken,
-    PendingReply,
-    Reply,
     Row,
     RowAdded,
     RowFault,
     Rows,
     Settled,
-    Values,
     Verdict,
 )
-from pevudlo.talk import Answer, Talk
-from pevudlo.values import Pending, Shown, check_shape, flat, input_lines, shaped
-
-Kind = TypeVar("Kind", bound=Reply)
-
-
-@dataclass(frozen=True)
-class Place:
-    """A place in the program, as commands spell it."""
-
-    text: str
-
-
-START = Place("start")
-END = Place("end")
-
-
-def after(row: int) -> Place:
-    """The place just after the row of this id."""
-    return Place(f"after {row}")
-
-
-def spelled(at: Place) -> str:
-    """The place as commands spell it. Raises TypeError for what is none, such as the id of a row."""
-    if not isinstance(at, Place):
-        raise TypeError(f"a place is START, END or after(row), and not {at!r}")
-    return at.text
+from pevudlo.talk import Talk, of_kind
+from pevudlo.values import Pending, Shown, check_shape, flat, shaped
 
 
 class RowList(tuple[Row, ...]):
@@ -70,16 +44,45 @@ class RowList(tuple[Row, ...]):
 class Machine:
     """One run of the program. Every call is a command of scripts, and raises Refusal where the command is refused.
 
-    The program is found by `find`, which raises NotFound. It settles rows in 1 to 16 workers; other counts are
-    ValueErrors. Calls raise Ended and OutOfTurn where the program is gone. At the end of a `with`, or by `close`, the
-    program ends.
+    The program is found by `find`, which raises NotFound. It settles rows in 1 to 16 workers, 2 where nothing is said;
+    other counts are ValueErrors. Calls raise Ended and OutOfTurn where the program is gone. At the end of a `with`, or
+    by `close`, the program ends.
+
+    With `library=True`, or a library's path, it is a session of the library in this process, found by `find_library`.
+    One thread settles, numbers go in and out as arrays, and only the thread that made the machine may call it.
     """
 
-    def __init__(self, program: str | os.PathLike[str] | None = None, workers: int = 2) -> None:
+    def __init__(
+        self,
+        program: str | os.PathLike[str] | None = None,
+        workers: int | None = None,
+        library: bool | str | os.PathLike[str] = False,
+    ) -> None:
+        self.program: Path | None = None
+        self.library: Path | None = None
+        if library is False:
+            self._start(program, 2 if workers is None else workers)
+        elif program is not None:
+            raise ValueError("a machine is over a program or over the library, and not over both")
+        elif workers not in (None, 1):
+            raise ValueError(f"the library settles in one thread, and not in {workers!r} workers")
+        else:
+            self._open(None if library is True else library)
+
+    def _start(self, program: str | os.PathLike[str] | None, workers: int) -> None:
+        """Starts a program."""
         if workers not in range(1, 17):
             raise ValueError(f"workers are 1 to 16, and not {workers!r}")
         self.program = find(program)
         self._talk = Talk(Pipe(self.program, workers))
+        self._data = LineData(self._talk)
+
+    def _open(self, path: str | os.PathLike[str] | None) -> None:
+        """Opens a session of the library."""
+        self.library = find_library(path)
+        library = Library(self.library)
+        self._talk = Talk(library)
+        self._data = ArrayData(self._talk, library)
 
     def __enter__(self) -> Machine:
         return self
@@ -88,8 +91,8 @@ class Machine:
         self.close()
 
     def close(self) -> int:
-        """Ends the program, and gives its exit status: 1 where a command was refused, else 0."""
-        return self._talk.pipe.close()
+        """Ends the session, and gives its exit status: 1 where a command was refused, else 0."""
+        return self._talk.peer.close()
 
     @property
     def sets(self) -> Mapping[str, tuple[int, ...]]:
@@ -103,54 +106,55 @@ class Machine:
 
     @property
     def process(self) -> int:
-        """The child's process id."""
-        return self._talk.pipe.process
+        """The child's process id. Raises AttributeError over the library, which has no child."""
+        if not isinstance(self._talk.peer, Pipe):
+            raise AttributeError("a machine over the library has no child process")
+        return self._talk.peer.process
 
     def set(self, name: str, *axes: int) -> None:
         """Declares a set with axes of these lengths, axis 0 first: powers of two, 65,536 processors at most."""
-        self._ask(f"set {name} {'x'.join(map(str, axes))}", Ok)
+        self._talk.ask(f"set {name} {'x'.join(map(str, axes))}", Ok)
 
     def field(self, name: str, of: str, width: int) -> None:
         """Declares a field of a set, of a width in bits from 1 to 64."""
-        self._ask(f"field {name} {of} {width}", Ok)
+        self._talk.ask(f"field {name} {of} {width}", Ok)
 
     def insert(self, text: str, at: Place = END) -> int:
         """Puts a row with this instruction in a place, and gives its id."""
-        return self._ask(f"insert {spelled(at)} {text}", RowAdded).row
+        return self._talk.ask(f"insert {spelled(at)} {text}", RowAdded).row
 
     def delete(self, row: int) -> None:
         """Takes the row of this id out."""
-        self._ask(f"delete {row}", Ok)
+        self._talk.ask(f"delete {row}", Ok)
 
     def replace(self, row: int, text: str) -> None:
         """Gives the row of this id another instruction."""
-        self._ask(f"replace {row} {text}", Ok)
+        self._talk.ask(f"replace {row} {text}", Ok)
 
     def settle(self) -> int:
         """Runs all rows that are unsettled, and says how many they were."""
-        return self._ask("settle", Settled).count
+        return self._talk.ask("settle", Settled).count
 
     def take(self) -> OrderTaken | None:
         """Takes an order for the first ready row. None where no waiting row is ready."""
-        reply = self._tell("take").reply
-        return None if isinstance(reply, Nothing) else self._of_kind(reply, OrderTaken)
+        reply = self._talk.command("take")
+        return None if isinstance(reply, Nothing) else of_kind(reply, OrderTaken)
 
     def bring(self, order: int | OrderTaken) -> Verdict:
         """Executes an order, and brings its result: the verdict says what became of it."""
-        return self._ask(f"bring {order.order if isinstance(order, OrderTaken) else order}", Verdict)
+        return self._talk.ask(f"bring {order.order if isinstance(order, OrderTaken) else order}", Verdict)
 
     def release(self) -> None:
         """Gives up all orders that are out: their rows wait again."""
-        self._ask("release", Ok)
+        self._talk.ask("release", Ok)
 
     def show(self, key: str, at: Place = END) -> Shown | Pending:
         """The numbers of a key at a place, in the shape of its set, or the row that has to be settled first."""
         if not isinstance(key, str):
             raise TypeError(f"a key is a name, and not {type(key).__name__}: machine['a'][0] is a number of a")
-        reply = self._tell(f"show {key} {spelled(at)}").reply
-        if isinstance(reply, PendingReply):
-            return Pending(reply.row)
-        numbers = self._of_kind(reply, Values).numbers
+        numbers = self._data.look(key, spelled(at))
+        if isinstance(numbers, Pending):
+            return numbers
         axes, width = self._board.axes_of(key), self._board.width_of(key)
         if axes is None or width is None:
             raise NoReply(f"numbers of {key}, which isn't declared")
@@ -158,11 +162,11 @@ class Machine:
 
     def rows(self) -> RowList:
         """The rows in program order."""
-        return RowList(self._ask("list", Rows).rows)
+        return RowList(self._talk.ask("list", Rows).rows)
 
     def faults(self) -> tuple[RowFault, ...]:
         """The settled rows that were refused when they ran, in program order."""
-        return self._ask("faults", Faults).faults
+        return self._talk.ask("faults", Faults).faults
 
     def raw(self, line: str) -> list[str]:
         """The lines of the reply to a line of a script, as they come; a refusal is a reply here. None for a comment."""
@@ -186,11 +190,11 @@ class Machine:
             axes = self._board.axes_of(key)
             if axes is not None:
                 check_shape(shape, key, axes)
-            self._give(key, 0, numbers)
+            self._data.give(key, 0, numbers)
         else:
             name, where = key
             numbers, _ = flat([values] if isinstance(where, int) else values)
-            self._give(name, self._first(name, where, len(numbers)), numbers)
+            self._data.give(name, self._first(name, where, len(numbers)), numbers)
 
     @property
     def _board(self) -> Board:
@@ -211,35 +215,3 @@ class Machine:
                     f"{count} values don't fill {key}[{first}:{stop}]: give a first processor, and no step"
                 )
         return first
-
-    def _give(self, key: str, first: int, numbers: list[int]) -> None:
-        """Asks the lines of input, first of all one that would be refused."""
-        lines = input_lines(key, first, numbers)
-        name, width = self._board.set_of(key), self._board.width_of(key)
-        if name is not None and width is not None and len(lines) > 1:
-            if first + len(numbers) > self._board.processors(name):
-                self._ask(lines[-1], Ok)
-            if max(numbers) >> width:
-                at = next(at for at, number in enumerate(numbers) if number >> width)
-                self._ask(input_lines(key, first + at, numbers[at : at + 1])[0], Ok)
-        for line in lines:
-            self._ask(line, Ok)
-
-    def _tell(self, line: str) -> Answer:
-        """The answer to a command. Raises Refusal, and ValueError for a line that is none."""
-        answer = self._talk.tell(line)
-        if answer is None:
-            raise ValueError("a command is wanted")
-        if answer.explanation is not None:
-            raise Refusal(answer.explanation)
-        return answer
-
-    def _ask(self, line: str, kind: type[Kind]) -> Kind:
-        """The reply to a command, which is of this kind."""
-        return self._of_kind(self._tell(line).reply, kind)
-
-    def _of_kind(self, reply: Reply, kind: type[Kind]) -> Kind:
-        """The reply, which is of this kind. Raises NoReply where it isn't."""
-        if not isinstance(reply, kind):
-            raise NoReply(f"a reply of another kind: {reply}")
-        return reply

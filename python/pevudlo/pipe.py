@@ -1,6 +1,6 @@
 """Talks with one child process, line by line.
 
-This is the one place that knows of a process. A library can take its place behind the same calls: `ask` and `close`.
+This is the one place that knows of a process. A `Library` takes its place behind the same calls: `ask` and `close`.
 
 One line in and one reply out can't block each other. The program reads a line to its line feed before it writes, and
 it writes a whole reply before it reads more. So while a line is written nothing comes, and while a reply is read

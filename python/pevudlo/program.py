@@ -16,11 +16,11 @@ ROOT = Path(__file__).resolve().parents[2]
 
 
 class NotFound(Exception):
-    """The program isn't there. `looked` says of each place why it gave none."""
+    """The program, or the library, isn't there. `looked` says of each place why it gave none."""
 
-    def __init__(self, looked: Iterable[str]) -> None:
+    def __init__(self, looked: Iterable[str], name: str = NAME) -> None:
         self.looked = tuple(looked)
-        super().__init__("paris_front was not found: " + "; ".join(self.looked))
+        super().__init__(f"{name} was not found: " + "; ".join(self.looked))
 
 
 def is_program(path: Path) -> bool:

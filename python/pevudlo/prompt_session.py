@@ -132,4 +132,4 @@ class Session:
         """Ends the program, and keeps what became of it."""
         talk, self._talk, self._end = self._talk, None, what
         if talk is not None:
-            talk.pipe.close()
+            talk.peer.close()

@@ -76,11 +76,11 @@ def is_array(values: object) -> bool:
     return numpy is not None and isinstance(values, numpy.ndarray)
 
 
-def flat(values: object) -> tuple[list[int], tuple[int, ...]]:
+def flat(values: object) -> tuple[Sequence[int], tuple[int, ...]]:
     """The numbers of lists, ranges, other iterables or an array, the last axis fastest, and their shape.
 
-    Raises TypeError for what is no whole number, ValueError for a negative one and where there are none, and WrongShape
-    for ragged lists.
+    The numbers of an array of up to 64 bits are a view of it. Raises TypeError for what is no whole number, ValueError
+    for a negative one and where there are none, and WrongShape for ragged lists.
     """
     if is_array(values):
         numbers, shape = flat_array(values)
@@ -90,23 +90,31 @@ def flat(values: object) -> tuple[list[int], tuple[int, ...]]:
         numbers, shape = flat_items(list(values))
     if not numbers:
         raise ValueError("there are no values")
-    if min(numbers) < 0:
-        place = next(place for place, number in enumerate(numbers) if number < 0)
-        raise ValueError(f"{numbers[place]} is negative: unsigned(values, bits) gives two's complement")
+    if isinstance(numbers, list) and min(numbers) < 0:
+        raise negative(next(number for number in numbers if number < 0))
     return numbers, shape
 
 
-def flat_array(values: Any) -> tuple[list[int], tuple[int, ...]]:
+def negative(number: int) -> ValueError:
+    """What is raised for a number below 0."""
+    return ValueError(f"{number} is negative: unsigned(values, bits) gives two's complement")
+
+
+def flat_array(values: Any) -> tuple[Sequence[int], tuple[int, ...]]:
     """The numbers and the shape of an array of whole numbers or of booleans."""
     if values.dtype.kind not in "iubO":
         raise TypeError(f"values are whole numbers, and not {values.dtype}")
-    numbers = values.ravel(order="C").tolist()
-    whole = numbers if values.dtype.kind in "iu" else list(map(operator.index, numbers))
-    return whole, tuple(values.shape)
+    if values.dtype.kind == "O":
+        return list(map(operator.index, values.ravel(order="C").tolist())), tuple(values.shape)
+    from pevudlo.arrays import words_in
+
+    return words_in(values), tuple(values.shape)
 
 
 def flat_items(items: list[Any]) -> tuple[list[int], tuple[int, ...]]:
     """The numbers and the shape of a list, whose items may be lists or arrays of one shape."""
+    if set(map(type, items)) == {int}:
+        return items, (len(items),)
     nested = [isinstance(item, (list, tuple, range)) or (is_array(item) and item.ndim > 0) for item in items]
     if not any(nested):
         return list(map(operator.index, items)), (len(items),)

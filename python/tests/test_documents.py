@@ -3,6 +3,7 @@
 from __future__ import annotations
 
 import doctest
+import os
 import re
 import subprocess
 import sys
@@ -14,11 +15,13 @@ REPOSITORY = Path(__file__).resolve().parents[2]
 DOCUMENT = REPOSITORY / "docs/PYTHON.md"
 
 
-def test_the_examples_give_what_the_document_says() -> None:
+def test_the_examples_give_what_the_document_says(library: bool) -> None:
     text = DOCUMENT.read_text(encoding="utf-8")
-    examples = "\n".join(re.findall(r"```python\n(.*?)```", text, re.S))
-    test = doctest.DocTestParser().get_doctest(examples, {}, "docs/PYTHON.md", str(DOCUMENT), 0)
-    assert len(test.examples) == text.count("\n>>> ")
+    blocks = re.findall(r"```python\n(.*?)```", text, re.S)
+    chosen = [block for block in blocks if library or not re.search("library=|Library", block)]
+    assert (len(chosen) == len(blocks)) == library
+    test = doctest.DocTestParser().get_doctest("\n".join(chosen), {}, "docs/PYTHON.md", str(DOCUMENT), 0)
+    assert not library or len(test.examples) == text.count("\n>>> ")
     assert doctest.DocTestRunner(optionflags=doctest.IGNORE_EXCEPTION_DETAIL).run(test).failed == 0
     for value in test.globs.values():
         if isinstance(value, Machine):
@@ -39,6 +42,24 @@ def test_bench_measures() -> None:
     head, _, *lines = ran.stdout.splitlines()
     assert head.startswith("| what |") and len(lines) == 4
     assert all(re.fullmatch(r"\|[^|]+\|( \d+\.\d (us|ms) \|){3} 200 (us|ms) \|", line) for line in lines)
+
+
+def test_bench_measures_arrays(libparis: Path) -> None:
+    ran = subprocess.run([sys.executable, REPOSITORY / "bench/arrays", "1"], capture_output=True, text=True, timeout=60)
+    assert ran.returncode in (0, 1) and ran.stderr == ""
+    rounds, lines = (table.splitlines() for table in ran.stdout.split("\n\n"))
+    assert rounds[0].startswith("| one round |") and len(rounds) == 5
+    assert all(re.fullmatch(r"\| (8|32|64) bits (\|[ \d./]+ms ){5}\| \*\*\d+\.\d\*\* \|", line) for line in rounds[2:])
+    assert all(re.fullmatch(r"\|[^|]+\| \d+(\.\d+ µs each| ns) \|", line) for line in lines[2:])
+
+
+def test_the_first_program_over_the_library_writes_what_the_document_says(libparis: Path, tmp_path: Path) -> None:
+    text = (REPOSITORY / "docs/EMBEDDING.md").read_text(encoding="utf-8").split("\n## From Python\n")[1]
+    program, written = re.findall(r"```(?:python)?\n(.*?)```", text, re.S)[:2]
+    environment = {**os.environ, "PYTHONPATH": str(REPOSITORY / "python")}
+    words = [sys.executable, "-c", program]
+    ran = subprocess.run(words, capture_output=True, text=True, timeout=60, cwd=tmp_path, env=environment)
+    assert (ran.stdout, ran.stderr, ran.returncode) == (written, "", 0)
 
 
 def test_explain_writes_what_the_document_says(tmp_path: Path) -> None:

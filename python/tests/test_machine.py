@@ -22,8 +22,8 @@ REPOSITORY = Path(__file__).resolve().parents[2]
 
 
 @pytest.fixture
-def machine() -> Iterator[Machine]:
-    with Machine() as made:
+def machine(library: bool) -> Iterator[Machine]:
+    with Machine(library=library) as made:
         made.set("S", 4)
         made.field("a", "S", 8)
         made.field("b", "S", 8)
@@ -36,8 +36,8 @@ def numbers(values: object) -> list[int]:
     return [int(number) for number in values.ravel().tolist()]
 
 
-def test_values_in_the_shape_of_the_axes() -> None:
-    with Machine() as machine:
+def test_values_in_the_shape_of_the_axes(library: bool) -> None:
+    with Machine(library=library) as machine:
         machine.set("G", 4, 2, 2)
         machine.field("x", "G", 8)
         machine.field("at", "G", 8)
@@ -54,6 +54,9 @@ def test_values_in_the_shape_of_the_axes() -> None:
             whole,
             whole.tolist(),
             whole.astype(numpy.int8),
+            whole.astype(">u4"),
+            numpy.asfortranarray(whole),
+            numpy.repeat(whole, 2, axis=1)[:, ::2],
             whole[:, :, ::-1][:, :, ::-1],
         ):
             machine["x"] = [0] * 16
@@ -96,6 +99,7 @@ def test_values_from_a_processor_on(machine: Machine) -> None:
         ([1, [2], 3, 4], WrongShape),
         (numpy.zeros((4, 1), dtype=int), WrongShape),
         ([1, 2, 3, -4], ValueError),
+        (numpy.array([1, 2, 3, -4]), ValueError),
         ([], ValueError),
         ([1, 2, 3, 4.0], TypeError),
         (numpy.zeros(4), TypeError),
@@ -110,6 +114,12 @@ def test_values_that_are_none(machine: Machine, values: Any, error: type[Excepti
     with pytest.raises(error):
         machine["a"] = values
     assert numbers(machine["a"]) == [9, 9, 9, 9]
+
+
+def test_a_negative_number_is_named(machine: Machine) -> None:
+    for values in ([1, 2, 3, -4], numpy.array([1, 2, 3, -4]), [numpy.array([1, 2]), numpy.array([3, -4])]):
+        with pytest.raises(ValueError, match="-4 is negative"):
+            machine["a"] = values
 
 
 def test_values_that_are_pending_are_no_numbers(machine: Machine) -> None:
@@ -196,17 +206,17 @@ def test_a_refusal_says_all_of_it(machine: Machine) -> None:
     assert (error.value.number, error.value.column) == (20, 12)
     for line in ("show a\nlist", ""):
         with pytest.raises(ValueError):
-            machine.insert(line) if line else machine._tell(line)
+            machine.insert(line) if line else machine._talk.command(line)
 
 
-def test_large_inputs_are_cut_into_lines() -> None:
+def test_large_inputs_are_cut_into_lines(library: bool) -> None:
     values = [(v * 0x9E3779B97F4A7C15) % 2**64 for v in range(65_536)]
     lines = input_lines("abcdefghijklmnop", 0, values)
     assert len(lines) > 1 and all(len(line) < 65_536 for line in lines)
     assert [int(word) for line in lines for word in line.split(" ")[3:]] == values
     firsts = [int(line.split(" ")[2]) for line in lines]
     assert firsts == [sum(len(line.split(" ")) - 3 for line in lines[:at]) for at in range(len(lines))]
-    with Machine() as machine:
+    with Machine(library=library) as machine:
         machine.set("S", 256, 256)
         machine.field("abcdefghijklmnop", "S", 64)
         machine["abcdefghijklmnop"] = numpy.array(values, dtype=numpy.uint64).reshape(256, 256)
@@ -214,8 +224,10 @@ def test_large_inputs_are_cut_into_lines() -> None:
 
 
 @pytest.mark.parametrize("count, wide, number", [(65_536, 65_530, 9), (65_537, None, 8), (65_537, 3, 8)])
-def test_a_large_input_that_is_refused_changes_nothing(count: int, wide: int | None, number: int) -> None:
-    with Machine() as machine:
+def test_a_large_input_that_is_refused_changes_nothing(
+    library: bool, count: int, wide: int | None, number: int
+) -> None:
+    with Machine(library=library) as machine:
         machine.set("S", 65_536)
         machine.field("a", "S", 32)
         machine.insert("u-move-1L a a 32")
@@ -289,7 +301,7 @@ def test_a_killed_child() -> None:
             machine.settle()
 
 
-def test_without_numpy_values_are_lists() -> None:
+def test_without_numpy_values_are_lists(library: bool) -> None:
     script = """
 import sys
 sys.path.insert(0, sys.argv[1])
@@ -300,18 +312,21 @@ class Without:
 sys.meta_path.insert(0, Without())
 import pevudlo, pevudlo.values
 pevudlo.values.find_spec = lambda name: None
-with pevudlo.Machine() as machine:
+with pevudlo.Machine(library=sys.argv[2] == "True") as machine:
     machine.set("S", 2, 2)
     machine.field("a", "S", 8)
     machine["a"] = [[1, 2], [3, 200]]
     assert machine["a"] == machine["a"].tolist() == [[1, 2], [3, 200]], machine["a"]
     assert pevudlo.signed(machine["a"], 8) == [[1, 2], [3, -56]]
     assert ">200<" in machine["a"]._repr_html_()
+    try:
+        machine["a"] = [[1, 2], [2**64, 3]]
+    except pevudlo.Refusal as refusal:
+        assert refusal.explanation.detail == 2
     machine["a"] = range(4)
     print(machine["a"])
 assert "numpy" not in sys.modules
 """
-    ran = subprocess.run(
-        [sys.executable, "-c", script, str(REPOSITORY / "python")], capture_output=True, text=True, timeout=60
-    )
+    words = [sys.executable, "-c", script, str(REPOSITORY / "python"), str(library)]
+    ran = subprocess.run(words, capture_output=True, text=True, timeout=60)
     assert (ran.stdout, ran.stderr) == ("[[0, 1], [2, 3]]\n", "")

@@ -76,9 +76,9 @@ def looked(machine: Machine, words: list[str]) -> str:
 
 
 @pytest.mark.parametrize("path", SCRIPTS, ids=lambda path: str(path.relative_to(REPOSITORY)))
-def test_each_script_gives_its_transcript(path: Path) -> None:
+def test_each_script_gives_its_transcript(library: bool, path: Path) -> None:
     written = []
-    with Machine() as machine:
+    with Machine(library=library) as machine:
         for line in path.read_text().split("\n"):
             if not line or line.startswith("#"):
                 continue

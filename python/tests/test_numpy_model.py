@@ -158,9 +158,9 @@ def random_world(random: Random, axes: tuple[int, ...]) -> World:
 
 @pytest.mark.parametrize("axes", [(8, 4), (4, 2, 2), (1, 16)])
 @pytest.mark.parametrize("model", MODELS, ids=[model.__name__ for model in MODELS])
-def test_numpy_and_the_program_agree(model: Callable[[World, int], str], axes: tuple[int, ...]) -> None:
+def test_numpy_and_the_program_agree(library: bool, model: Callable[[World, int], str], axes: tuple[int, ...]) -> None:
     random = Random(f"{model.__name__} {axes}")
-    with Machine() as machine:
+    with Machine(library=library) as machine:
         machine.set("S", *axes)
         for name, width in FIELDS.items():
             machine.field(name, "S", width)

@@ -1,2 +1,3 @@
 mod KeptValues
 mod FaultNumbers
+mod Numbers

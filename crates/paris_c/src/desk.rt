@@ -1,12 +1,12 @@
 //! A session with the reply to its last line, as C calls it.
 
-ghost use Rattle.std.specs.Prelude.{◌≡◌, ◌⊎◌, ◌^◌, ◌<◌, [], Some, IsTrue};
+ghost use Rattle.std.specs.Prelude.{◌≡◌, ◌⊎◌, ◌^◌, [], Some, nat_lt};
 ghost use Rattle.paris_session.specs.Transcript.{start, answer};
-ghost use Rattle.paris_c.specs.Calls.{IsSettled, IsPartlySettled};
-ghost use Rattle.paris_c.specs.declared.statuses.TheConstants.{OK, NO_MEMORY, TOO_MANY};
+ghost use Rattle.paris_c.specs.Calls.{IsFull, IsPartlyAnswered, IsSettled, IsPartlySettled};
+ghost use Rattle.paris_c.specs.declared.statuses.TheConstants.{OK, NO_MEMORY, TOO_MANY, PARTLY};
 
-use crate::statuses::{NO_MEMORY, OK, TOO_MANY};
-use paris_session::{Alone, Session};
+use crate::statuses::{NO_MEMORY, OK, PARTLY, TOO_MANY};
+use paris_session::{Alone, NoReply, Session};
 use std::alloc::Global;
 
 /// A session, and the reply to its last line.
@@ -30,7 +30,7 @@ impl Desk {
 
     /// Whether the session can count one more command.
     fn has_room(&self) -> bool
-        ensures { IsTrue result → self.now.session.commands < 2 ^ 62 }
+        ensures { result ≡ nat_lt self.now.session.commands (2 ^ 62) }
     {
         self.session.summary().commands < 1 << 62
     }
@@ -38,8 +38,10 @@ impl Desk {
     /// Answers a line, and keeps the reply.
     pub(crate) fn answer(&mut self, line: &[u8]) -> u32
         ensures answered { result ≡ OK → (self.new.session, self.new.reply.items) ≡ answer self.old.session line.now }
-        ensures full { result ≡ TOO_MANY → self.new ≡ self.old }
-        ensures status { (result ≡ OK) ⊎ ((result ≡ NO_MEMORY) ⊎ (result ≡ TOO_MANY)) }
+        ensures kept { (result ≡ NO_MEMORY) ⊎ (result ≡ TOO_MANY) → self.new ≡ self.old }
+        ensures full { result ≡ TOO_MANY → IsFull (Some self.old) }
+        ensures partly { result ≡ PARTLY → IsPartlyAnswered (Some self.old) (Some self.new) line.now }
+        ensures status { (result ≡ OK) ⊎ ((result ≡ NO_MEMORY) ⊎ ((result ≡ TOO_MANY) ⊎ (result ≡ PARTLY))) }
     {
         if !self.has_room() {
             return TOO_MANY;
@@ -49,15 +51,16 @@ impl Desk {
                 self.reply = text;
                 OK
             }
-            Err(_) => NO_MEMORY,
+            Err(NoReply::Unchanged) => NO_MEMORY,
+            Err(NoReply::Partly) => PARTLY,
         }
     }
 
     /// Settles every row, and says how many were unsettled. Where memory is refused, it says how many rows more are settled.
     pub(crate) fn settle(&mut self, ran: &mut u64) -> u32
         ensures settled { result ≡ OK → IsSettled (Some self.old) (Some self.new) ran.new }
-        ensures partly { result ≡ NO_MEMORY → IsPartlySettled (Some self.old) (Some self.new) ran.new }
-        ensures status { (result ≡ OK) ⊎ (result ≡ NO_MEMORY) }
+        ensures partly { result ≡ PARTLY → IsPartlySettled (Some self.old) (Some self.new) ran.new }
+        ensures status { (result ≡ OK) ⊎ (result ≡ PARTLY) }
     {
         match self.session.settle(&Alone) {
             Ok(count) => {
@@ -66,7 +69,7 @@ impl Desk {
             }
             Err(fault) => {
                 *ran = fault.ran;
-                NO_MEMORY
+                PARTLY
             }
         }
     }

@@ -1,10 +1,10 @@
 //! The calls from C.
 
-ghost use Rattle.std.specs.Prelude.{◌≡◌, ◌≢◌, ◌⊎◌, ◌≤◌, None, length};
+ghost use Rattle.std.specs.Prelude.{◌≡◌, ◌≢◌, ◌⊎◌, ◌≤◌, ◌^◌, None, length};
 ghost use Rattle.paris_text.specs.Words.{key_word};
 ghost use Rattle.paris_session.specs.Transcript.{transcript};
-ghost use Rattle.paris_c.specs.Calls.{filled, looked, IsFresh, IsAnswered, IsReply, IsSet, IsSetFault, ShowsNumbers, ShowsCount, ShowsPending, ShowsFault, HasRows, CountsRows, IsSettled, IsPartlySettled};
-ghost use Rattle.paris_c.specs.declared.statuses.TheConstants.{OK, NO_MEMORY, CLOSED, NO_KEY, PENDING, WRONG_ROOM, TOO_MANY, TOO_WIDE};
+ghost use Rattle.paris_c.specs.Calls.{filled, looked, IsFresh, IsAnswered, IsFull, IsPartlyAnswered, IsReply, IsSet, IsSetFault, ShowsNumbers, ShowsCount, ShowsPending, ShowsFault, ShowsWide, HasRows, CountsRows, IsSettled, IsPartlySettled};
+ghost use Rattle.paris_c.specs.declared.statuses.TheConstants.{OK, NO_MEMORY, CLOSED, NO_KEY, PENDING, WRONG_ROOM, TOO_MANY, TOO_WIDE, PARTLY};
 
 use crate::desk::Desk;
 use crate::handle::Handle;
@@ -55,9 +55,11 @@ pub extern "C" fn paris_answer(
     ensures answered { result ≡ OK → IsAnswered handle.old.kept.value handle.new.kept.value line.now reply.new }
     ensures closed { handle.old.kept.value ≡ None → (result ≡ CLOSED) × (handle.new.kept.value ≡ None) }
     ensures was_closed { result ≡ CLOSED → handle.old.kept.value ≡ None }
-    ensures full { result ≡ TOO_MANY → handle.new.kept.value ≡ handle.old.kept.value }
+    ensures kept { (result ≡ NO_MEMORY) ⊎ (result ≡ TOO_MANY) → handle.new.kept.value ≡ handle.old.kept.value }
+    ensures full { result ≡ TOO_MANY → IsFull handle.old.kept.value }
+    ensures partly { result ≡ PARTLY → IsPartlyAnswered handle.old.kept.value handle.new.kept.value line.now }
     ensures open { result ≢ CLOSED → handle.new.kept.value ≢ None }
-    ensures status { (result ≡ OK) ⊎ ((result ≡ CLOSED) ⊎ ((result ≡ NO_MEMORY) ⊎ (result ≡ TOO_MANY))) }
+    ensures status { (result ≡ OK) ⊎ ((result ≡ CLOSED) ⊎ ((result ≡ NO_MEMORY) ⊎ ((result ≡ TOO_MANY) ⊎ (result ≡ PARTLY)))) }
 {
     let Some(mut desk) = handle.take(alloc) else {
         return CLOSED;
@@ -102,6 +104,7 @@ pub extern "C" fn paris_script(
     ensures written { result ≡ OK → room.new ≡ filled room.old (transcript script.now) }
     ensures len { result ≡ OK → len.new ≡ length (transcript script.now) }
     ensures kept { result ≢ OK → room.new ≡ room.old }
+    ensures long { result ≡ TOO_MANY → 2 ^ 62 ≤ length script.now }
     ensures status { (result ≡ OK) ⊎ ((result ≡ NO_MEMORY) ⊎ (result ≡ TOO_MANY)) }
 {
     if script.len() >= 1 << 62 {
@@ -138,7 +141,7 @@ pub extern "C" fn paris_set(
     let Some(mut desk) = handle.take(alloc) else {
         return CLOSED;
     };
-    let status = desk.set(alloc, key, from, words);
+    let status = desk.set(key, from, words);
     handle.put(desk);
     status
 }
@@ -163,6 +166,7 @@ pub extern "C" fn paris_get(
     ensures was_closed { result ≡ CLOSED → handle.old.kept.value ≡ None }
     ensures key { result ≡ NO_KEY → key_word key.now ≡ None }
     ensures few { result ≡ WRONG_ROOM → length room.old ≢ told.new }
+    ensures wide { result ≡ TOO_WIDE → ShowsWide (looked handle.old.kept.value (key_word key.now) place) }
     ensures status { (result ≤ 23) ⊎ ((result ≡ CLOSED) ⊎ ((result ≡ NO_KEY) ⊎ ((result ≡ PENDING) ⊎ ((result ≡ WRONG_ROOM) ⊎ (result ≡ TOO_WIDE))))) }
     ensures room { result ≢ OK → room.new ≡ room.old }
     ensures kept { handle.new.kept.value ≡ handle.old.kept.value }
@@ -204,9 +208,9 @@ pub extern "C" fn paris_rows(
 #[unsafe(no_mangle)]
 pub extern "C" fn paris_settle(alloc: Global, handle: &mut Handle, ran: &mut u64) -> u32
     ensures settled { result ≡ OK → IsSettled handle.old.kept.value handle.new.kept.value ran.new }
-    ensures partly { result ≡ NO_MEMORY → IsPartlySettled handle.old.kept.value handle.new.kept.value ran.new }
+    ensures partly { result ≡ PARTLY → IsPartlySettled handle.old.kept.value handle.new.kept.value ran.new }
     ensures closed { result ≡ CLOSED → (handle.old.kept.value ≡ None) × (handle.new.kept.value ≡ None) }
-    ensures status { (result ≡ OK) ⊎ ((result ≡ CLOSED) ⊎ (result ≡ NO_MEMORY)) }
+    ensures status { (result ≡ OK) ⊎ ((result ≡ CLOSED) ⊎ (result ≡ PARTLY)) }
 {
     let Some(mut desk) = handle.take(alloc) else {
         return CLOSED;

@@ -1,9 +1,9 @@
 //! What a key holds, and the rows, as words.
 
-ghost use Rattle.std.specs.Prelude.{◌≡◌, ◌≢◌, ◌⊎◌, ◌≤◌, length, None, Some, map};
+ghost use Rattle.std.specs.Prelude.{◌≡◌, ◌≢◌, ◌⊎◌, ◌<◌, ◌≤◌, length, None, Some, map};
 ghost use Rattle.paris_text.specs.Words.{key_word};
 ghost use Rattle.paris_field.specs.Fields.{AllFit};
-ghost use Rattle.paris_c.specs.Calls.{spot_of, looked, row_ids, ShowsNumbers, ShowsCount, ShowsPending, ShowsFault};
+ghost use Rattle.paris_c.specs.Calls.{spot_of, looked, row_ids, ShowsNumbers, ShowsCount, ShowsPending, ShowsFault, ShowsWide};
 ghost use Rattle.paris_c.specs.declared.statuses.TheConstants.{OK, NO_MEMORY, CLOSED, NO_KEY, PENDING, WRONG_ROOM, TOO_WIDE};
 
 use crate::desk::Desk;
@@ -44,6 +44,7 @@ fn put_value(value: &FieldValue, room: &mut [u64], told: &mut u64) -> u32
     ensures told { told.new ≡ length value.now.numbers }
     ensures kept { result ≢ OK → room.new ≡ room.old }
     ensures few { result ≡ WRONG_ROOM → length room.old ≢ length value.now.numbers }
+    ensures wide { result ≡ TOO_WIDE → 64 < value.now.width }
     ensures status { (result ≡ OK) ⊎ ((result ≡ NO_MEMORY) ⊎ ((result ≡ WRONG_ROOM) ⊎ (result ≡ TOO_WIDE))) }
 {
     *told = value.len() as u64;
@@ -89,6 +90,7 @@ impl Desk {
         ensures fault { 1 ≤ result → result ≤ 23 → result ≢ NO_MEMORY → ShowsFault (looked (Some self.now) (key_word key.now) place) result }
         ensures key { result ≡ NO_KEY → key_word key.now ≡ None }
         ensures few { result ≡ WRONG_ROOM → length room.old ≢ told.new }
+        ensures wide { result ≡ TOO_WIDE → ShowsWide (looked (Some self.now) (key_word key.now) place) }
         ensures kept { result ≢ OK → room.new ≡ room.old }
         ensures status { (result ≤ 23) ⊎ ((result ≡ NO_KEY) ⊎ ((result ≡ PENDING) ⊎ ((result ≡ WRONG_ROOM) ⊎ (result ≡ TOO_WIDE)))) }
         ensures open { result ≢ CLOSED }

@@ -29,6 +29,9 @@ pub(crate) const TOO_MANY: u32 = 105;
 /// A number is wider than a word.
 pub(crate) const TOO_WIDE: u32 = 106;
 
+/// Memory was refused while rows were settled. Those that ran are settled.
+pub(crate) const PARTLY: u32 = 107;
+
 /// The status of a call that is refused by a fault.
 #[tactic(auto, using(crate::proofs::FaultNumbers::number_small))]
 pub(crate) fn of_fault(fault: Fault) -> u32

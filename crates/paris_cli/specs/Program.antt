@@ -1,10 +1,15 @@
 -- What the program does on its reader and its writers, by its exit status.
-use Rattle.std.specs.Prelude.{◌≡◌, ℕ, ◌==◌, List, Option, codes, false, if◌then◌else◌}
+use Rattle.std.specs.Prelude.{◌≡◌, ◌≢◌, ℕ, ◌==◌, List, Option, codes, false, if◌then◌else◌}
 use Rattle.std.specs.Io.KnownBytes.{Appends, Consumes, Keeps, IsAtEnd}
 use Rattle.paris_session.specs.Transcript.{transcript, sitting_after}
 use Rattle.paris_calls.specs.Calls.{Marks, no_marks}
 use Rattle.paris_calls.specs.Texts.{WritesFront}
 use Rattle.paris_session.specs.Run.{StopsShort, HasCause, HasEnded, most_reads}
+use Rattle.paris_session.specs.declared.answers.Summary.{Summary}
+use Rattle.paris_parts.specs.declared.run.DeskRunFault.{DeskRunFault}
+use Rattle.paris_parts.specs.declared.run.DeskRunFault.TheVariants as desk
+use Rattle.paris_parts.specs.Run.{Runs}
+use Rattle.paris_cli.specs.Words.{AskFor}
 use Rattle.paris_session.specs.declared.run.RunFault.{RunFault}
 use Rattle.paris_session.specs.declared.run.RunFault.TheVariants.{Read, Write, TooLong, NoMemory}
 
@@ -52,3 +57,39 @@ pub record Stops (reader_old reader_new writer_old writer_new errors_old errors_
   pub cause : HasCause fault run most_reads
   pub named : WritesFront errors_old errors_new (run_fault_line fault)
   pub whole : errors.write_failed ≡ false → Appends errors_old errors_new (run_fault_line fault)
+
+abbrev pub desk_fault_line : DeskRunFault → List ℕ
+desk_fault_line (desk.Run fault) = run_fault_line fault
+desk_fault_line desk.Parts = codes "wrong parts\n"
+desk_fault_line (desk.Desk fault) = codes "history full\n"
+
+abbrev pub desk_fault_status : DeskRunFault → ℕ
+desk_fault_status (desk.Run fault) = run_fault_status fault
+desk_fault_status desk.Parts = 2
+desk_fault_status (desk.Desk fault) = 4
+
+-- all bytes were read, they were run at a desk with so many workers, what they come to was written, and the status says whether some
+-- command was refused; no line names a fault
+pub record FinishesAtDesk (workers : ℕ) (reader_old reader_new writer_old writer_new errors_old errors_new : Option (List ℕ)) (status : ℕ) : Type 0 where
+  pub read : List ℕ
+  pub text : List ℕ
+  pub summary : Summary
+  pub consumed : Consumes reader_old reader_new read
+  pub at_end : IsAtEnd reader_new
+  pub written : Appends writer_old writer_new text
+  pub runs : Runs workers read text summary
+  pub status_is : status ≡ exit_status summary.refusals
+  pub silent : Keeps errors_old errors_new
+
+-- with as many workers as the words ask for
+abbrev pub Sits : List (List ℕ) → Option (List ℕ) → Option (List ℕ) → Option (List ℕ) → Option (List ℕ) → Option (List ℕ) → Option (List ℕ) → ℕ → Type 0
+Sits words reader_old reader_new writer_old writer_new errors_old errors_new status =
+    (workers : ℕ) × ((k : ℕ) → AskFor words k → workers ≡ k) × FinishesAtDesk workers reader_old reader_new writer_old writer_new errors_old errors_new status
+
+-- a run at a desk was stopped, or its words were refused: nothing was written, unless the reader or the writer has failed, and a front of
+-- a line that says why was written: all of it, unless that writer has failed
+pub record Halts (writer_old writer_new errors_old errors_new : Option (List ℕ)) (errors : Marks) (status : ℕ) : Type 0 where
+  pub line : List ℕ
+  pub unwritten : status ≢ 3 → Keeps writer_old writer_new
+  pub named : WritesFront errors_old errors_new line
+  pub whole : errors.write_failed ≡ false → Appends errors_old errors_new line

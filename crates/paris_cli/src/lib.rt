@@ -6,4 +6,4 @@ mod words;
 mod workers;
 
 pub use program::{Tallies, refuse_words, run_words};
-pub use words::{WordsFault, read_workers};
+pub use words::{Wanted, WordsFault, read_words};

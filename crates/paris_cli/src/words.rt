@@ -1,17 +1,17 @@
 //! The words of the command line: what they may be, and how many workers they ask for.
 
-ghost use Rattle.std.specs.Prelude.{◌≤◌, ◌≡◌, ◌⊎◌, ℕ, map, IfOk, OnOk, IfErr};
+ghost use Rattle.std.specs.Prelude.{◌≤◌, ◌≡◌, ◌⊎◌, ℕ, Bool, map, IfOk, OnOk, IfErr};
 ghost use Rattle.std.specs.String.{string_bytes};
-ghost use Rattle.clap.specs.Words.{kind_of};
+ghost use Rattle.clap.specs.Words.{app_of, kind_of};
 ghost use Rattle.clap.specs.declared.error.kind.ErrorKind.TheVariants.{OutOfMemory};
-ghost use Rattle.paris_cli.specs.Words.{AreTaken, AskFor, SaysNumber, refusal_line, refusal_status};
+ghost use Rattle.paris_cli.specs.Words.{AreTaken, AskFor, AskForDesk, SaysNumber, command_line, refusal_line, refusal_status};
 ghost use Rattle.paris_cli.specs.declared.words.WordsFault.TheVariants as WordsCase;
 ghost use Rattle.paris_names.specs.declared.limits.TheConstants.{MAX_WORKERS};
 
 use clap::error::ErrorKind;
-use clap::{Arg, Command, value_parser};
+use clap::{Arg, ArgAction, Command, value_parser};
 use paris_names::limits::MAX_WORKERS;
-use std::alloc::Global;
+use std::alloc::{AllocError, Global};
 
 /// Why the words of a command line are refused.
 #[derive(Debug, Drop)]
@@ -63,11 +63,9 @@ fn number_of(word: &str) -> u8
     }
 }
 
-/// The number that `--workers` gives.
-fn parse(alloc: Global, words: &[String]) -> Result<u8, clap::Error>
-    ensures number { IfOk result (λ number. (k : ℕ) → AskFor (map string_bytes words.now) k → number ≡ k) }
-    ensures taken { OnOk result (AreTaken (map string_bytes words.now)) }
-    ensures untaken { IfErr result (λ e. (kind_of e ≡ OutOfMemory) ⊎ (AreTaken (map string_bytes words.now) → ⊥)) }
+/// The command line.
+fn command_line<'a>(alloc: Global) -> Result<Command<'a>, AllocError>
+    ensures { IfOk result (λ command. app_of command ≡ command_line) }
 {
     let workers = Arg::new(alloc, "workers")
         .long("workers")
@@ -75,11 +73,27 @@ fn parse(alloc: Global, words: &[String]) -> Result<u8, clap::Error>
         .help("how many orders are executed at once")
         .value_parser(value_parser!(u8).range(1..=16))
         .default_value("2");
+    let desk = Arg::new(alloc, "desk")
+        .long("desk")
+        .help("the script is in parts, whose sessions share a desk")
+        .action(ArgAction::SetTrue);
     let command = Command::new(alloc, "paris_front")
         .no_binary_name(true)
         .arg(workers)?;
+    command.arg(desk)
+}
+
+/// The number that `--workers` gives, and whether `--desk` is there.
+fn parse(alloc: Global, words: &[String]) -> Result<(u8, bool), clap::Error>
+    ensures number { IfOk result (λ asked. (k : ℕ) → AskFor (map string_bytes words.now) k → asked.0 ≡ k) }
+    ensures desk { IfOk result (λ asked. (desk : Bool) → AskForDesk (map string_bytes words.now) desk → asked.1 ≡ desk) }
+    ensures taken { OnOk result (AreTaken (map string_bytes words.now)) }
+    ensures untaken { IfErr result (λ e. (kind_of e ≡ OutOfMemory) ⊎ (AreTaken (map string_bytes words.now) → ⊥)) }
+{
+    let command = command_line(alloc)?;
     let matches = command.try_get_matches_from(words)?;
-    Ok(number_of(matches.get_str("workers").unwrap_or("2")))
+    let workers = number_of(matches.get_str("workers").unwrap_or("2"));
+    Ok((workers, matches.get_flag("desk")))
 }
 
 fn fault_of(alloc: Global, error: clap::Error) -> WordsFault
@@ -95,16 +109,29 @@ fn fault_of(alloc: Global, error: clap::Error) -> WordsFault
     }
 }
 
-/// The number of workers that the words behind the program's name ask for: `--workers N`, a whole number from 1 to 16, or 2
-/// workers where there are no words. All other words are refused.
-pub fn read_workers(alloc: Global, words: &[String]) -> Result<usize, WordsFault>
-    ensures workers { IfOk result (λ workers. (1 ≤ workers) × (workers ≤ MAX_WORKERS)) }
-    ensures number { IfOk result (λ workers. (k : ℕ) → AskFor (map string_bytes words.now) k → workers ≡ k) }
+/// What words ask for.
+#[derive(Clone, Copy, Debug, PartialEq, Eq)]
+pub struct Wanted {
+    /// How many workers there are, from 1 to 16.
+    pub workers: usize,
+    /// Whether the script is in parts, whose sessions share a desk.
+    pub desk: bool,
+}
+
+/// What the words behind the program's name ask for: `--workers N`, a whole number from 1 to 16, or 2 workers where it is not there,
+/// and `--desk`. All other words are refused.
+pub fn read_words(alloc: Global, words: &[String]) -> Result<Wanted, WordsFault>
+    ensures workers { IfOk result (λ wanted. (1 ≤ wanted.workers) × (wanted.workers ≤ MAX_WORKERS)) }
+    ensures number { IfOk result (λ wanted. (k : ℕ) → AskFor (map string_bytes words.now) k → wanted.workers ≡ k) }
+    ensures desk { IfOk result (λ wanted. (desk : Bool) → AskForDesk (map string_bytes words.now) desk → wanted.desk ≡ desk) }
     ensures taken { OnOk result (AreTaken (map string_bytes words.now)) }
     ensures untaken { IfErr result (λ fault. (fault ≡ WordsCase.NoMemory) ⊎ (AreTaken (map string_bytes words.now) → ⊥)) }
 {
     match parse(alloc, words) {
-        Ok(workers) => Ok(usize::from(workers).clamp(1, MAX_WORKERS)),
+        Ok((workers, desk)) => {
+            let workers = usize::from(workers).clamp(1, MAX_WORKERS);
+            Ok(Wanted { workers, desk })
+        }
         Err(error) => Err(fault_of(alloc, error)),
     }
 }

@@ -4,6 +4,8 @@
 #[cfg(test)]
 mod cuts;
 #[cfg(test)]
+mod desks;
+#[cfg(test)]
 mod gallery;
 #[cfg(test)]
 mod limits;

@@ -3,7 +3,7 @@
 ghost use Rattle.std.specs.Prelude.{Some};
 
 use paris_calls::Tally;
-use paris_cli::{Tallies, read_workers, run_words};
+use paris_cli::{Tallies, read_words, run_words};
 use paris_session::{Alone, RunFault, Summary, run_counted, transcript};
 use std::alloc::Global;
 use std::io;
@@ -156,7 +156,7 @@ fn edits_rows_by_id(rt: HostRuntime) {
 }
 
 /// The words of a command line that is cut at spaces.
-fn words_in(alloc: Global, line: &str) -> Result<Vec<String>, Fail> {
+pub(crate) fn words_in(alloc: Global, line: &str) -> Result<Vec<String>, Fail> {
     let mut words = Vec::new(alloc);
     for word in line.split(' ') {
         words.push(String::from_str(alloc, word)?)?;
@@ -174,8 +174,11 @@ fn takes_a_number_of_workers(rt: HostRuntime) -> Result<(), Fail> {
         ("--", 2),
     ] {
         let words = words_in(rt.alloc(), line)?;
-        let workers = read_workers(rt.alloc(), words.as_slice());
-        assert!(rt; matches!(workers, Ok(n) if n == number), "at {line}");
+        let wanted = read_words(rt.alloc(), words.as_slice());
+        assert!(rt;
+            matches!(wanted, Ok(wanted) if wanted.workers == number && !wanted.desk),
+            "at {line}"
+        );
         let mut reader = b"settle\n".as_slice();
         let mut out = Vec::new(rt.alloc());
         let mut errors = Vec::new(rt.alloc());
@@ -202,7 +205,8 @@ fn refuses_other_words(rt: HostRuntime) -> Result<(), Fail> {
         "--workers",
         "--workers x",
         "--workers 1 --workers 2",
-        "--desk",
+        "--desk=1",
+        "--desk --desk",
         "x",
         "",
         "--help",

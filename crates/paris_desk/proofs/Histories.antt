@@ -47,17 +47,17 @@ none_due limit len front few is = by_tests (nat_lt len front) refl (len == limit
     by_tests false lt false eq is = (grind (arith, nat_tests, lt), grind (arith, nat_tests, eq, few))
 
 -- what a hold that makes an event leaves: the lock keeps its history, and the call is recorded
-pub recorded : (limit n : ℕ) (h h' : List Entry) (number front : ℕ) (rs rs' : List Receipt) (s s' : State) (t t' : ℕ) (ev ev1 ev2 : Event) (r r1 r2 : Reply)
-    → Kept limit h s t → n ≡ length h → hold_fault limit (length h) front ≡ None → ev1 ≡ ev → ev2 ≡ ev → r ≡ reply_to s ev → r1 ≡ r → r2 ≡ r → s' ≡ after s ev → t' ≡ t + 1
-    → h' ≡ h ++ entry number ev1 r1 ∷ [] → rs' ≡ rs ++ receipt number (n + 1) ev2 r2 ∷ []
+pub recorded : (limit n : ℕ) (h h' : List Entry) (number front : ℕ) (rs rs' : List Receipt) (s s' : State) (t t' : ℕ) (ev entry_event receipt_event : Event) (r entry_reply receipt_reply : Reply)
+    → Kept limit h s t → n ≡ length h → hold_fault limit (length h) front ≡ None → entry_event ≡ ev → receipt_event ≡ ev → r ≡ reply_to s ev → entry_reply ≡ r → receipt_reply ≡ r → s' ≡ after s ev → t' ≡ t + 1
+    → h' ≡ h ++ entry number entry_event entry_reply ∷ [] → rs' ≡ rs ++ receipt number (n + 1) receipt_event receipt_reply ∷ []
     → Kept limit h' s' t' × Recorded limit h h' (sitting number rs front) (sitting number rs' (n + 1)) ev r
-recorded limit n h h' number front rs rs' s s' t t' ev ev1 ev2 r r1 r2 kept count due e1 e2 answer a1 a2 step total more noted =
-    let made : entry number ev1 r1 ≡ entry number ev r = λ i. entry number (e1 i) (a1 i) in
+recorded limit n h h' number front rs rs' s s' t t' ev entry_event receipt_event r entry_reply receipt_reply kept count due e1 e2 answer a1 a2 step total more noted =
+    let made : entry number entry_event entry_reply ≡ entry number ev r = λ i. entry number (e1 i) (a1 i) in
     let history : h' ≡ h ++ entry number ev r ∷ [] = more ∙ ap (λ z. h ++ z ∷ []) made in
     let room = (none_due limit (length h) front kept.3 due).1 in
     let keeping = keeps limit h h' s s' t t' (entry number ev r) kept room history answer step total in
     let number_is : n + 1 ≡ length h + 1 = ap (λ z. z + 1) count in
-    let told : receipt number (n + 1) ev2 r2 ≡ receipt number (length h + 1) ev r = λ i. receipt number (number_is i) (e2 i) (a2 i) in
+    let told : receipt number (n + 1) receipt_event receipt_reply ≡ receipt number (length h + 1) ev r = λ i. receipt number (number_is i) (e2 i) (a2 i) in
     let receipts : rs' ≡ rs ++ receipt number (length h + 1) ev r ∷ [] = noted ∙ ap (λ z. rs ++ z ∷ []) told in (
       keeping,
       record {

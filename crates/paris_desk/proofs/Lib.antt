@@ -1,2 +1,6 @@
+pub mod Agreements
 pub mod Calling
+pub mod Gathering
 pub mod Histories
+pub mod Sameness
+pub mod Turns

@@ -30,12 +30,12 @@ impl Opening {
     }
 }
 
-/// How many seats there are.
+/// How many seats there are: one for each part of the ledger.
 #[derive(Drop)]
 pub(crate) struct Count<L: Office> {
     pub(crate) seats: u64,
     of: PhantomData<L>,
-    ghost counted: { seats ≡ L.seats },
+    ghost counted: { (seats ≡ L.seats) × (L.seats ≡ L.parts) },
 }
 
 /// A book under a lock, with the history that led to it. Seats call it, in any thread. It is ended by `discard`.
@@ -76,7 +76,7 @@ impl<L: Office> Desk<L> {
     }
 
     /// A call of a seat: one hold of the lock.
-    pub(crate) fn call<R: Wait>(
+    pub fn call<R: Wait>(
         &self,
         rt: &R,
         seat: &mut Seat<L>,

@@ -1,15 +1,19 @@
-//! Tests of the calls of seats, one after another and in threads.
+//! Tests of desks: what their seats do, one after another and in threads, and how the desks are ended.
 
 ghost use Rattle.std.specs.Prelude.{◌≡◌, ◌≤◌};
 ghost use Rattle.paris_desk.specs.declared.limits.TheConstants.{MAX_HISTORY, MAX_SEATS};
 
-use crate::spellings::{Text, instr_of, key, name};
-use paris_desk::{Desk, Front, Office, Opening, Seat};
-use paris_events::{Edit, EditReply, Verdict};
-use paris_exec::execute;
-use paris_machine::Shown;
-use paris_names::Spot::End;
-use paris_names::{Edition, Fault, Items, RowId, Spot};
+use crate::endings::Ending::{Closes, IsDiscarded, IsSpoilt, Misses};
+use crate::endings::Spoil::*;
+use crate::endings::{Ending, ends};
+use crate::spellings::Text;
+use crate::steps::Change::{Delete, Field, Input, Set};
+use crate::steps::Step::*;
+use crate::steps::{Step, plays};
+use paris_desk::{Desk, Office, Opening, Seat};
+use paris_events::Verdict::{Kept, Stale};
+use paris_names::Spot::{After, End};
+use paris_names::{Edition, Fault, RowId};
 use std::alloc::Global;
 use std::marker::Brand;
 use std::process::Abort;
@@ -19,152 +23,13 @@ use std::thread::{Threads, join};
 
 const SUM: Text = b"u-add-3-1L c a b 8";
 
-/// What is done with a desk and its seats.
+/// What the seats of a desk do.
 #[derive(Clone, Copy)]
 enum Script {
-    FillsTheHistory,
-    LearnsOfAnotherFront,
-    TwoSeatsByTurns,
-    TwoSeatsInThreads,
-}
-
-/// The one seat lists the rows until the history is full.
-fn fills_the_history<L: Office>(
-    rt: &(impl Abort + Wait),
-    desk: &Desk<L>,
-    seat: &mut Seat<L>,
-) -> Result<(), Fail> {
-    assert!(rt; desk.list(rt, seat)?.is_empty());
-    assert!(rt; desk.list(rt, seat)?.is_empty());
-    assert_eq!(rt; desk.list(rt, seat).err(), Some(Fault::HistoryFull(2)));
-    assert_eq!(rt; seat.receipts().len(), 2);
-    assert_eq!(rt; seat.front(), Front(2));
-    Ok(())
-}
-
-/// A seat that is told of a false front is refused.
-fn learns_of_another_front<L: Office>(
-    rt: &(impl Abort + Wait),
-    desk: &Desk<L>,
-    seat: &mut Seat<L>,
-) -> Result<(), Fail> {
-    seat.learn(Front(99));
-    let answer = desk.edit(rt, seat, Edit::Delete(RowId(1)));
-    assert_eq!(rt; answer, Err(Fault::StrangeSeat(99, 0)));
-    assert!(rt; seat.receipts().is_empty());
-    Ok(())
-}
-
-/// The edits of a first script but its last, which puts in a row.
-fn declares<L: Office>(
-    rt: &(impl Abort + Wait),
-    alloc: Global,
-    desk: &Desk<L>,
-    seat: &mut Seat<L>,
-) -> Result<(), Fail> {
-    let axes = Items::new(Vec::from_slice(alloc, &[4u64])?);
-    let set = Edit::AddSet {
-        name: name(rt, b"S"),
-        axes,
-    };
-    assert_eq!(rt; desk.edit(rt, seat, set), Ok(EditReply::Accepted));
-    const FIELDS: &[Text] = &[b"a", b"b", b"c"];
-    for field in FIELDS {
-        let edit = Edit::AddField {
-            name: name(rt, *field),
-            set: name(rt, b"S"),
-            width: 8,
-        };
-        assert_eq!(rt; desk.edit(rt, seat, edit), Ok(EditReply::Accepted));
-    }
-    Ok(())
-}
-
-fn gives<L: Office>(
-    rt: &(impl Abort + Wait),
-    alloc: Global,
-    desk: &Desk<L>,
-    seat: &mut Seat<L>,
-    field: &[u8],
-    numbers: &[u128],
-) -> Result<(), Fail> {
-    let values = Items::new(Vec::from_slice(alloc, numbers)?);
-    let edit = Edit::Input {
-        key: key(rt, field),
-        from: 0,
-        values,
-    };
-    assert_eq!(rt; desk.edit(rt, seat, edit), Ok(EditReply::Accepted));
-    Ok(())
-}
-
-fn inserts<L: Office>(
-    rt: &(impl Abort + Wait),
-    desk: &Desk<L>,
-    seat: &mut Seat<L>,
-    id: u64,
-) -> Result<(), Fail> {
-    let edit = Edit::Insert {
-        spot: End,
-        instr: instr_of(rt, SUM),
-    };
-    assert_eq!(rt; desk.edit(rt, seat, edit), Ok(EditReply::Row(RowId(id))));
-    Ok(())
-}
-
-/// An order is taken, for the row of this id with this edition, executed and kept.
-fn runs<L: Office>(
-    rt: &(impl Abort + Wait),
-    alloc: Global,
-    desk: &Desk<L>,
-    seat: &mut Seat<L>,
-    id: u64,
-    edition: u64,
-) -> Result<(), Fail> {
-    let order = desk.take(rt, seat)?.expect(rt, "a row is ready");
-    assert!(rt; order.id() == RowId(id) && order.edition() == Edition(edition));
-    let done = execute(alloc, order).ok().expect(rt, "there is memory");
-    assert_eq!(rt; desk.bring(rt, seat, done).ok(), Some(Verdict::Kept));
-    Ok(())
-}
-
-fn shows<L: Office>(
-    rt: &(impl Abort + Wait),
-    desk: &Desk<L>,
-    seat: &mut Seat<L>,
-    spot: Spot,
-    numbers: &[u128],
-) -> Result<(), Fail> {
-    match desk.show(rt, seat, key(rt, b"c"), spot)? {
-        Shown::Settled(value) => assert_eq!(rt; value.get().numbers()?.as_slice(), numbers),
-        Shown::Pending(_) => assert!(rt; false),
-    }
-    Ok(())
-}
-
-/// One seat makes a program, and the other one runs its first row and looks at what it left.
-fn two_seats_by_turns<L: Office>(
-    rt: &(impl Abort + Wait),
-    alloc: Global,
-    desk: &Desk<L>,
-    one: &mut Seat<L>,
-    two: &mut Seat<L>,
-) -> Result<(), Fail> {
-    declares(rt, alloc, desk, one)?;
-    gives(rt, alloc, desk, one, b"a", &[10, 20, 30, 250])?;
-    gives(rt, alloc, desk, one, b"b", &[1, 2, 3, 10])?;
-    inserts(rt, desk, one, 1)?;
-    inserts(rt, desk, one, 2)?;
-    assert_eq!(rt; desk.list(rt, one)?.len(), 2);
-    runs(rt, alloc, desk, two, 1, 7)?;
-    shows(rt, desk, two, Spot::After(RowId(1)), &[11, 22, 33, 4])?;
-    assert_eq!(rt; one.receipts().len(), 9);
-    assert_eq!(rt; one.front(), Front(9));
-    assert_eq!(rt; two.receipts().len(), 3);
-    assert_eq!(rt; two.front(), Front(12));
-    let last = two.receipts().last().expect(rt, "it made calls");
-    assert!(rt; last.number == 12 && last.seat == two.number());
-    Ok(())
+    /// Steps one after another, each of the seat at its place.
+    Plays(&'static [(usize, Step)]),
+    /// The first two seats call at once.
+    CallsAtOnce,
 }
 
 /// A seat makes twenty calls.
@@ -182,12 +47,13 @@ fn lists_often<L: Office>(
 }
 
 /// Two seats call at once: each has its own receipts, and a later call counts all.
-fn two_seats_in_threads<L: Office + Send + Sync, R: Abort + Threads + Wait + Sync>(
+fn calls_at_once<L: Office + Send + Sync, R: Abort + Threads + Wait + Sync>(
     rt: &R,
     desk: &Desk<L>,
-    one: &mut Seat<L>,
-    two: &mut Seat<L>,
+    seats: &mut [Seat<L>],
 ) -> Result<(), Fail> {
+    let (one, rest) = seats.split_first_mut().expect(rt, "there is a seat");
+    let two = rest.first_mut().expect(rt, "there are two seats");
     let (first, second) = join(
         rt,
         || lists_often(rt, desk, &mut *one),
@@ -197,27 +63,20 @@ fn two_seats_in_threads<L: Office + Send + Sync, R: Abort + Threads + Wait + Syn
     second?;
     one.learn(two.front());
     desk.release(rt, one)?;
-    assert_eq!(rt; one.front(), Front(41));
+    assert_eq!(rt; one.front().0, 41);
     Ok(())
 }
 
-fn plays_with<L: Office + Send + Sync, R: Abort + Threads + Wait + Sync>(
+fn follows<L: Office + Send + Sync, R: Abort + Threads + Wait + Sync>(
     rt: &R,
     alloc: Global,
     desk: &Desk<L>,
-    seats: &mut Vec<Seat<L>>,
+    seats: &mut [Seat<L>],
     script: Script,
 ) -> Result<(), Fail> {
-    let mut last = seats.pop().ok_or("a seat")?;
     match script {
-        Script::FillsTheHistory => return fills_the_history(rt, desk, &mut last),
-        Script::LearnsOfAnotherFront => return learns_of_another_front(rt, desk, &mut last),
-        Script::TwoSeatsByTurns | Script::TwoSeatsInThreads => {}
-    }
-    let mut first = seats.pop().ok_or("two seats")?;
-    match script {
-        Script::TwoSeatsByTurns => two_seats_by_turns(rt, alloc, desk, &mut first, &mut last),
-        _ => two_seats_in_threads(rt, desk, &mut first, &mut last),
+        Script::Plays(steps) => plays(rt, alloc, desk, seats, steps),
+        Script::CallsAtOnce => calls_at_once(rt, desk, seats),
     }
 }
 
@@ -225,51 +84,169 @@ fn opens<L: Office + Send + Sync, R: Abort + Threads + Wait + Sync>(
     rt: &R,
     alloc: Global,
     opening: Opening,
-    seats: u64,
-    limit: u64,
+    size: (u64, u64),
     script: Script,
+    ending: Ending,
 ) -> Result<(), Fail>
     requires opening { (opening.blank.name ≡ L.name) × (opening.blank.parts ≡ L.parts) }
-    requires seats { (seats ≡ L.parts) × (seats ≡ L.seats) }
-    requires few { (1 ≤ seats) × (seats ≤ MAX_SEATS) }
-    requires limit { (limit ≡ L.limit) × (limit ≤ MAX_HISTORY) }
+    requires seats { (size.0 ≡ L.parts) × (size.0 ≡ L.seats) }
+    requires few { (1 ≤ size.0) × (size.0 ≤ MAX_SEATS) }
+    requires limit { (size.1 ≡ L.limit) × (size.1 ≤ MAX_HISTORY) }
 {
-    let (desk, mut all) = Desk::<L>::new(alloc, opening, seats, limit)?;
-    let played = plays_with(rt, alloc, &desk, &mut all, script);
-    desk.discard();
-    played
+    let (desk, mut seats) = Desk::<L>::new(alloc, opening, size.0, size.1)?;
+    match follows(rt, alloc, &desk, &mut seats, script) {
+        Ok(()) => ends(rt, alloc, desk, seats, ending),
+        Err(fail) => {
+            desk.discard();
+            Err(fail)
+        }
+    }
 }
 
-/// Plays a script at a desk of so many seats.
-fn plays<R: Abort + Threads + Wait + Sync>(
+/// At a desk of so many seats, whose history has room for so many entries, a script is followed, and then the desk is ended.
+fn tries<R: Abort + Threads + Wait + Sync>(
     rt: &R,
     alloc: Global,
-    seats: u64,
-    limit: u64,
+    size: (u64, u64),
     script: Script,
+    ending: Ending,
 ) -> Result<(), Fail>
-    requires few { (1 ≤ seats) × (seats ≤ MAX_SEATS) }
-    requires limit { limit ≤ MAX_HISTORY }
+    requires few { (1 ≤ size.0) × (size.0 ≤ MAX_SEATS) }
+    requires limit { size.1 ≤ MAX_HISTORY }
 {
-    opens::<Brand, R>(rt, alloc, Opening::new(seats), seats, limit, script)
+    opens::<Brand, R>(rt, alloc, Opening::new(size.0), size, script, ending)
 }
 
 #[test]
 fn a_desk_is_full_at_its_limit(rt: HostRuntime) -> Result<(), Fail> {
-    plays(&rt, rt.alloc(), 1, 2, Script::FillsTheHistory)
+    const STEPS: &[(usize, Step)] = &[
+        (0, Lists(&[])),
+        (0, Lists(&[])),
+        (0, MayNotList(Fault::HistoryFull(2))),
+        (0, Has(2, 2)),
+    ];
+    let script = Script::Plays(STEPS);
+    tries(&rt, rt.alloc(), (1, 2), script, Closes(&[2]))
 }
 
 #[test]
 fn a_false_front_is_refused(rt: HostRuntime) -> Result<(), Fail> {
-    plays(&rt, rt.alloc(), 1, 9, Script::LearnsOfAnotherFront)
+    const STEPS: &[(usize, Step)] = &[
+        (0, Learns(99)),
+        (0, Refuses(Delete(1), Fault::StrangeSeat(99, 0))),
+        (0, Has(0, 99)),
+    ];
+    let script = Script::Plays(STEPS);
+    tries(&rt, rt.alloc(), (1, 9), script, IsDiscarded)
+}
+
+/// One seat makes a program, and the other one runs its first row and looks at what it left.
+const TWO_SEATS: &[(usize, Step)] = &[
+    (0, Accepts(Set(&[4]))),
+    (0, Accepts(Field(b"a"))),
+    (0, Accepts(Field(b"b"))),
+    (0, Accepts(Field(b"c"))),
+    (0, Accepts(Input(b"a", &[10, 20, 30, 250]))),
+    (0, Accepts(Input(b"b", &[1, 2, 3, 10]))),
+    (0, Inserts(SUM, 1)),
+    (0, Inserts(SUM, 2)),
+    (0, Lists(&[1, 2])),
+    (1, Takes(1, 7)),
+    (1, Brings(0, Kept)),
+    (1, Shows(b"c", After(RowId(1)), &[11, 22, 33, 4])),
+    (0, Has(9, 9)),
+    (1, Has(3, 12)),
+];
+
+#[test]
+fn a_desk_is_closed_with_its_last_seat(rt: HostRuntime) -> Result<(), Fail> {
+    let script = Script::Plays(TWO_SEATS);
+    tries(&rt, rt.alloc(), (2, 100), script, Misses(1, &[9, 3]))
 }
 
 #[test]
-fn two_seats_share_a_book(rt: HostRuntime) -> Result<(), Fail> {
-    plays(&rt, rt.alloc(), 2, 100, Script::TwoSeatsByTurns)
+fn the_least_missing_seat_is_told(rt: HostRuntime) -> Result<(), Fail> {
+    let script = Script::Plays(TWO_SEATS);
+    tries(&rt, rt.alloc(), (2, 100), script, Misses(0, &[9, 3]))
+}
+
+#[test]
+fn a_first_script_on_one_seat(rt: HostRuntime) -> Result<(), Fail> {
+    const STEPS: &[(usize, Step)] = &[
+        (0, Accepts(Set(&[4]))),
+        (0, Accepts(Field(b"a"))),
+        (0, Accepts(Field(b"b"))),
+        (0, Accepts(Field(b"c"))),
+        (0, Accepts(Input(b"a", &[10, 20, 30, 250]))),
+        (0, Accepts(Input(b"b", &[1, 2, 3, 10]))),
+        (0, Inserts(SUM, 1)),
+        (0, Waits(b"c", End, 1)),
+        (0, Takes(1, 7)),
+        (0, Brings(0, Kept)),
+        (0, Shows(b"c", End, &[11, 22, 33, 4])),
+    ];
+    let script = Script::Plays(STEPS);
+    tries(&rt, rt.alloc(), (1, 100), script, Closes(&[11]))
+}
+
+#[test]
+fn rows_that_are_out_on_one_seat(rt: HostRuntime) -> Result<(), Fail> {
+    const STEPS: &[(usize, Step)] = &[
+        (0, Accepts(Set(&[4]))),
+        (0, Accepts(Field(b"a"))),
+        (0, Accepts(Field(b"c"))),
+        (0, Accepts(Field(b"d"))),
+        (0, Inserts(b"u-move-1L c a 8", 1)),
+        (0, Inserts(b"u-move-1L d c 8", 2)),
+        (0, Takes(1, 5)),
+        (0, Brings(0, Kept)),
+        (0, Takes(2, 6)),
+        (0, Accepts(Input(b"a", &[9]))),
+        (0, Brings(1, Stale(Edition(7)))),
+        (0, Takes(1, 7)),
+        (0, Releases),
+        (0, Takes(1, 7)),
+    ];
+    let script = Script::Plays(STEPS);
+    tries(&rt, rt.alloc(), (1, 100), script, Closes(&[14]))
+}
+
+#[test]
+fn refused_edits_are_recorded(rt: HostRuntime) -> Result<(), Fail> {
+    const STEPS: &[(usize, Step)] = &[
+        (0, Refuses(Field(b"a"), Fault::NoSet)),
+        (1, Refuses(Delete(7), Fault::NoRow)),
+        (0, Has(1, 1)),
+        (1, Has(1, 2)),
+    ];
+    let script = Script::Plays(STEPS);
+    tries(&rt, rt.alloc(), (3, 100), script, Closes(&[1, 1, 0]))
 }
 
 #[test]
 fn two_seats_call_at_once(rt: HostRuntime) -> Result<(), Fail> {
-    plays(&rt, rt.alloc(), 2, 100, Script::TwoSeatsInThreads)
+    let ending = Closes(&[21, 20]);
+    tries(&rt, rt.alloc(), (2, 100), Script::CallsAtOnce, ending)
+}
+
+#[test]
+fn an_audit_finds_each_change(rt: HostRuntime) -> Result<(), Fail> {
+    let script = Script::Plays(TWO_SEATS);
+    for change in [
+        TradesLists,
+        LosesAList,
+        LosesAReceipt,
+        LosesAnEntry,
+        EntryNamesAnotherSeat,
+        ReceiptNamesAnotherSeat,
+        ReceiptHasNumber(0),
+        ReceiptHasNumber(11),
+        ReceiptHasNumber(13),
+        TellsAnotherEvent,
+        TellsAnotherReply,
+        TellsAReplyThatIsNotMade,
+    ] {
+        tries(&rt, rt.alloc(), (2, 100), script, IsSpoilt(change))?;
+    }
+    Ok(())
 }

@@ -4,4 +4,10 @@
 #[cfg(test)]
 mod desks;
 #[cfg(test)]
+mod endings;
+#[cfg(test)]
 mod spellings;
+#[cfg(test)]
+mod steps;
+#[cfg(test)]
+mod working;

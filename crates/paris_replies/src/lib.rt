@@ -2,8 +2,7 @@
 #![tactic(auto)]
 
 mod replies;
+mod room;
 
-pub use replies::{
-    edit_text, faults_text, list_text, nothing_text, ok_text, order_text, pending_text,
-    refusal_text, settled_text, values_text, verdict_text,
-};
+pub use replies::{faults_text, list_text, values_text};
+pub use room::Room;

@@ -1,72 +1,14 @@
-//! The text of each reply.
+//! The text of each reply that has many numbers or rows.
 
 ghost use Rattle.std.specs.Prelude.{◌≡◌, ℕ, ◌+◌, List, ◌++◌, IfOk, OnOk, codes};
 ghost use Rattle.std.specs.Fmt.{decimal};
 ghost use Rattle.std.specs.String.{string_bytes};
-ghost use Rattle.paris_replies.specs.Replies.{ok_text, edit_text, order_text, nothing_text, verdict_text, values_text, spaced, pending_text, status_word, row_line, list_text, refused_row_line, faults_text, settled_text, refusal_text};
+ghost use Rattle.paris_replies.specs.Replies.{values_text, spaced, status_word, row_line, list_text, refused_row_line, faults_text};
 
-use paris_events::{EditReply, RowFault, RowLook, Status, Verdict};
+use paris_events::{RowFault, RowLook, Status};
 use paris_model::Refusal;
-use paris_names::{Edition, Fault, RowId};
 use paris_text::write_instr;
 use std::alloc::{AllocError, Global};
-
-/// The reply to a command that has nothing to tell.
-pub fn ok_text(alloc: Global) -> Result<Vec<u8>, AllocError>
-    ensures { IfOk result (λ text. text.items ≡ ok_text) }
-{
-    Vec::from_slice(alloc, b"ok\n")
-}
-
-/// The reply to an edit that is accepted.
-pub fn edit_text(alloc: Global, reply: EditReply) -> Result<Vec<u8>, AllocError>
-    ensures { IfOk result (λ text. text.items ≡ edit_text reply) }
-{
-    match reply {
-        EditReply::Accepted => ok_text(alloc),
-        EditReply::Row(id) => {
-            let number = id.0;
-            Ok(format!(in alloc; "row {number}\n")?.into_bytes())
-        }
-    }
-}
-
-/// The reply to a take that gave an order, by its number in this run, its row and its edition.
-pub fn order_text(
-    alloc: Global,
-    number: u64,
-    row: RowId,
-    edition: Edition,
-) -> Result<Vec<u8>, AllocError>
-    ensures { IfOk result (λ text. text.items ≡ order_text number row edition) }
-{
-    let id = row.0;
-    let edition = edition.0;
-    Ok(format!(in alloc; "order {number} row {id} edition {edition}\n")?.into_bytes())
-}
-
-/// The reply to a take that found no row.
-pub fn nothing_text(alloc: Global) -> Result<Vec<u8>, AllocError>
-    ensures { IfOk result (λ text. text.items ≡ nothing_text) }
-{
-    Vec::from_slice(alloc, b"nothing\n")
-}
-
-/// The reply to a result that is brought.
-pub fn verdict_text(alloc: Global, verdict: Verdict) -> Result<Vec<u8>, AllocError>
-    ensures { IfOk result (λ text. text.items ≡ verdict_text verdict) }
-{
-    match verdict {
-        Verdict::Gone => Vec::from_slice(alloc, b"gone\n"),
-        Verdict::Stale(edition) => {
-            let number = edition.0;
-            Ok(format!(in alloc; "stale {number}\n")?.into_bytes())
-        }
-        Verdict::Repeated => Vec::from_slice(alloc, b"repeated\n"),
-        Verdict::Foreign => Vec::from_slice(alloc, b"foreign\n"),
-        Verdict::Kept => Vec::from_slice(alloc, b"kept\n"),
-    }
-}
 
 /// Adds a space and a number.
 fn add_number(text: &mut String, number: u128) -> Result<(), AllocError>
@@ -85,14 +27,6 @@ pub fn values_text(alloc: Global, numbers: &[u128]) -> Result<Vec<u8>, AllocErro
     }
     text.push_str("\n")?;
     Ok(text.into_bytes())
-}
-
-/// The reply to a look at a key whose value waits for this row.
-pub fn pending_text(alloc: Global, row: RowId) -> Result<Vec<u8>, AllocError>
-    ensures { IfOk result (λ text. text.items ≡ pending_text row) }
-{
-    let number = row.0;
-    Ok(format!(in alloc; "pending {number}\n")?.into_bytes())
 }
 
 fn status_word(status: Status) -> &'static str
@@ -152,25 +86,4 @@ pub fn faults_text(alloc: Global, faults: &[RowFault]) -> Result<Vec<u8>, AllocE
         add_fault(&mut text, fault)?;
     }
     Ok(text.into_bytes())
-}
-
-/// The reply to `settle`, which ran so many orders.
-pub fn settled_text(alloc: Global, ran: u64) -> Result<Vec<u8>, AllocError>
-    ensures { IfOk result (λ text. text.items ≡ settled_text ran) }
-{
-    Ok(format!(in alloc; "settled {ran}\n")?.into_bytes())
-}
-
-/// The reply to a command that is refused.
-pub fn refusal_text(alloc: Global, fault: Fault) -> Result<Vec<u8>, AllocError>
-    ensures { IfOk result (λ text. text.items ≡ refusal_text fault) }
-{
-    let number = fault.number();
-    match fault {
-        Fault::TooWide(processor) => {
-            Ok(format!(in alloc; "refused {number} {processor}\n")?.into_bytes())
-        }
-        Fault::Syntax(column) => Ok(format!(in alloc; "refused {number} {column}\n")?.into_bytes()),
-        _ => Ok(format!(in alloc; "refused {number}\n")?.into_bytes()),
-    }
 }

@@ -42,11 +42,12 @@ edit_refused s new e fault out same due other said = go (edit_fault s.state e) d
     go None h = absurd (other h)
     go (Some f) h = said ∙ ap (λ (x : Sitting). fault_answer x fault) same ∙ ap (fault_answer s) h
 
-pub take_none : (s : Sitting) (new : State) (text : List ℕ) → None ≡ take_reply s.state → new ≡ after_take s.state → text ≡ nothing_text
-    → (with_book s new s.tray, text) ≡ answer_to_take s
+pub take_none : (s : Sitting) (new : State) (tray : List Task) (text : List ℕ) → None ≡ take_reply s.state → new ≡ after_take s.state → tray ≡ s.tray
+    → text ≡ nothing_text → (with_book s new tray, text) ≡ answer_to_take s
 unfolding answer_to_take
-take_none s new text none after said =
-    ap (λ (x : State). (with_book s x s.tray, text)) after ∙ ap (λ (t : List ℕ). (with_book s (after_take s.state) s.tray, t)) said ∙ ap (answer_to_take_by s) none
+take_none s new tray text none after same said =
+    ap (λ (x : State). (with_book s x tray, text)) after ∙ ap (λ (x : List Task). (with_book s (after_take s.state) x, text)) same
+    ∙ ap (λ (t : List ℕ). (with_book s (after_take s.state) s.tray, t)) said ∙ ap (answer_to_take_by s) none
 
 pub take_some : (s : Sitting) (new : State) (tray : List Task) (t : Task) (number : ℕ) (text : List ℕ) → Some t ≡ take_reply s.state
     → new ≡ after_take s.state → tray ≡ s.tray ++ t ∷ [] → number ≡ length s.tray + 1 → text ≡ order_text number t.id t.edition → (with_book s new tray, text) ≡ answer_to_take s

@@ -1,3 +1,4 @@
 pub mod Transcript
 pub mod Progress
+pub mod NoReplies
 pub mod Run

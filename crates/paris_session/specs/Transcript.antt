@@ -116,14 +116,17 @@ answer_to_read s (Err column) = fault_answer s (Syntax column)
 abbrev pub longest_line : ℕ
 longest_line = MAX_LINE
 
--- the session after a line, and what is written for it: an empty line and one that begins with `#` are skipped, and one that is too
--- long is refused from its first byte past the longest line
+-- the session after a line that is counted, and its reply: one that is too long is refused from its first byte past the longest line
+abbrev pub answer_to_counted : Sitting → List ℕ → Sitting × List ℕ
+answer_to_counted s line = if nat_lt longest_line (length line) then fault_answer s (Syntax (longest_line + 1)) else answer_to_read s (command_of line)
+
+-- the session after a line, and what is written for it: an empty line and one that begins with `#` are skipped, and every other one is
+-- counted
 unfoldable pub answer : Sitting → List ℕ → Sitting × List ℕ
 answer s line =
     if length line == 0 then (s, [])
     else if slice_index line 0 == 35 then (s, [])
-    else if nat_lt longest_line (length line) then fault_answer (with_command s) (Syntax (longest_line + 1))
-    else answer_to_read (with_command s) (command_of line)
+    else answer_to_counted (with_command s) line
 
 -- the session after some lines
 abbrev pub after_lines : Sitting → List (List ℕ) → Sitting

@@ -1,6 +1,6 @@
 //! Answers the lines of a script from a book.
 
-ghost use Rattle.std.specs.Prelude.{◌≡◌, ℕ, ◌+◌, ◌^◌, ◌<◌, ◌≤◌, List, length, None, Ok, Err, IfOk, IfErr, OnOk, option_map, slice_get, nat_lt};
+ghost use Rattle.std.specs.Prelude.{◌≡◌, ℕ, ◌+◌, ◌^◌, ◌<◌, ◌≤◌, List, [], length, None, Ok, Err, IfOk, IfErr, OnOk, OnErr, IsErr, option_map, slice_get, nat_lt};
 ghost use Rattle.paris_text.specs.CommandReading.{command_of};
 ghost use Rattle.paris_book.specs.Among.{look_shown};
 ghost use Rattle.paris_names.specs.Faults.{IsFaultOf};
@@ -8,8 +8,11 @@ ghost use Rattle.paris_machine.specs.Edits.{edit_fault, edit_answer, accepted};
 ghost use Rattle.paris_machine.specs.Lists.{list_of};
 ghost use Rattle.paris_machine.specs.Settling.{all_settled, unsettled_rows};
 ghost use Rattle.paris_machine.specs.Show.{show_reply};
-ghost use Rattle.paris_session.specs.Transcript.{longest_line, shown_text, start, with_book, with_command, fault_answer, answer_to_edit, answer_to_take, answer_to_bring, answer_to_release, answer_to_show, answer_to_list, answer_to_faults, answer_to_settle, order_at, answer_to_command, answer_to_read, answer};
+ghost use Rattle.paris_session.specs.Transcript.{longest_line, shown_text, start, with_book, with_command, fault_answer, answer_to_edit, answer_to_take, answer_to_bring, answer_to_release, answer_to_show, answer_to_list, answer_to_faults, answer_to_settle, order_at, answer_to_command, answer_to_read, answer_to_counted, answer};
+ghost use Rattle.paris_text.specs.declared.commands.Command.TheVariants as command;
+ghost use Rattle.paris_events.specs.declared.edits.Edit.TheVariants as edit;
 ghost use Rattle.paris_session.specs.Progress.{IsCounted};
+ghost use Rattle.paris_session.specs.NoReplies.{IsLeft, without_command};
 
 use crate::settlers::Settler;
 use paris_book::{Book, Look, SettleFault};
@@ -17,6 +20,7 @@ use paris_events::{Edit, EditReply, RowLook};
 use paris_exec::{Order, execute};
 use paris_names::limits::MAX_LINE;
 use paris_names::{Fault, Items, KeyName, Spot};
+use paris_replies::Room;
 use paris_text::{Command, read_command};
 use std::alloc::{AllocError, Global};
 use std::marker::Model;
@@ -26,6 +30,26 @@ use std::marker::Model;
 pub struct Summary {
     pub commands: u64,
     pub refusals: u64,
+}
+
+/// Why a line has no reply: memory was refused.
+#[derive(Clone, Copy, Debug, PartialEq, Eq)]
+pub enum NoReply {
+    /// The session is as it was before the line.
+    Unchanged,
+    /// The line is `settle`. The orders that were out are given up, and the rows that it ran are settled. It can be told again.
+    Partly,
+}
+
+/// A reply, or that the session is as it was, since memory was refused.
+fn or_unchanged(reply: Result<Vec<u8>, AllocError>) -> Result<Vec<u8>, NoReply>
+    ensures ok { IfOk result (λ text. reply ≡ Ok text) }
+    ensures err { IfErr result (λ cause. (cause ≡ NoReply.Unchanged) × IsErr reply) }
+{
+    match reply {
+        Ok(text) => Ok(text),
+        Err(_) => Err(NoReply::Unchanged),
+    }
 }
 
 /// Whether a line is longer than a line may be.
@@ -44,7 +68,7 @@ fn look_text(alloc: Global, look: &Look<'_>) -> Result<Vec<u8>, AllocError>
             let numbers = value.numbers()?;
             paris_replies::values_text(alloc, numbers.as_slice())
         }
-        Look::Pending(id) => paris_replies::pending_text(alloc, *id),
+        Look::Pending(id) => Ok(Room::new(alloc)?.pending(*id)),
     }
 }
 
@@ -74,8 +98,15 @@ impl Session {
     pub fn new(alloc: Global) -> Session
         ensures { result ≡ start }
     {
+        Session::of_book(alloc, Book::new(alloc))
+    }
+
+    /// A session with this book and no orders.
+    pub fn of_book(alloc: Global, book: Book) -> Session
+        ensures { result ≡ with_book start book [] }
+    {
         Session {
-            book: Book::new(alloc),
+            book,
             tray: Vec::new(alloc),
             commands: 0,
             refusals: 0,
@@ -84,7 +115,8 @@ impl Session {
 
     /// How many commands were answered, and how many of them were refused.
     pub fn summary(&self) -> Summary
-        ensures { result ≡ record { commands = self.now.commands; refusals = self.now.refusals } }
+        ensures counts { result ≡ record { commands = self.now.commands; refusals = self.now.refusals } }
+        ensures fewer { result.refusals ≤ result.commands }
     {
         Summary {
             commands: self.commands,
@@ -96,6 +128,16 @@ impl Session {
         *self.tray.allocator()
     }
 
+    /// Room for a reply, or that the session is as it was, since memory was refused.
+    fn room(&self) -> Result<Room, NoReply>
+        ensures { IfErr result (λ cause. cause ≡ NoReply.Unchanged) }
+    {
+        match Room::new(self.alloc()) {
+            Ok(room) => Ok(room),
+            Err(_) => Err(NoReply::Unchanged),
+        }
+    }
+
     /// Counts a command.
     fn count(&mut self)
         requires { self.old.commands < 2 ^ 62 }
@@ -105,14 +147,21 @@ impl Session {
         self.commands += 1;
     }
 
-    /// Answers a command that is refused.
-    fn refuse(&mut self, fault: Fault) -> Result<Vec<u8>, AllocError>
+    /// Takes back that a command was counted.
+    fn uncount(&mut self)
         requires { IsCounted self.old }
-        ensures { IfOk result (λ text. (self.new, text.items) ≡ fault_answer self.old fault) }
+        ensures { self.new ≡ without_command self.old }
     {
-        let text = paris_replies::refusal_text(self.alloc(), fault)?;
+        self.commands -= 1;
+    }
+
+    /// Answers a command that is refused.
+    fn refuse(&mut self, room: Room, fault: Fault) -> Vec<u8>
+        requires { IsCounted self.old }
+        ensures { (self.new, result.items) ≡ fault_answer self.old fault }
+    {
         self.refusals += 1;
-        Ok(text)
+        room.refusal(fault)
     }
 
     /// Makes an edit that no line says: it is no command, and leaves the counts. What is refused leaves the session as it was.
@@ -125,6 +174,17 @@ impl Session {
         self.book.edit(edit)
     }
 
+    /// Gives a key numbers of one word each from a processor on: the edit of input data with these numbers, which no line says. It is no
+    /// command, and leaves the counts. What is refused leaves the session as it was.
+    pub fn set_words(&mut self, key: KeyName, from: u64, words: &[u64]) -> Result<(), Fault>
+        ensures ok { OnOk result ((edit_fault self.old.state (edit.Input key from words.now) ≡ None)
+            × (self.new ≡ with_book self.old (accepted self.old.state (edit.Input key from words.now)) self.old.tray)) }
+        ensures err { IfErr result (λ fault. (self.new ≡ self.old)
+            × IsFaultOf (edit_fault self.old.state (edit.Input key from words.now)) fault) }
+    {
+        self.book.set_words(key, from, words)
+    }
+
     /// Settles the book, with no line that says so: it is no command, and leaves the counts. The answer is how many rows were
     /// unsettled. The error says that memory was refused, and the session can be settled again.
     pub fn settle<S: Settler>(&mut self, settler: &S) -> Result<u64, SettleFault>
@@ -132,6 +192,7 @@ impl Session {
         ensures count { IfOk result (λ ran. ran ≡ unsettled_rows self.old.state.rows) }
         ensures settled { OnOk result (self.new ≡ with_book self.old (all_settled self.old.state) self.old.tray) }
         ensures left { IfErr result (λ fault. unsettled_rows self.new.state.rows + fault.ran ≡ unsettled_rows self.old.state.rows) }
+        ensures book { OnErr result (self.new ≡ with_book self.old self.new.state self.old.tray) }
         ensures fewer { IfErr result (λ fault. fault.ran < unsettled_rows self.old.state.rows) }
     {
         settler.settle(&mut self.book)
@@ -155,15 +216,17 @@ impl Session {
     /// Answers a command that is an edit.
     fn answer_edit(&mut self, edit: Edit) -> Result<Vec<u8>, AllocError>
         requires { IsCounted self.old }
-        ensures { IfOk result (λ text. (self.new, text.items) ≡ answer_to_edit self.old edit) }
+        ensures ok { IfOk result (λ text. (self.new, text.items) ≡ answer_to_edit self.old edit) }
+        ensures err { OnErr result (self.new ≡ self.old) }
     {
+        let room = Room::new(self.alloc())?;
         match self.edit(edit) {
-            Ok(reply) => paris_replies::edit_text(self.alloc(), reply),
+            Ok(reply) => Ok(room.edit(reply)),
             Err(fault) => {
                 if fault.is_no_memory() {
                     return Err(AllocError);
                 }
-                self.refuse(fault)
+                Ok(self.refuse(room, fault))
             }
         }
     }
@@ -171,19 +234,17 @@ impl Session {
     /// Answers `take`.
     fn answer_take(&mut self) -> Result<Vec<u8>, AllocError>
         requires { IsCounted self.old }
-        ensures { IfOk result (λ text. (self.new, text.items) ≡ answer_to_take self.old) }
+        ensures ok { IfOk result (λ text. (self.new, text.items) ≡ answer_to_take self.old) }
+        ensures err { OnErr result (self.new ≡ self.old) }
     {
+        let room = Room::new(self.alloc())?;
+        self.tray.reserve(1)?;
         match self.book.take()? {
-            None => paris_replies::nothing_text(self.alloc()),
+            None => Ok(room.nothing()),
             Some(order) => {
                 let number = self.tray.len() as u64 + 1;
-                let text = paris_replies::order_text(
-                    self.alloc(),
-                    number,
-                    order.id(),
-                    order.edition(),
-                )?;
-                self.tray.push(order)?;
+                let text = room.order(number, order.id(), order.edition());
+                self.tray.push_reserved(order);
                 Ok(text)
             }
         }
@@ -202,17 +263,16 @@ impl Session {
     /// Answers `bring`.
     fn answer_bring(&mut self, number: u64) -> Result<Vec<u8>, AllocError>
         requires { IsCounted self.old }
-        ensures { IfOk result (λ text. (self.new, text.items) ≡ answer_to_bring self.old number) }
+        ensures ok { IfOk result (λ text. (self.new, text.items) ≡ answer_to_bring self.old number) }
+        ensures err { OnErr result (self.new ≡ self.old) }
     {
+        let room = Room::new(self.alloc())?;
         let Some(order) = self.order(number) else {
-            return self.refuse(Fault::NoOrder);
+            return Ok(self.refuse(room, Fault::NoOrder));
         };
         let copy = order.copy()?;
         match execute(self.alloc(), copy) {
-            Ok(done) => {
-                let verdict = self.book.bring(done);
-                paris_replies::verdict_text(self.alloc(), verdict)
-            }
+            Ok(done) => Ok(room.verdict(self.book.bring(done))),
             Err((_, error)) => Err(error),
         }
     }
@@ -220,20 +280,26 @@ impl Session {
     /// Answers `release`.
     #[tactic(auto, unfolding(crate::specs::Transcript::answer_to_release))]
     fn answer_release(&mut self) -> Result<Vec<u8>, AllocError>
-        ensures { IfOk result (λ text. (self.new, text.items) ≡ answer_to_release self.old) }
+        ensures ok { IfOk result (λ text. (self.new, text.items) ≡ answer_to_release self.old) }
+        ensures err { OnErr result (self.new ≡ self.old) }
     {
+        let room = Room::new(self.alloc())?;
         self.book.release();
-        paris_replies::ok_text(self.alloc())
+        Ok(room.ok())
     }
 
     /// Answers `show`.
     fn answer_show(&mut self, name: KeyName, spot: Spot) -> Result<Vec<u8>, AllocError>
         requires { IsCounted self.old }
-        ensures { IfOk result (λ text. (self.new, text.items) ≡ answer_to_show self.old name spot) }
+        ensures ok { IfOk result (λ text. (self.new, text.items) ≡ answer_to_show self.old name spot) }
+        ensures err { OnErr result (self.new ≡ self.old) }
     {
         match self.look(name, spot) {
             Ok(look) => look_text(self.alloc(), &look),
-            Err(fault) => self.refuse(fault),
+            Err(fault) => {
+                let room = Room::new(self.alloc())?;
+                Ok(self.refuse(room, fault))
+            }
         }
     }
 
@@ -257,13 +323,15 @@ impl Session {
 
     /// Answers `settle`.
     #[tactic(auto, unfolding(crate::specs::Transcript::answer_to_settle))]
-    fn answer_settle<S: Settler>(&mut self, settler: &S) -> Result<Vec<u8>, AllocError>
+    fn answer_settle<S: Settler>(&mut self, settler: &S) -> Result<Vec<u8>, NoReply>
         requires { S.can_settle settler.now }
-        ensures { IfOk result (λ text. (self.new, text.items) ≡ answer_to_settle self.old) }
+        ensures ok { IfOk result (λ text. (self.new, text.items) ≡ answer_to_settle self.old) }
+        ensures err { IfErr result (λ cause. IsLeft cause self.old self.new (Ok command.Settle)) }
     {
+        let room = self.room()?;
         match self.settle(settler) {
-            Ok(ran) => paris_replies::settled_text(self.alloc(), ran),
-            Err(_) => Err(AllocError),
+            Ok(ran) => Ok(room.settled(ran)),
+            Err(_) => Err(NoReply::Partly),
         }
     }
 
@@ -272,55 +340,77 @@ impl Session {
         &mut self,
         settler: &S,
         command: Command,
-    ) -> Result<Vec<u8>, AllocError>
+    ) -> Result<Vec<u8>, NoReply>
         requires counted { IsCounted self.old }
         requires settler { S.can_settle settler.now }
-        ensures { IfOk result (λ text. (self.new, text.items) ≡ answer_to_command self.old command) }
+        ensures ok { IfOk result (λ text. (self.new, text.items) ≡ answer_to_command self.old command) }
+        ensures err { IfErr result (λ cause. IsLeft cause self.old self.new (Ok command)) }
     {
         match command {
-            Command::Edit(edit) => self.answer_edit(edit),
-            Command::Take => self.answer_take(),
-            Command::Bring(number) => self.answer_bring(number),
-            Command::Release => self.answer_release(),
-            Command::Show { key, spot } => self.answer_show(key, spot),
-            Command::List => self.answer_list(),
-            Command::Faults => self.answer_faults(),
+            Command::Edit(edit) => or_unchanged(self.answer_edit(edit)),
+            Command::Take => or_unchanged(self.answer_take()),
+            Command::Bring(number) => or_unchanged(self.answer_bring(number)),
+            Command::Release => or_unchanged(self.answer_release()),
+            Command::Show { key, spot } => or_unchanged(self.answer_show(key, spot)),
+            Command::List => or_unchanged(self.answer_list()),
+            Command::Faults => or_unchanged(self.answer_faults()),
             Command::Settle => self.answer_settle(settler),
         }
     }
 
     /// Answers a line by the reply to its command, and one that is no command by the column from which it is none.
-    fn answer_line<S: Settler>(&mut self, settler: &S, line: &[u8]) -> Result<Vec<u8>, AllocError>
+    fn answer_line<S: Settler>(&mut self, settler: &S, line: &[u8]) -> Result<Vec<u8>, NoReply>
         requires counted { IsCounted self.old }
         requires settler { S.can_settle settler.now }
-        ensures { IfOk result (λ text. (self.new, text.items) ≡ answer_to_read self.old (command_of line.now)) }
+        ensures ok { IfOk result (λ text. (self.new, text.items) ≡ answer_to_read self.old (command_of line.now)) }
+        ensures err { IfErr result (λ cause. IsLeft cause self.old self.new (command_of line.now)) }
     {
         match read_command(self.alloc(), line) {
             Ok(command) => self.answer_command(settler, command),
             Err(fault) => {
                 if fault.is_no_memory() {
-                    return Err(AllocError);
+                    return Err(NoReply::Unchanged);
                 }
-                self.refuse(fault)
+                let room = self.room()?;
+                Ok(self.refuse(room, fault))
             }
         }
     }
 
+    /// Answers a line that is counted: one that is too long by its first column past the longest line, and every other one by the
+    /// reply to its command.
+    fn answer_counted<S: Settler>(&mut self, settler: &S, line: &[u8]) -> Result<Vec<u8>, NoReply>
+        requires counted { IsCounted self.old }
+        requires settler { S.can_settle settler.now }
+        ensures ok { IfOk result (λ text. (self.new, text.items) ≡ answer_to_counted self.old line.now) }
+        ensures err { IfErr result (λ cause. IsLeft cause self.old self.new (command_of line.now)) }
+    {
+        if is_overlong(line) {
+            let room = self.room()?;
+            return Ok(self.refuse(room, Fault::Syntax(MAX_LINE as u64 + 1)));
+        }
+        self.answer_line(settler, line)
+    }
+
     /// Answers a line: an empty one and one that begins with `#` by nothing, one that is too long by its first column past the
-    /// longest line, and every other one by the reply to its command.
+    /// longest line, and every other one by the reply to its command. The error says what is left where memory was refused.
     #[tactic(auto, unfolding(crate::specs::Transcript::answer))]
-    pub fn answer<S: Settler>(&mut self, settler: &S, line: &[u8]) -> Result<Vec<u8>, AllocError>
+    pub fn answer<S: Settler>(&mut self, settler: &S, line: &[u8]) -> Result<Vec<u8>, NoReply>
         requires room { self.old.commands < 2 ^ 62 }
         requires settler { S.can_settle settler.now }
-        ensures { IfOk result (λ text. (self.new, text.items) ≡ answer self.old line.now) }
+        ensures ok { IfOk result (λ text. (self.new, text.items) ≡ answer self.old line.now) }
+        ensures err { IfErr result (λ cause. IsLeft cause self.old self.new (command_of line.now)) }
     {
         if line.is_empty() || line[0] == b'#' {
             return Ok(Vec::new(self.alloc()));
         }
         self.count();
-        if is_overlong(line) {
-            return self.refuse(Fault::Syntax(MAX_LINE as u64 + 1));
+        match self.answer_counted(settler, line) {
+            Ok(text) => Ok(text),
+            Err(cause) => {
+                self.uncount();
+                Err(cause)
+            }
         }
-        self.answer_line(settler, line)
     }
 }

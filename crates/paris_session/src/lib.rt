@@ -6,7 +6,7 @@ mod run;
 mod settlers;
 mod whole;
 
-pub use answers::{Session, Summary};
+pub use answers::{NoReply, Session, Summary};
 pub use run::{RunFault, run_counted, run_script};
 pub use settlers::{Alone, Settler};
 pub use whole::transcript;

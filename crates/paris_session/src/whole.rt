@@ -21,7 +21,9 @@ pub fn transcript(alloc: Global, script: &[u8]) -> Result<Vec<u8>, AllocError>
     let mut session = Session::new(alloc);
     let mut text = Vec::new(alloc);
     for line in script.split(|byte| is_line_feed(*byte)) {
-        let reply = session.answer(&Alone, line)?;
+        let Ok(reply) = session.answer(&Alone, line) else {
+            return Err(AllocError);
+        };
         text.extend_from_slice(reply.as_slice())?;
     }
     Ok(text)

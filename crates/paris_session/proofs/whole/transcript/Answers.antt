@@ -16,7 +16,7 @@ pub loop-line-preserved : goal.loop-line-preserved
 loop-line-preserved c =
     let parts = YieldsList-from_slice_split _ (λ b. nat_eq b 10) c.args.script.now (cc) (cc) (cc) (λ x r q k. search (rules, tests)) in
     let turn = YieldsList-turn parts c.loop-line.yielded _ c.loop-line.yielded_by _ _ c.in-Some.line c.in-Some.is c.next.ensures.steps in
-    let answered = c.in_ok-reply.ensures in
+    let answered = c.in-Ok.ensures.ok in
     let longer = c.in_ok-extend_from_slice.ensures.items ∙ ap (λ l. c.loop-line.text.items ++ l) c.as_slice.ensures.value in (
       search rules,
       search rules,

@@ -1,8 +1,7 @@
-use Rattle.std.proofs.Common.{List, ap₂}
-use Rattle.paris_exec.specs.Tasks.{Task}
+use Rattle.std.proofs.Common.{ap, ◌∙◌, []}
+use Rattle.paris_session.specs.Transcript.{start, with_book}
 use Rattle.paris_machine.specs.State.{State}
-use Rattle.paris_session.specs.Transcript.{start}
 use Rattle.paris_session.proofs.answers.Session.new.Goals as goal
 
 pub returns : goal.returns
-returns c = ap₂ (λ (x : State) (l : List Task). record start { state = x; tray = l }) c.new.ensures c.new-2.ensures.items
+returns c = c.of_book.ensures ∙ ap (λ (book : State). with_book start book []) c.new.ensures

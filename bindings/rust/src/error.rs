@@ -1,0 +1,113 @@
+use crate::fault::Fault;
+use crate::sys;
+use std::error;
+use std::fmt::{self, Display, Formatter};
+
+/// Why a call didn't do what it is for. The session is as it was, where it isn't told otherwise.
+#[derive(Clone, Copy, Debug, PartialEq, Eq, Hash)]
+#[non_exhaustive]
+pub enum Error {
+    /// The call is refused by a fault of the machine.
+    Fault(Fault),
+    /// The handle is closed. A session's is open as long as it lives, so no call here gives this.
+    Closed,
+    /// The word is no key.
+    NoKey,
+    /// The row with this id has to be settled first.
+    Pending(u64),
+    /// The room has another length than the numbers that are to be put there, which are so many.
+    WrongRoom(usize),
+    /// The script is too long, or the session has answered as many lines as it can count.
+    TooMany,
+    /// A number is wider than a word.
+    TooWide,
+    /// There was no memory left while rows were settled. Those that ran are settled, so many where
+    /// the call tells it, the orders that were out are given up, and the session can be settled
+    /// again.
+    PartlySettled(Option<u64>),
+    /// The library answered by a status that this package doesn't know.
+    Unknown(u32),
+}
+
+impl Error {
+    /// The error of a status, beside which a call told a number.
+    pub(crate) fn of_status(status: u32, told: u64) -> Error {
+        match status {
+            sys::CLOSED => Error::Closed,
+            sys::NO_KEY => Error::NoKey,
+            sys::PENDING => Error::Pending(told),
+            sys::WRONG_ROOM => Error::WrongRoom(told as usize),
+            sys::TOO_MANY => Error::TooMany,
+            sys::TOO_WIDE => Error::TooWide,
+            sys::PARTLY => Error::PartlySettled(None),
+            _ => Fault::of_number(status).map_or(Error::Unknown(status), Error::Fault),
+        }
+    }
+
+    /// The status by which the library says so, as `include/paris.h` names it.
+    pub fn status(self) -> u32 {
+        match self {
+            Error::Fault(fault) => fault.number(),
+            Error::Closed => sys::CLOSED,
+            Error::NoKey => sys::NO_KEY,
+            Error::Pending(_) => sys::PENDING,
+            Error::WrongRoom(_) => sys::WRONG_ROOM,
+            Error::TooMany => sys::TOO_MANY,
+            Error::TooWide => sys::TOO_WIDE,
+            Error::PartlySettled(_) => sys::PARTLY,
+            Error::Unknown(status) => status,
+        }
+    }
+
+    /// The fault of the machine, where it is one.
+    pub fn fault(self) -> Option<Fault> {
+        Fault::of_number(self.status())
+    }
+}
+
+impl Display for Error {
+    fn fmt(&self, f: &mut Formatter<'_>) -> fmt::Result {
+        match self {
+            Error::Fault(fault) => write!(f, "fault {}: {fault}", fault.number()),
+            Error::Closed => f.write_str("the handle is closed"),
+            Error::NoKey => f.write_str("the word is no key"),
+            Error::Pending(row) => write!(f, "row {row} has to be settled first"),
+            Error::WrongRoom(count) => write!(
+                f,
+                "the numbers are {count}, and the room has another length"
+            ),
+            Error::TooMany => f.write_str(
+                "the script is too long, or the session has answered as many lines as it can count",
+            ),
+            Error::TooWide => f.write_str("a number is wider than a word"),
+            Error::PartlySettled(None) => {
+                f.write_str("there was no memory left while rows were settled")
+            }
+            Error::PartlySettled(Some(ran)) => write!(
+                f,
+                "there was no memory left while rows were settled, and {ran} more are settled"
+            ),
+            Error::Unknown(status) => write!(
+                f,
+                "the library answered by status {status}, which this package doesn't know"
+            ),
+        }
+    }
+}
+
+impl error::Error for Error {}
+
+#[cfg(test)]
+mod tests {
+    use super::Error;
+
+    #[test]
+    fn an_error_keeps_its_status() {
+        for status in 1..200 {
+            let error = Error::of_status(status, 7);
+            let is_known = matches!(status, 1..=23 | 101..=107);
+            assert_eq!(error.status(), status);
+            assert_eq!(error == Error::Unknown(status), !is_known, "{error:?}");
+        }
+    }
+}

@@ -1,0 +1,37 @@
+//! Sessions of Paris programs.
+//!
+//! A [`Session`] answers the lines of a script, takes and gives arrays of numbers, and settles the
+//! rows of its program. It calls the library `libparis.a`, which `include/paris.h` declares, and
+//! computes nothing of its own. What the commands mean is said in `docs/MACHINE.md` of the
+//! repository, and how they are spelled in `docs/SCRIPTS.md`.
+//!
+//! ```
+//! use paris::{Place, Session};
+//!
+//! fn main() -> Result<(), paris::Error> {
+//!     let mut session = Session::new()?;
+//!     session.answer("set s 4")?;
+//!     session.answer("field a s 8")?;
+//!     session.set("a", 0, &[1, 2, 3, 250])?;
+//!     assert_eq!(session.answer("insert end u-add-3-1L a a a 8")?, "row 1\n");
+//!     assert_eq!(session.settle()?, 1);
+//!     assert_eq!(session.get("a", Place::End)?, [2, 4, 6, 244]);
+//!     assert_eq!(session.get("a", Place::Start)?, [1, 2, 3, 250]);
+//!     Ok(())
+//! }
+//! ```
+//!
+//! The library is that of the folder which the variable `PARIS_LIB_DIR` names as the package is
+//! built, else that of `lib/out`, where `lib/build` or `lib/unpack` of the repository puts it.
+#![warn(missing_docs, missing_debug_implementations)]
+
+mod error;
+mod fault;
+mod place;
+mod session;
+mod sys;
+
+pub use error::Error;
+pub use fault::Fault;
+pub use place::Place;
+pub use session::{transcript, Session};

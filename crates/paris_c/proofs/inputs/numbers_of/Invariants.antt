@@ -1,6 +1,0 @@
--- The words so far are numbers.
-use Rattle.std.proofs.Common.{◌≡◌, take}
-use Rattle.paris_c.proofs.inputs.numbers_of.Given as goal
-
-abbrev pub invariant-loop-word : goal.invariant-loop-word
-invariant-loop-word l = l.numbers.items ≡ take l.word-index l.words

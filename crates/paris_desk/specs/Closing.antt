@@ -1,0 +1,31 @@
+-- What is left of a closed desk, and why a desk is not closed.
+use Rattle.std.specs.Prelude.{◌≡◌, ◌<◌, ◌==◌, ℕ, zero, suc, Bool, true, false, List, [], ◌∷◌, ◌++◌, if◌then◌else◌}
+use Rattle.std.specs.List.{list_any}
+use Rattle.paris_desk.specs.declared.closing.Cause.{Cause}
+use Rattle.paris_desk.specs.declared.closing.Cause.TheVariants.{Missing, NoMemory}
+use Rattle.paris_desk.specs.declared.records.Receipt.{Receipt}
+use Rattle.paris_desk.specs.Seats.{Sitting}
+
+-- whether one of these seats has a number
+abbrev pub has_seat : ℕ → List Sitting → Bool
+has_seat n ss = list_any (λ (s : Sitting). s.number == n) ss
+
+-- the receipts of the first of these seats that has a number
+abbrev pub receipts_of : ℕ → List Sitting → List Receipt
+receipts_of n [] = []
+receipts_of n (s ∷ ss) = if s.number == n then s.receipts else receipts_of n ss
+
+-- of each number below a count, in order, the receipts of the seat that has it
+abbrev pub by_number : ℕ → List Sitting → List (List Receipt)
+by_number zero ss = []
+by_number (suc n) ss = by_number n ss ++ receipts_of n ss ∷ []
+
+-- each number below a count is that of one of these seats
+abbrev pub AreHere : ℕ → List Sitting → Type 0
+AreHere count ss = (n : ℕ) → n < count → has_seat n ss ≡ true
+
+-- why a desk with so many seats is not closed, where these are handed in: of the missing numbers this is the least, or none is missing
+-- and memory is refused
+abbrev pub Hinders : ℕ → List Sitting → Cause → Type 0
+Hinders count ss (Missing n) = (n < count) × (has_seat n ss ≡ false) × AreHere n ss
+Hinders count ss NoMemory = AreHere count ss

@@ -1,0 +1,28 @@
+use Rattle.std.proofs.Common.{◌≡◌, true, ap, ◌∙◌, refl, subst, arith, map, ℕ, List, ◌++◌, Vec, Global}
+use Rattle.std.specs.Prelude.{◌↔◌}
+use Rattle.paris_desk.specs.Agreement.{Agree}
+use Rattle.paris_desk.specs.declared.records.Entry.{Entry}
+use Rattle.paris_desk.specs.declared.records.Receipt.{Receipt}
+use Rattle.paris_parts.specs.Texts.{edits_in}
+use Rattle.paris_parts.proofs.Ends.{concludes}
+use Rattle.paris_parts.proofs.run.conclude.Goals as goal
+
+pub overflow_add-summary : goal.overflow_add-summary
+overflow_add-summary g c = omega (arith, c.requires.few, c.in_ok-rest.ensures.few)
+
+pub overflow_add-summary-2 : goal.overflow_add-summary-2
+overflow_add-summary-2 g c = omega (arith, c.requires.few, c.in_ok-rest.ensures.few)
+
+pub returns : goal.returns
+returns g c =
+    let left = c.in_ok-book.field-0 in
+    let history : List Entry = left.history.items in
+    let receipts : List (List Receipt) = map (λ (r : Vec Receipt Global). r.items) left.receipts.items in
+    let audit : (c.in_ok-agree.agree ≡ true) ↔ Agree history receipts =
+    subst (λ (h : List Entry). (c.in_ok-agree.agree ≡ true) ↔ Agree h receipts) c.as_slice.ensures.value
+    (subst (λ (rs : List (Vec Receipt Global)). (c.in_ok-agree.agree ≡ true) ↔ Agree c.as_slice.result.now (map (λ (r : Vec Receipt Global). r.items) rs)) c.as_slice-2.ensures.value c.in_ok-agree.ensures) in
+    let count = c.edits_in.ensures ∙ ap edits_in c.as_slice-3.ensures.value in
+    let first = c.in_ok-extend_from_slice.ensures.items ∙ ap (λ (l : List ℕ). c.args.ended.text.items ++ l) c.as_slice-4.ensures.value in
+    concludes g.L.Office.seats c.args.ended.seats.items c.args.last.now c.args.ended.text.items c.extend_from_slice.new.self.items c.play_last.new.text.items
+    c.in_ok-closing.closing.items history left.book receipts c.in_ok-agree.agree c.edits_in.result c.args.ended.summary _ c.in_ok-rest.rest
+    c.in_ok-book.ensures.legal.0 c.in_ok-book.ensures.legal.1 c.in_ok-book.ensures.receipts audit count c.in_ok-closing.ensures first c.in_ok-rest.ensures.text c.in_ok-rest.ensures.count refl refl

@@ -1,0 +1,15 @@
+//! What a command asks for, at a seat.
+
+use paris_machine::Event;
+use paris_names::Fault;
+
+/// What a command asks for.
+#[derive(Debug, Drop)]
+pub(crate) enum Asked {
+    /// A call of the seat, whose reply is told.
+    Call(Event),
+    /// The rows that are refused.
+    Faults,
+    /// Nothing: it is refused.
+    Refused(Fault),
+}

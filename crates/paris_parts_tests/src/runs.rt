@@ -1,0 +1,117 @@
+//! Tests of scripts in parts, by what is written for them.
+
+use crate::waiting::TwoAtOnce;
+use paris_calls::Tally;
+use paris_exec::{Gate, OpenGate};
+use paris_names::Fault;
+use paris_parts::{DeskRunFault, run_parts, run_sessions};
+use paris_session::{Alone, Summary};
+use std::alloc::Global;
+use std::process::Abort;
+use std::sync::Wait;
+use std::test::*;
+use std::thread::Threads;
+
+/// How many workers there are.
+const WORKERS: usize = 2;
+
+/// A script, what is written for it, and how many commands it has and how many of them are refused.
+type Row = (&'static [u8], &'static [u8], u64, u64);
+
+const SCRIPT: &[u8] =
+    b"set S 4\nfield a S 8\nfield b S 8\nfield c S 8\ninsert end u-add-3-1L c a b 8\nsession\ninput a 0 10 20 30 250\nsession\ninput b 0 1 2 3 10\nsession\nshow c end\nshow S.overflow end\nfaults\n";
+
+const ROWS: &[Row] = &[
+    (
+        SCRIPT,
+        b"ok\nok\nok\nok\nrow 1\nsession 1\nok\nsession 2\nok\nclose\nedits 7\naudit yes\nvalues 11 22 33 4\nvalues 0 0 0 1\nfaults 0\n",
+        10,
+        0,
+    ),
+    (
+        b"set S 4\nfield a S 8\nfield b S 8\ninsert end u-move-constant-1L a 1 8\ninsert end u-move-constant-1L b 2 8\nsession\nsession\nlist\n",
+        b"ok\nok\nok\nrow 1\nrow 2\nsession 1\nclose\nedits 5\naudit yes\nrows 2\n1 edition 4 settled u-move-constant-1L a 1 8\n2 edition 5 settled u-move-constant-1L b 2 8\n",
+        6,
+        0,
+    ),
+    // A session settles nothing, and a cut is a line that says just its word.
+    (
+        b"# nothing\n\nsettle\nsession\nsession \nsession\nsettle\n",
+        b"refused 20 1\nsession 1\nrefused 20 1\nclose\nedits 0\naudit yes\nsettled 0\n",
+        3,
+        2,
+    ),
+];
+
+/// Two rows, neither of which reads what the other writes, and a session that does nothing.
+const TWO_ROWS: &[u8] =
+    b"set S 4\nfield a S 8\nfield b S 8\ninsert end u-move-constant-1L a 1 8\ninsert end u-move-constant-1L b 2 8\nsession\nsession\nshow a end\nshow b end\n";
+
+const TWO_RESULTS: &[u8] =
+    b"ok\nok\nok\nrow 1\nrow 2\nsession 1\nclose\nedits 5\naudit yes\nvalues 1 1 1 1\nvalues 2 2 2 2\n";
+
+fn writes<R: Abort + Threads + Wait + Sync, G: Gate + Sync>(
+    rt: &R,
+    alloc: Global,
+    row: Row,
+    gate: &G,
+) {
+    let (script, written, commands, refusals) = row;
+    let mut reader = script;
+    let mut out = Vec::new(alloc);
+    let answer = run_sessions(
+        rt,
+        &Alone,
+        alloc,
+        &mut reader,
+        &mut out,
+        WORKERS,
+        gate,
+        &mut Tally::new(),
+    );
+    let summary = Summary { commands, refusals };
+    assert_eq!(rt; answer, Ok(summary));
+    assert_eq!(rt; out.as_slice(), written);
+}
+
+#[test]
+fn scripts_are_played(rt: HostRuntime) -> Result<(), Fail> {
+    for row in ROWS {
+        writes(&rt, rt.alloc(), *row, &OpenGate);
+    }
+    Ok(())
+}
+
+#[test]
+fn independent_rows_are_executed_at_once(rt: HostRuntime) -> Result<(), Fail> {
+    let gate = TwoAtOnce::new(&rt);
+    writes(&rt, rt.alloc(), (TWO_ROWS, TWO_RESULTS, 7, 0), &gate);
+    assert!(&rt; gate.has_let_two_through());
+    Ok(())
+}
+
+/// Parts stop before their end.
+fn stops<R: Abort + Threads + Wait + Sync>(
+    rt: &R,
+    alloc: Global,
+    script: &[u8],
+    limit: u64,
+    fault: DeskRunFault,
+) {
+    assert!(rt; script.len() <= 1_000 && limit <= 1_000);
+    let answer = run_parts(rt, &Alone, alloc, script, WORKERS, limit, &OpenGate);
+    assert_eq!(rt; answer.err(), Some(fault));
+}
+
+#[test]
+fn parts_stop(rt: HostRuntime) -> Result<(), Fail> {
+    let alloc = rt.alloc();
+    let two_parts = b"set S 4\nsession\nshow c end\n".as_slice();
+    stops(&rt, alloc, two_parts, 1_000, DeskRunFault::Parts);
+    // The five commands of the first part have room, and the two inputs and the worker's calls have none.
+    let full = DeskRunFault::Desk(Fault::HistoryFull(5));
+    stops(&rt, alloc, SCRIPT, 5, full);
+    let full = DeskRunFault::Desk(Fault::HistoryFull(4));
+    stops(&rt, alloc, SCRIPT, 4, full);
+    Ok(())
+}

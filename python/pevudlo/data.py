@@ -1,0 +1,64 @@
+"""Input data and looks at keys, by lines of text or by arrays of the library."""
+
+from __future__ import annotations
+
+from collections.abc import Sequence
+
+from pevudlo.library import END_NUMBER, Library, place_number
+from pevudlo.replies import Ok, PendingReply, Values
+from pevudlo.talk import Talk, of_kind
+from pevudlo.values import Pending, input_lines
+from pevudlo.words import words_of
+
+
+class LineData:
+    """Numbers in and out by lines of a talk."""
+
+    def __init__(self, talk: Talk) -> None:
+        self.talk = talk
+
+    def give(self, key: str, first: int, numbers: Sequence[int]) -> None:
+        """Gives a key numbers from a processor on, in lines, first of all one that would be refused."""
+        board, numbers = self.talk.board, list(numbers)
+        lines = input_lines(key, first, numbers)
+        name, width = board.set_of(key), board.width_of(key)
+        if name is not None and width is not None and len(lines) > 1:
+            if first + len(numbers) > board.processors(name):
+                self.talk.ask(lines[-1], Ok)
+            if max(numbers) >> width:
+                at = next(at for at, number in enumerate(numbers) if number >> width)
+                self.talk.ask(input_lines(key, first + at, numbers[at : at + 1])[0], Ok)
+        for line in lines:
+            self.talk.ask(line, Ok)
+
+    def look(self, key: str, place: str) -> Sequence[int] | Pending:
+        """The numbers of a key at a place, or the row that has to be settled first."""
+        reply = self.talk.command(f"show {key} {place}")
+        if isinstance(reply, PendingReply):
+            return Pending(reply.row)
+        return of_kind(reply, Values).numbers
+
+
+class ArrayData(LineData):
+    """Numbers in and out by arrays. What the library refuses changes nothing, and is asked in lines for its words."""
+
+    def __init__(self, talk: Talk, library: Library) -> None:
+        super().__init__(talk)
+        self.library = library
+
+    def give(self, key: str, first: int, numbers: Sequence[int]) -> None:
+        """Gives a key numbers from a processor on, as one edit."""
+        is_declared = self.talk.board.set_of(key) is not None
+        words = words_of(numbers) if is_declared and first <= END_NUMBER else None
+        if words is None or not self.library.set(key, first, words):
+            super().give(key, first, numbers)
+
+    def look(self, key: str, place: str) -> Sequence[int] | Pending:
+        """The numbers of a key at a place, or the row that has to be settled first."""
+        name, number = self.talk.board.set_of(key), place_number(place)
+        if name is None or number is None:
+            return super().look(key, place)
+        told = self.library.get(key, number, self.talk.board.processors(name))
+        if told is None:
+            return super().look(key, place)
+        return Pending(told) if isinstance(told, int) else told.numbers
