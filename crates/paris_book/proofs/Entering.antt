@@ -12,7 +12,7 @@ use Rattle.paris_machine.specs.State.{Row, find_id}
 use Rattle.paris_book.specs.Entries.{Entry, with_data, machine_row}
 use Rattle.paris_book.specs.Among.{origin_among}
 use Rattle.paris_book.specs.Marks.{data_plan}
-use Rattle.paris_book.specs.declared.rows.RowData.{RowData}
+use Rattle.paris_book.specs.Rows.{RowData}
 use Rattle.paris_book.proofs.Finds.{none_of}
 
 -- what was found at a place twice is the same

@@ -17,7 +17,7 @@ use Rattle.paris_book.specs.Entries.{Entry}
 use Rattle.paris_book.specs.Indexed.{IsIndexed}
 use Rattle.paris_book.specs.Marks.{data_plan}
 use Rattle.paris_book.specs.Statuses.{status_in, statuses_of}
-use Rattle.paris_book.specs.declared.rows.RowData.{RowData}
+use Rattle.paris_book.specs.Rows.{RowData}
 use Rattle.paris_events.specs.declared.rows.Status.{Status}
 
 module _ {X : Type 0} where

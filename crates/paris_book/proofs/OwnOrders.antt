@@ -3,7 +3,7 @@ use Rattle.std.proofs.Common.{◌≡◌, ℕ, List, Bool, true, false, cond, Opt
 use Rattle.std.proofs.Math.Path.{ap₂, fun_ext}
 use Rattle.std.proofs.lemmas.List.{map-set}
 use Rattle.std.proofs.lemmas.Option.{slice_get-map}
-use Rattle.std.specs.Option.{option_map}
+use Rattle.std.specs.Option.{option_map, unwrap_or}
 use Rattle.std.specs.List.{list_all}
 use Rattle.paris_names.specs.declared.keys.Key.{Key}
 use Rattle.paris_board.specs.Board.{Board}
@@ -49,6 +49,12 @@ module _ (b : Board) (n m : ℕ) (inputs : Inputs) (es : List Entry) (s : State)
         by_entry (Some e) at =
             let given = cond_some (list_all (firm_among es place) (reads e.1.plan)) t (order_among inputs es place e) (sym own ∙ sym (own_at e at)) in
             (e, at, given.0, given.1)
+
+    -- the plan of the row at the place is that of its order
+    pub own_plan : (e : Entry) → slice_get es place ≡ Some e → e.1.plan ≡ t.plan
+    own_plan e at =
+        let found = own_entry in
+        ap (λ (o : Option Entry). (unwrap_or o e).1.plan) (sym at ∙ found.1) ∙ ap (λ (z : Task). z.plan) (sym found.3)
 
     pub own_whole : (e : Entry) → slice_get es place ≡ Some e → list_all (firm_among es place) (reads e.1.plan) ≡ true → t ≡ order_among inputs es place e → IsWhole b n m inputs es → IsWhole b n m inputs (set es place (with_data (kept_data t) e))
     own_whole e at firm is w = kept_whole b n m inputs es place e t at firm (ap (λ (u : Task). u.inputs) (sym is)) (ap (λ (u : Task). u.plan) (sym is)) w

@@ -8,7 +8,7 @@ use Rattle.paris_program.specs.Program.{place_of, place_in, row_of}
 use Rattle.paris_program.proofs.CallerLemmas.{row_there}
 use Rattle.paris_machine.specs.State.{Row, Inputs, State, find_id}
 use Rattle.paris_book.specs.Entries.{Entry, machine_row}
-use Rattle.paris_book.specs.declared.rows.RowData.{RowData}
+use Rattle.paris_book.specs.Rows.{RowData}
 use Rattle.paris_book.proofs.Finds.{found_some}
 use Rattle.paris_book.proofs.Entering.{entry_same, find_is}
 use Rattle.paris_book.proofs.Inserts.{state_of}

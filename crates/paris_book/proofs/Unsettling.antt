@@ -18,7 +18,7 @@ use Rattle.paris_depends.proofs.ByIds.{by_ids-front, by_ids-swept, by_ids-more, 
 use Rattle.paris_book.specs.Entries.{Entry, with_data, ChangedAt}
 use Rattle.paris_book.proofs.Swept.{swept_entries}
 use Rattle.paris_book.specs.Marks.{data_plan, fresh_data, unsettled_by_ids, ids_in, writes_either, stale_data}
-use Rattle.paris_book.specs.declared.rows.RowData.{RowData}
+use Rattle.paris_book.specs.Rows.{RowData}
 use Rattle.paris_book.proofs.Inserts.{inserted_rows}
 
 -- ---- no id, and one more

@@ -3,7 +3,7 @@ use Rattle.std.specs.Prelude.{◌≡◌, ℕ, List, Some, slice_get, slice_set}
 use Rattle.paris_names.specs.declared.ids.RowId.{RowId}
 use Rattle.paris_model.specs.Instructions.{Plan}
 use Rattle.paris_machine.specs.State.{Row}
-use Rattle.paris_book.specs.declared.rows.RowData.{RowData}
+use Rattle.paris_book.specs.Rows.{RowData}
 
 -- a row's id, and what the book keeps of the row
 abbrev pub Entry : Type 0

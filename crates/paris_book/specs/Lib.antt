@@ -5,6 +5,9 @@ pub mod Kept
 pub mod Laws
 pub mod Marks
 pub mod Rounds
+pub mod Rows
+pub mod RowsInside
+pub mod SharedIndexes
 pub mod Statuses
 pub mod Steps
 pub mod Verdicts

@@ -7,7 +7,7 @@ use Rattle.paris_names.specs.declared.ids.RowId.{RowId}
 use Rattle.paris_depends.specs.Sweeps.{by_ids}
 use Rattle.paris_exec.specs.Tasks.{Task}
 use Rattle.paris_machine.specs.Orders.{recalled_status}
-use Rattle.paris_book.specs.declared.rows.RowData.{RowData}
+use Rattle.paris_book.specs.Rows.{RowData}
 use Rattle.paris_book.specs.Entries.{Entry, with_data}
 use Rattle.paris_events.specs.declared.rows.Status.TheVariants.{Waiting, Out, Settled}
 

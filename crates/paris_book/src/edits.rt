@@ -11,7 +11,6 @@ ghost use Rattle.paris_instr.specs.Resolve.{IsFittedTo};
 ghost use Rattle.paris_machine.specs.State.{find_row, place_of_spot, with_input};
 ghost use Rattle.paris_machine.specs.Edits.{HasEditsLeft, edit_fault, edit_answer, content_fault, accepted, input_fault, set_added, field_added, edited, input_set, known_rows, row_inserted, replaced_from};
 ghost use Rattle.paris_events.specs.declared.edits.Edit.TheVariants as EditCase;
-ghost use Rattle.paris_book.specs.Marks.{fresh_data};
 ghost use Rattle.paris_book.specs.Whole.{shape_in};
 
 use crate::book::Book;
@@ -21,27 +20,14 @@ use crate::inputs::{
 };
 use crate::marks::{end_edit, unsettled_by_replace};
 use crate::rows::RowData;
-use paris_events::{Edit, EditReply, Status};
+use paris_events::{Edit, EditReply};
 use paris_geometry::Geometry;
 use paris_instr::{Plan, resolve};
 use paris_machine::Input;
 use paris_model::Instr;
 use paris_names::limits::{MAX_EDITS, MAX_ROWS};
-use paris_names::{Edition, Fault, Key, KeyName, Name, RowId, Spot};
+use paris_names::{Fault, Key, KeyName, Name, RowId, Spot};
 use std::alloc::AllocError;
-
-/// A row that the edit of this number gives this plan.
-fn fresh_row(plan: Plan, number: u64) -> RowData
-    ensures { result ≡ fresh_data plan number }
-{
-    RowData {
-        plan,
-        set_by: number,
-        edition: Edition(number),
-        status: Status::Waiting,
-        done: None,
-    }
-}
 
 impl Book {
     /// Declares a set, if there are edits left.
@@ -164,7 +150,8 @@ impl Book {
     {
         let number = self.edits + 1;
         let ids = self.rows.affected(self.alloc, place, plan.writes())?;
-        let id = self.rows.insert_at(place, fresh_row(plan, number))?;
+        let row = RowData::fresh(self.alloc, plan, number)?;
+        let id = self.rows.insert_at(place, row)?;
         end_edit(&mut self.rows, &mut self.edits, ids.as_slice());
         Ok(id)
     }
@@ -179,10 +166,10 @@ impl Book {
     {
         let below = self.place_of_spot(Spot::After(id))?;
         let ids = match self.rows.row(id) {
-            Some(row) => self.rows.affected(self.alloc, below, row.plan.writes())?,
+            Some(row) => self.rows.affected(self.alloc, below, row.plan().writes())?,
             None => unreachable!(),
         };
-        self.rows.delete(id);
+        self.rows.delete(id)?;
         end_edit(&mut self.rows, &mut self.edits, ids.as_slice());
         Ok(())
     }
@@ -210,7 +197,8 @@ impl Book {
     {
         let number = self.edits + 1;
         let ids = unsettled_by_replace(self.alloc, &self.rows, id, below, &plan)?;
-        self.rows.replace(id, fresh_row(plan, number))?;
+        let row = RowData::fresh(self.alloc, plan, number)?;
+        self.rows.replace(id, row)?;
         end_edit(&mut self.rows, &mut self.edits, ids.as_slice());
         Ok(())
     }

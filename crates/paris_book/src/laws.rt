@@ -62,7 +62,7 @@ fn inputs_fit(inputs: &InputData)
 fn action_fits(id: RowId, row: &RowData)
     ensures { ActionFits (id.0, row.now) }
 {
-    row.plan.action();
+    row.plan().action();
 }
 
 /// So do those of all rows.

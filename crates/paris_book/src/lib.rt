@@ -16,6 +16,7 @@ mod refusals;
 mod rounds;
 mod rows;
 mod settlement;
+mod shared_index;
 mod snapshot;
 mod statuses;
 

@@ -18,9 +18,9 @@ fn listed(id: RowId, row: &RowData) -> RowLook
 {
     RowLook {
         id,
-        edition: row.edition,
-        status: row.status,
-        instr: row.plan.instr(),
+        edition: row.edition(),
+        status: row.status(),
+        instr: row.plan().instr(),
         cause: cause_of(id, row),
     }
 }

@@ -62,10 +62,10 @@ fn look_at_row<'a>(id: RowId, row: &'a RowData, key: &Key) -> SharedLook<'a>
     requires kept { KeptFor (id.0, row.now) key.now }
     ensures { LooksAt result (id.0, row.entry.now) key.now }
 {
-    if !row.status.is_settled() {
+    if !row.status().is_settled() {
         return SharedLook::Pending(id);
     }
-    match &row.done {
+    match row.done() {
         Some(done) => SharedLook::Settled(done.shared_value(key)),
         None => unreachable!(),
     }
@@ -77,8 +77,8 @@ fn pass(pending: &mut [bool; 128], row: &RowData) -> bool
     ensures ready { result ≡ (is_waiting row.now.status && not (list_any (marked pending.old) (reads row.now.plan))) }
     ensures marks { (k : AnyKey) → marked pending.new k ≡ (if has_key (writes row.now.plan) k then not (is_settled row.now.status) else marked pending.old k) }
 {
-    let ready = row.status.is_waiting() && !is_any_marked(pending, row.plan.reads());
-    mark(pending, row.plan.writes(), !row.status.is_settled());
+    let ready = row.status().is_waiting() && !is_any_marked(pending, row.plan().reads());
+    mark(pending, row.plan().writes(), !row.status().is_settled());
     ready
 }
 
@@ -137,11 +137,11 @@ pub(crate) fn order_at(
     ensures { IfOk result (λ order. (e : Entry) → slice_get rows.now.rows place ≡ Some e → order ≡ own_among (inputs_of inputs.now) rows.now.rows place e) }
 {
     let (id, row) = rows.at(place);
-    let Some(values) = present_inputs(alloc, inputs, rows, place, &row.plan)? else {
+    let Some(values) = present_inputs(alloc, inputs, rows, place, row.plan())? else {
         return Ok(None);
     };
-    let plan = row.plan.copy()?;
-    match Order::new(id, row.edition, plan, values) {
+    let plan = row.plan().copy()?;
+    match Order::new(id, row.edition(), plan, values) {
         Some(order) => Ok(Some(order)),
         None => unreachable!(),
     }
@@ -181,7 +181,7 @@ fn is_present(inputs: &InputData, rows: &Rows, place: usize, order: &Order) -> b
     ensures plan { (e : Entry) → slice_get rows.now.rows place ≡ Some e → result ≡ true → e.1.plan ≡ order.now.plan }
 {
     let (_, row) = rows.at(place);
-    row.plan.equals(order.plan()) && agree(inputs, rows, place, &row.plan, order.inputs())
+    row.plan().equals(order.plan()) && agree(inputs, rows, place, row.plan(), order.inputs())
 }
 
 /// The verdict on a result for the row at a place.
@@ -194,10 +194,10 @@ pub(crate) fn judge(inputs: &InputData, rows: &Rows, place: usize, done: &Done) 
 {
     let (_, row) = rows.at(place);
     let order = done.order();
-    if row.edition.0 != order.edition().0 {
-        return Verdict::Stale(row.edition);
+    if row.edition().0 != order.edition().0 {
+        return Verdict::Stale(row.edition());
     }
-    if row.status.is_settled() {
+    if row.status().is_settled() {
         return Verdict::Repeated;
     }
     if is_present(inputs, rows, place, order) {

@@ -8,7 +8,7 @@ ghost use Rattle.paris_model.specs.Instructions.{writes};
 ghost use Rattle.paris_program.specs.Program.{IsProgram, place_of, row_of};
 ghost use Rattle.paris_depends.specs.Sweeps.{touched};
 ghost use Rattle.paris_book.specs.Marks.{unsettled_by_ids, ids_in, data_plan, writes_either};
-ghost use Rattle.paris_book.specs.declared.rows.RowData.{RowData as RowShape};
+ghost use Rattle.paris_book.specs.Rows.{RowData as RowShape};
 
 use crate::program_rows::Rows;
 use paris_instr::Plan;
@@ -71,7 +71,7 @@ pub(crate) fn unsettled_by_replace(
 {
     match rows.row(id) {
         Some(row) => {
-            let keys = written_by_either(alloc, &row.plan, plan)?;
+            let keys = written_by_either(alloc, row.plan(), plan)?;
             rows.affected(alloc, below, keys.as_slice())
         }
         None => unreachable!(),

@@ -5,18 +5,21 @@ ghost use Rattle.std.specs.Option.{option_copied, option_map};
 ghost use Rattle.paris_names.specs.Keys.{has_key};
 ghost use Rattle.paris_names.specs.declared.limits.TheConstants.{MAX_ROWS};
 ghost use Rattle.paris_program.specs.Program.{IsProgram, Inserts, Stays, place_of, place_in, row_of, with_row};
-ghost use Rattle.paris_depends.specs.Index.{HasRoom, footprint, footprints};
+ghost use Rattle.paris_depends.specs.Index.{footprint, footprints};
 ghost use Rattle.paris_depends.specs.Sweeps.{touched};
 ghost use Rattle.paris_book.specs.Among.{origin_among};
 ghost use Rattle.paris_machine.specs.Settling.{unsettled_rows};
 ghost use Rattle.paris_book.specs.Entries.{Entry, ChangedAt, machine_row};
 ghost use Rattle.paris_book.specs.Marks.{data_plan, ids_in, out_data, kept_data, recalled_data, stale_data};
+ghost use Rattle.paris_book.specs.SharedIndexes.{HasOwnRoom, indexed_in};
 ghost use Rattle.paris_book.specs.Statuses.{next_unsettled};
 
 use crate::rows::RowData;
+use crate::shared_index::SharedIndex;
 use crate::statuses::Statuses;
-use paris_depends::{Index, Looks, affected, origin};
+use paris_depends::{Looks, affected, origin};
 use paris_exec::Done;
+use paris_instr::SharedPlan;
 use paris_names::{Key, RowId};
 use paris_program::Program;
 use std::alloc::{AllocError, Global};
@@ -26,35 +29,35 @@ use std::marker::Model;
 /// rows passes the others over. There are no more rows than a program may have. A clause sees the program.
 #[derive(Drop)]
 pub(crate) struct Rows {
+    alloc: Global,
     program: Program<RowData>,
-    index: Index,
+    index: SharedIndex,
     statuses: Statuses,
 }
 
 impl Model for Rows {
     ghost use Rattle.paris_program.specs.Program.{Program};
-    ghost use Rattle.paris_book.specs.declared.rows.RowData.{RowData};
+    ghost use Rattle.paris_book.specs.Rows.{RowData};
     ghost use Rattle.paris_book.specs.Indexed.{IsIndexed};
+    ghost use Rattle.paris_book.specs.SharedIndexes.{indexed_in};
 
     ghost Value = { Program RowData };
 
     ghost view = { λ r. r.program };
 
-    ghost invariant = { λ r. IsIndexed r.program.rows r.index.rows r.statuses };
+    ghost invariant = { λ r. IsIndexed r.program.rows (indexed_in r.index) r.statuses };
 }
 
 /// Adds the row at a place to the index of all others, which has room for it.
-fn add_row(index: &mut Index, program: &Program<RowData>, place: usize)
+fn add_row(index: &mut SharedIndex, program: &Program<RowData>, place: usize, plan: SharedPlan)
     requires there { place < length program.now.rows }
-    requires others { remove (footprints data_plan program.now.rows) place ≡ index.old.rows }
-    requires room { (e : Entry) → slice_get program.now.rows place ≡ Some e → HasRoom index.old.room (footprint e.1.plan) }
-    ensures { footprints data_plan program.now.rows ≡ index.new.rows }
+    requires others { remove (footprints data_plan program.now.rows) place ≡ indexed_in index.old }
+    requires plan { (e : Entry) → slice_get program.now.rows place ≡ Some e → e.1.plan ≡ plan }
+    requires room { HasOwnRoom index.old (footprint plan) }
+    ensures { footprints data_plan program.now.rows ≡ indexed_in index.new }
 {
-    let (id, row) = program.at(place);
-    match index.add(program, id, &row.plan) {
-        Ok(()) => {}
-        Err(_) => unreachable!(),
-    }
+    let (id, _) = program.at(place);
+    index.add(program, id, plan);
 }
 
 impl Rows {
@@ -64,21 +67,24 @@ impl Rows {
         ensures next_id { result.next_id ≡ 1 }
     {
         Rows {
+            alloc,
             program: Program::new(alloc),
-            index: Index::new(alloc),
+            index: SharedIndex::new(alloc),
             statuses: Statuses::new(alloc),
         }
     }
 
-    /// A copy with the same rows under the same ids, and the same next id.
+    /// A copy with the same rows under the same ids, and the same next id. It shares the plans and the results of the rows, and
+    /// their index.
     pub(crate) fn copy(&self) -> Result<Rows, AllocError>
         ensures rows { IfOk result (λ rows. rows.rows ≡ self.now.rows) }
         ensures next_id { IfOk result (λ rows. rows.next_id ≡ self.now.next_id) }
     {
-        let program = self.program.copy_with(|row| row.copy())?;
+        let program = self.program.copy()?;
         let index = self.index.copy()?;
         let statuses = self.statuses.copy()?;
         Ok(Rows {
+            alloc: self.alloc,
             program,
             index,
             statuses,
@@ -126,7 +132,7 @@ impl Rows {
         ensures { option_map (λ id. id.0) result ≡ option_map (λ r. r.0) (origin_among self.now.rows place key.now) }
     {
         let mut looks = Looks::new();
-        origin(&self.program, &self.index, place, *key, &mut looks)
+        origin(&self.program, self.index.get(), place, *key, &mut looks)
     }
 
     /// The ids of the rows from a place on that become unsettled where just these keys get new recipes at that place, in program
@@ -142,7 +148,14 @@ impl Rows {
         ensures { IfOk result (λ ids. ids_in ids.items ≡ touched data_plan (has_key keys.now) (drop place self.now.rows)) }
     {
         let mut looks = Looks::new();
-        affected(alloc, &self.program, &self.index, place, keys, &mut looks)
+        affected(
+            alloc,
+            &self.program,
+            self.index.get(),
+            place,
+            keys,
+            &mut looks,
+        )
     }
 
     /// How many rows are unsettled.
@@ -169,18 +182,19 @@ impl Rows {
     {
         let row = self.program.at_mut(place);
         row.hand_out();
-        self.statuses.set(place, row.status);
+        self.statuses.set(place, row.status());
     }
 
-    /// Settles the row at a place by a result.
+    /// Settles the row at a place by a result of its plan.
     pub(crate) fn keep(&mut self, place: usize, done: Done)
-        requires { place < length self.old.rows }
+        requires there { place < length self.old.rows }
+        requires plan { (e : Entry) → slice_get self.old.rows place ≡ Some e → e.1.plan ≡ done.plan }
         ensures rows { ChangedAt (kept_data done) self.old.rows place self.new.rows }
         ensures next_id { self.new.next_id ≡ self.old.next_id }
     {
         let row = self.program.at_mut(place);
         row.keep(done);
-        self.statuses.set(place, row.status);
+        self.statuses.set(place, row.status());
     }
 
     /// Makes the row at a place wait if an order of it is out.
@@ -191,7 +205,7 @@ impl Rows {
     {
         let row = self.program.at_mut(place);
         row.recall();
-        self.statuses.set(place, row.status);
+        self.statuses.set(place, row.status());
     }
 
     /// Makes the row at a place unsettled by the edit of this number.
@@ -202,7 +216,7 @@ impl Rows {
     {
         let row = self.program.at_mut(place);
         row.unsettle(number);
-        self.statuses.set(place, row.status);
+        self.statuses.set(place, row.status());
     }
 
     /// Puts a row at a place, before the rows that stand there, under the next id, and returns that id. Where memory is refused the
@@ -214,28 +228,35 @@ impl Rows {
         ensures ok { IfOk result (Inserts self.old self.new place row) }
         ensures err { OnErr result (Stays self.old self.new) }
     {
+        let plan = row.shared_plan(self.alloc)?;
         self.program.room()?;
-        self.index.room(&row.plan)?;
-        self.statuses.insert(place, row.status)?;
+        self.index.own(self.alloc)?;
+        self.index.room(plan.get())?;
+        self.statuses.insert(place, row.status())?;
         match self.program.insert_at(place, row) {
             Ok(id) => {
-                add_row(&mut self.index, &self.program, place);
+                add_row(&mut self.index, &self.program, place, plan);
+                self.index.share(self.alloc);
                 Ok(id)
             }
             Err(_) => unreachable!(),
         }
     }
 
-    /// Takes the row with this id out. The others keep their order. It takes no memory.
-    pub(crate) fn delete(&mut self, id: RowId)
+    /// Takes the row with this id out. The others keep their order. Where memory is refused the rows are as before.
+    pub(crate) fn delete(&mut self, id: RowId) -> Result<(), AllocError>
         requires { IsSome (place_of self.old.rows id.0) }
-        ensures rows { self.new.rows ≡ remove self.old.rows (place_in self.old.rows id.0) }
+        ensures ok { OnOk result (self.new.rows ≡ remove self.old.rows (place_in self.old.rows id.0)) }
         ensures next_id { self.new.next_id ≡ self.old.next_id }
+        ensures err { OnErr result (Stays self.old self.new) }
     {
+        self.index.own(self.alloc)?;
         let place = self.program.place_of(id).unwrap();
         self.index.remove(id);
+        self.index.share(self.alloc);
         self.program.delete(id);
         self.statuses.remove(place);
+        Ok(())
     }
 
     /// Puts another row in place of the one with this id, under that id. Where memory is refused the rows are as before.
@@ -245,12 +266,15 @@ impl Rows {
         ensures next_id { self.new.next_id ≡ self.old.next_id }
         ensures err { OnErr result (Stays self.old self.new) }
     {
-        self.index.room(&row.plan)?;
+        let plan = row.shared_plan(self.alloc)?;
+        self.index.own(self.alloc)?;
+        self.index.room(plan.get())?;
         let place = self.program.place_of(id).unwrap();
         self.index.remove(id);
-        self.statuses.set(place, row.status);
+        self.statuses.set(place, row.status());
         self.program.replace(id, row);
-        add_row(&mut self.index, &self.program, place);
+        add_row(&mut self.index, &self.program, place, plan);
+        self.index.share(self.alloc);
         Ok(())
     }
 }

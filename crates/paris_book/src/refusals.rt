@@ -17,10 +17,10 @@ use std::alloc::{AllocError, Global};
 pub(crate) fn cause_of(id: RowId, row: &RowData) -> Option<Refusal>
     ensures { result ≡ cause_kept (id.0, row.now) }
 {
-    if !row.status.is_settled() {
+    if !row.status().is_settled() {
         return None;
     }
-    match &row.done {
+    match row.done() {
         Some(done) => match done.outcome() {
             Outcome::Refused(cause) => Some(*cause),
             Outcome::Values(_) => None,

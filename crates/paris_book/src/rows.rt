@@ -1,41 +1,120 @@
 //! What the book keeps of a row, and what calls change of it.
 
 ghost use Rattle.std.specs.Prelude.{◌≡◌, IfOk};
-ghost use Rattle.paris_book.specs.Marks.{out_data, kept_data, recalled_data, stale_data};
+ghost use Rattle.std.specs.Option.{option_copied};
+ghost use Rattle.paris_book.specs.Marks.{fresh_data, out_data, kept_data, recalled_data, stale_data};
 
 use paris_events::Status;
 use paris_exec::Done;
-use paris_instr::Plan;
+use paris_instr::{Plan, SharedPlan};
 use paris_names::Edition;
-use std::alloc::AllocError;
+use std::alloc::{AllocError, Global};
+use std::marker::Model;
 
-/// What the book keeps of a row, whose id is the program's, with the result that was last kept.
+/// The plan of a row, or the result that was last kept of it, whose order has that plan.
+#[derive(Debug, Drop)]
+pub(crate) enum Held {
+    Plan(SharedPlan),
+    Done(Done),
+}
+
+impl Held {
+    /// The same once more, which is shared.
+    fn copy(&self) -> Result<Held, AllocError>
+        ensures { IfOk result (λ copy. copy ≡ self.now) }
+    {
+        match self {
+            Held::Plan(plan) => Ok(Held::Plan(plan.copy()?)),
+            Held::Done(done) => Ok(Held::Done(done.copy()?)),
+        }
+    }
+}
+
+/// A plan, to be shared from here on.
+fn shared(alloc: Global, plan: Plan) -> Result<SharedPlan, AllocError>
+    ensures { IfOk result (λ shared. shared ≡ plan) }
+{
+    match SharedPlan::new(alloc, plan) {
+        Ok(plan) => Ok(plan),
+        Err((_, error)) => Err(error),
+    }
+}
+
+/// What the book keeps of a row, whose id is the program's, with the result that was last kept. Copies of a row share its plan and
+/// its result. A clause sees the plan, and the result beside it.
 #[derive(Debug, Drop)]
 pub struct RowData {
-    pub(crate) plan: Plan,
-    pub(crate) set_by: u64,
-    pub(crate) edition: Edition,
-    pub(crate) status: Status,
-    pub(crate) done: Option<Done>,
+    held: Held,
+    set_by: u64,
+    edition: Edition,
+    status: Status,
+}
+
+impl Model for RowData {
+    ghost use Rattle.paris_book.specs.Rows.{RowData as Row};
+    ghost use Rattle.paris_book.specs.RowsInside.{row_of};
+
+    ghost Value = { Row };
+
+    ghost view = { row_of };
 }
 
 impl RowData {
-    /// A copy that equals the row.
-    pub(crate) fn copy(&self) -> Result<RowData, AllocError>
-        ensures { IfOk result (λ row. row ≡ self.now) }
+    /// A row that the edit of this number gives this plan.
+    pub(crate) fn fresh(alloc: Global, plan: Plan, number: u64) -> Result<RowData, AllocError>
+        ensures { IfOk result (λ row. row ≡ fresh_data plan number) }
     {
-        let plan = self.plan.copy()?;
-        let done = match &self.done {
-            Some(done) => Some(done.copy()?),
-            None => None,
-        };
+        let plan = shared(alloc, plan)?;
         Ok(RowData {
-            plan,
-            set_by: self.set_by,
-            edition: self.edition,
-            status: self.status,
-            done,
+            held: Held::Plan(plan),
+            set_by: number,
+            edition: Edition(number),
+            status: Status::Waiting,
         })
+    }
+
+    /// The plan.
+    pub(crate) fn plan(&self) -> &Plan
+        ensures { result.now ≡ self.now.plan }
+    {
+        match &self.held {
+            Held::Plan(plan) => plan.get(),
+            Held::Done(done) => done.order().plan(),
+        }
+    }
+
+    /// The plan, to be shared. The error says that memory was refused, or that the count of its owners is full.
+    pub(crate) fn shared_plan(&self, alloc: Global) -> Result<SharedPlan, AllocError>
+        ensures { IfOk result (λ plan. plan ≡ self.now.plan) }
+    {
+        match &self.held {
+            Held::Plan(plan) => plan.copy(),
+            Held::Done(done) => shared(alloc, done.order().plan().copy()?),
+        }
+    }
+
+    /// The edition.
+    pub(crate) fn edition(&self) -> Edition
+        ensures { result ≡ self.now.edition }
+    {
+        self.edition
+    }
+
+    /// Where the row stands.
+    pub(crate) fn status(&self) -> Status
+        ensures { result ≡ self.now.status }
+    {
+        self.status
+    }
+
+    /// The result that was last kept, if there is one.
+    pub(crate) fn done(&self) -> Option<&Done>
+        ensures { option_copied result ≡ self.now.done }
+    {
+        match &self.held {
+            Held::Plan(_) => None,
+            Held::Done(done) => Some(done),
+        }
     }
 
     /// Marks the row as one of which an order is out.
@@ -45,12 +124,13 @@ impl RowData {
         self.status = Status::Out;
     }
 
-    /// Settles the row by a result.
+    /// Settles the row by a result of its plan.
     pub(crate) fn keep(&mut self, done: Done)
+        requires { self.old.plan ≡ done.plan }
         ensures { self.new ≡ kept_data done self.old }
     {
         self.status = Status::Settled;
-        self.done = Some(done);
+        self.held = Held::Done(done);
     }
 
     /// Makes the row wait if an order of it is out.
@@ -69,5 +149,19 @@ impl RowData {
     {
         self.edition = Edition(number);
         self.status = Status::Waiting;
+    }
+}
+
+impl Clone for RowData {
+    ghost is_clone = { λ row copy. copy ≡ row };
+
+    fn clone(&self) -> Result<RowData, AllocError> {
+        let held = self.held.copy()?;
+        Ok(RowData {
+            held,
+            set_by: self.set_by,
+            edition: self.edition,
+            status: self.status,
+        })
     }
 }

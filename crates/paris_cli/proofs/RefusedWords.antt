@@ -1,15 +1,15 @@
--- Words that are refused for want of memory stop the program before it reads.
-use Rattle.std.proofs.Common.{◌≡◌, ℕ, ◌<◌, List, [], Option, refl, arith, ap, false}
+-- Words that are refused stop the program before it reads.
+use Rattle.std.proofs.Common.{◌≡◌, ℕ, ◌<◌, List, [], Option, None, Some, refl, arith, ap, false, inr}
 use Rattle.std.proofs.KnownBytes.{Consumes-nil, Appends-nil}
 use Rattle.paris_session.specs.Transcript.{transcript}
-use Rattle.std.specs.Io.KnownBytes.{Appends}
+use Rattle.std.specs.Io.KnownBytes.{Appends, Keeps}
 use Rattle.paris_calls.specs.Calls.{Marks, no_marks}
 use Rattle.paris_calls.specs.Texts.{WritesFront}
 use Rattle.paris_session.specs.declared.run.RunFault.TheVariants as run_fault
 use Rattle.paris_cli.specs.declared.words.WordsFault.{WordsFault}
 use Rattle.paris_cli.specs.declared.words.WordsFault.TheVariants.{Usage, Untold, NotText, NoMemory}
 use Rattle.paris_cli.specs.Words.{refusal_line, refusal_status}
-use Rattle.paris_cli.specs.Program.{Stops}
+use Rattle.paris_cli.specs.Program.{Halts, Stops}
 
 pub stops_at_words : (reader writer errors_old errors_new : Option (List ℕ)) (run errors : Marks) (fault : WordsFault) (status : ℕ) → run ≡ no_marks
     → status ≡ refusal_status fault → WritesFront errors_old errors_new (refusal_line fault)
@@ -33,3 +33,19 @@ stops_at_words reader writer errors_old errors_new run errors NoMemory status fr
   named = said;
   whole = whole;
 }
+
+keeps_all : (o : Option (List ℕ)) → Keeps o o
+keeps_all None = tt
+keeps_all (Some xs) = refl
+
+-- words that ask for a desk, and are refused
+pub halts_at_words : (writer errors_old errors_new : Option (List ℕ)) (errors : Marks) (fault : WordsFault) (status : ℕ) → status ≡ refusal_status fault
+    → WritesFront errors_old errors_new (refusal_line fault) → (errors.write_failed ≡ false → Appends errors_old errors_new (refusal_line fault))
+    → Halts writer writer errors_old errors_new errors status
+halts_at_words writer errors_old errors_new errors fault status is said whole = inr (record {
+  fault = fault;
+  status_is = is;
+  unwritten = keeps_all writer;
+  named = said;
+  whole = whole;
+})

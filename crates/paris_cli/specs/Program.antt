@@ -1,15 +1,17 @@
 -- What the program does on its reader and its writers, by its exit status.
-use Rattle.std.specs.Prelude.{◌≡◌, ◌≢◌, ℕ, ◌==◌, List, Option, codes, false, if◌then◌else◌}
+use Rattle.std.specs.Prelude.{◌≡◌, ◌⊎◌, ℕ, ◌==◌, List, Option, codes, false, if◌then◌else◌}
 use Rattle.std.specs.Io.KnownBytes.{Appends, Consumes, Keeps, IsAtEnd}
 use Rattle.paris_session.specs.Transcript.{transcript, sitting_after}
 use Rattle.paris_calls.specs.Calls.{Marks, no_marks}
 use Rattle.paris_calls.specs.Texts.{WritesFront}
 use Rattle.paris_session.specs.Run.{StopsShort, HasCause, HasEnded, most_reads}
 use Rattle.paris_session.specs.declared.answers.Summary.{Summary}
+use Rattle.paris_names.specs.declared.faults.Fault.TheVariants.{NoEntry}
 use Rattle.paris_parts.specs.declared.run.DeskRunFault.{DeskRunFault}
 use Rattle.paris_parts.specs.declared.run.DeskRunFault.TheVariants as desk
 use Rattle.paris_parts.specs.Run.{Runs}
-use Rattle.paris_cli.specs.Words.{AskFor}
+use Rattle.paris_cli.specs.Words.{AskFor, refusal_line, refusal_status}
+use Rattle.paris_cli.specs.declared.words.WordsFault.{WordsFault}
 use Rattle.paris_session.specs.declared.run.RunFault.{RunFault}
 use Rattle.paris_session.specs.declared.run.RunFault.TheVariants.{Read, Write, TooLong, NoMemory}
 
@@ -61,6 +63,7 @@ pub record Stops (reader_old reader_new writer_old writer_new errors_old errors_
 abbrev pub desk_fault_line : DeskRunFault → List ℕ
 desk_fault_line (desk.Run fault) = run_fault_line fault
 desk_fault_line desk.Parts = codes "wrong parts\n"
+desk_fault_line (desk.Desk NoEntry) = codes "no entry\n"
 desk_fault_line (desk.Desk fault) = codes "history full\n"
 
 abbrev pub desk_fault_status : DeskRunFault → ℕ
@@ -86,10 +89,25 @@ abbrev pub Sits : List (List ℕ) → Option (List ℕ) → Option (List ℕ) �
 Sits words reader_old reader_new writer_old writer_new errors_old errors_new status =
     (workers : ℕ) × ((k : ℕ) → AskFor words k → workers ≡ k) × FinishesAtDesk workers reader_old reader_new writer_old writer_new errors_old errors_new status
 
--- a run at a desk was stopped, or its words were refused: nothing was written, unless the reader or the writer has failed, and a front of
--- a line that says why was written: all of it, unless that writer has failed
-pub record Halts (writer_old writer_new errors_old errors_new : Option (List ℕ)) (errors : Marks) (status : ℕ) : Type 0 where
-  pub line : List ℕ
-  pub unwritten : status ≢ 3 → Keeps writer_old writer_new
-  pub named : WritesFront errors_old errors_new line
-  pub whole : errors.write_failed ≡ false → Appends errors_old errors_new line
+-- a fault stopped a run at a desk, and the status says which it is: nothing was written, unless the writer has failed, and a front of the
+-- line that names the fault was written: all of the line, unless that writer has failed
+pub record StopsAtDesk (writer_old writer_new errors_old errors_new : Option (List ℕ)) (errors : Marks) (status : ℕ) : Type 0 where
+  pub fault : DeskRunFault
+  pub status_is : status ≡ desk_fault_status fault
+  pub unwritten : (fault ≡ desk.Run Write → ⊥) → Keeps writer_old writer_new
+  pub named : WritesFront errors_old errors_new (desk_fault_line fault)
+  pub whole : errors.write_failed ≡ false → Appends errors_old errors_new (desk_fault_line fault)
+
+-- the words were refused, and the status says why: nothing was written, and a front of what is said of them was: all of it, unless that
+-- writer has failed
+pub record TellsOfWords (writer_old writer_new errors_old errors_new : Option (List ℕ)) (errors : Marks) (status : ℕ) : Type 0 where
+  pub fault : WordsFault
+  pub status_is : status ≡ refusal_status fault
+  pub unwritten : Keeps writer_old writer_new
+  pub named : WritesFront errors_old errors_new (refusal_line fault)
+  pub whole : errors.write_failed ≡ false → Appends errors_old errors_new (refusal_line fault)
+
+-- a run at a desk was stopped, or its words were refused
+abbrev pub Halts : Option (List ℕ) → Option (List ℕ) → Option (List ℕ) → Option (List ℕ) → Marks → ℕ → Type 0
+Halts writer_old writer_new errors_old errors_new errors status =
+    StopsAtDesk writer_old writer_new errors_old errors_new errors status ⊎ TellsOfWords writer_old writer_new errors_old errors_new errors status

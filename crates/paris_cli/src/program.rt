@@ -5,7 +5,7 @@ ghost use Rattle.std.specs.String.{string_bytes};
 ghost use Rattle.std.specs.Io.KnownBytes.{Appends};
 ghost use Rattle.paris_calls.specs.Calls.{no_marks};
 ghost use Rattle.paris_calls.specs.Texts.{WritesFront};
-ghost use Rattle.paris_cli.specs.Program.{Finishes, FinishesAtDesk, Halts, Refuses, Sits, Stops, desk_fault_line, desk_fault_status, exit_status, run_fault_line, run_fault_status};
+ghost use Rattle.paris_cli.specs.Program.{Finishes, FinishesAtDesk, Halts, Refuses, Sits, Stops, StopsAtDesk, desk_fault_line, desk_fault_status, exit_status, run_fault_line, run_fault_status};
 ghost use Rattle.paris_cli.specs.Words.{AreTaken, AskForDesk, refusal_line, refusal_status};
 ghost use Rattle.paris_names.specs.declared.limits.TheConstants.{MAX_WORKERS};
 
@@ -13,6 +13,7 @@ use crate::words::{Wanted, WordsFault, read_words};
 use crate::workers::Workers;
 use paris_calls::{Tally, write_out};
 use paris_exec::OpenGate;
+use paris_names::Fault;
 use paris_parts::{DeskRunFault, run_sessions};
 use paris_session::{RunFault, Summary, run_script};
 use std::io::{Read, Write};
@@ -55,6 +56,7 @@ fn desk_fault_line(fault: DeskRunFault) -> &'static [u8]
     match fault {
         DeskRunFault::Run(fault) => run_fault_line(fault),
         DeskRunFault::Parts => b"wrong parts\n",
+        DeskRunFault::Desk(Fault::NoEntry) => b"no entry\n",
         DeskRunFault::Desk(_) => b"history full\n",
     }
 }
@@ -146,7 +148,8 @@ fn run<H: Threads + Wait + Sync + AllocGlobal, R: Read, W: Write, E: Write>(
 
 /// Runs the script in parts that the reader gives, by sessions of one desk with so many workers beside them. Status 0 says that all
 /// commands were accepted, 1 that some command was refused, 2 that the parts are wrong, 3 that the reader or the writer failed or the
-/// bound on reads was passed, and 4 that there is no memory left or that the history is full.
+/// bound on reads was passed, and 4 that there is no memory left, that the history is full, or
+/// that a seat met no history to look at.
 fn run_at_desk<H: Threads + Wait + Sync + AllocGlobal, R: Read, W: Write, E: Write>(
     rt: &H,
     workers: usize,
@@ -159,7 +162,7 @@ fn run_at_desk<H: Threads + Wait + Sync + AllocGlobal, R: Read, W: Write, E: Wri
     requires fresh { tallies.old.run ≡ no_marks }
     ensures finishes { result ≤ 1 → FinishesAtDesk workers (R.remaining reader.old) (R.remaining reader.new)
         (W.contents writer.old) (W.contents writer.new) (E.contents errors.old) (E.contents errors.new) result }
-    ensures halts { 1 < result → Halts (W.contents writer.old) (W.contents writer.new)
+    ensures stops { 1 < result → StopsAtDesk (W.contents writer.old) (W.contents writer.new)
         (E.contents errors.old) (E.contents errors.new) tallies.new.errors result }
 {
     let settler = Workers { rt, count: workers };
@@ -184,8 +187,8 @@ fn run_at_desk<H: Threads + Wait + Sync + AllocGlobal, R: Read, W: Write, E: Wri
 
 /// Runs the script that the reader gives, as the words of the command line ask, and answers the exit status: 0 where all commands
 /// were accepted, 1 where some command was refused, 2 where the words are refused or the parts of a script at a desk are wrong, 3
-/// after a fault of the reader or the writer or past the bound on reads, and 4 where there is no memory left or a desk's history is
-/// full. At 2, 3 and 4 the cause is said on `errors`. The tallies say what came of the calls.
+/// after a fault of the reader or the writer or past the bound on reads, and 4 where there is no memory left, or a desk's history is
+/// full or not met. At 2, 3 and 4 the cause is said on `errors`. The tallies say what came of the calls.
 pub fn run_words<H: Threads + Wait + Sync + AllocGlobal, R: Read, W: Write, E: Write>(
     rt: &H,
     words: &[String],

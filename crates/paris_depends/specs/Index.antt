@@ -1,5 +1,5 @@
 -- What an index knows: the rows in program order, each with the keys that its plan writes and reads.
-use Rattle.std.specs.Prelude.{◌≡◌, ℕ, ◌<◌, ◌≤◌, Bool, List, map, length, Option, nat_eq, slice_index_or}
+use Rattle.std.specs.Prelude.{◌≡◌, ℕ, ◌<◌, Bool, List, map, Option, nat_eq, slice_index_or}
 use Rattle.std.specs.List.{filter}
 use Rattle.std.specs.Map.{lookup, keys_of}
 use Rattle.std.specs.Option.{option_map}
@@ -12,13 +12,11 @@ pub record Footprint : Type 0 where
   pub written : List Key
   pub read : List Key
 
--- how many more entries fit with no more memory: rows, the writers and the readers of each key, and the keys of one more row
+-- how many more entries fit with no more memory: rows, and the writers and the readers of each key
 pub record Room : Type 0 where
   pub rows : ℕ
   pub writers : List ℕ
   pub readers : List ℕ
-  pub written : ℕ
-  pub read : ℕ
 
 -- the rows in program order, each with its id, and the room for more
 pub record Index : Type 0 where
@@ -55,5 +53,3 @@ pub record HasRoom (room : Room) (f : Footprint) : Type 0 where
   pub rows : 0 < room.rows
   pub writers : (k : Key) → has_key f.written k ≡ Bool.true → 0 < slice_index_or room.writers (key_slot k) 0
   pub readers : (k : Key) → has_key f.read k ≡ Bool.true → 0 < slice_index_or room.readers (key_slot k) 0
-  pub written : length f.written ≤ room.written
-  pub read : length f.read ≤ room.read

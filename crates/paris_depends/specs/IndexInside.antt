@@ -1,7 +1,6 @@
 -- How an index keeps what it knows.
-use Rattle.std.specs.Prelude.{◌≡◌, ◌≤◌, [], length}
+use Rattle.std.specs.Prelude.{◌≡◌, ◌≤◌, length}
 use Rattle.std.specs.List.{AllByRecursion, IsDistinct}
-use Rattle.std.specs.Vec.{vec_capacity}
 use Rattle.indexmap.specs.IndexMap.{spare}
 use Rattle.paris_names.specs.declared.keys.Key.{Key}
 use Rattle.paris_names.specs.Keys.{key_eq, key_slot}
@@ -16,8 +15,6 @@ indexed i = record {
     rows = spare i.rows;
     writers = i.writers.room;
     readers = i.readers.room;
-    written = vec_capacity i.next_written;
-    read = vec_capacity i.next_read;
   };
 }
 
@@ -27,10 +24,8 @@ pub record IsRow (f : Footprint) : Type 0 where
   pub writes_once : IsDistinct key_eq f.written
   pub reads_once : IsDistinct key_eq f.read
 
--- the lists have the writers and the readers of each key, the rows are sound, and the next row's keys are empty
+-- the lists have the writers and the readers of each key, and the rows are sound
 pub record IsIndex (i : Inside) : Type 0 where
   pub writers : (k : Key) → list_at i.writers (key_slot k) ≡ writers i.rows.entries k
   pub readers : (k : Key) → list_at i.readers (key_slot k) ≡ readers i.rows.entries k
   pub sound : AllByRecursion (λ r. IsRow r.1) i.rows.entries
-  pub no_written : i.next_written.items ≡ []
-  pub no_read : i.next_read.items ≡ []

@@ -6,10 +6,10 @@ ghost use Rattle.paris_program.specs.Program.{ids_of, place_of, place_in};
 ghost use Rattle.paris_depends.specs.Index.{Footprint, HasRoom, footprint, keys_written, readers, writers};
 
 use crate::lists::Lists;
-use crate::row_keys::{RowKeys, copy_rows, put_row, take_filled};
+use crate::row_keys::{RowKeys, put_row};
 use crate::sides::{Side, put_all, room_for, take_all_out};
 use indexmap::IndexMap;
-use paris_instr::Plan;
+use paris_instr::{Plan, SharedPlan};
 use paris_names::{Key, RowId};
 use paris_program::Program;
 use std::alloc::{AllocError, Global};
@@ -57,12 +57,9 @@ impl Looks {
 /// program order, each with the keys that its plan writes and reads, and the room for more.
 #[derive(Drop)]
 pub struct Index {
-    alloc: Global,
     rows: IndexMap<u64, RowKeys>,
     writers: Lists,
     readers: Lists,
-    next_written: Vec<Key>,
-    next_read: Vec<Key>,
 }
 
 impl Model for Index {
@@ -83,12 +80,9 @@ impl Index {
         ensures { result.rows ≡ [] }
     {
         Index {
-            alloc,
             rows: IndexMap::new(alloc),
             writers: Lists::new(alloc),
             readers: Lists::new(alloc),
-            next_written: Vec::new(alloc),
-            next_read: Vec::new(alloc),
         }
     }
 
@@ -135,7 +129,7 @@ impl Index {
         ensures few { result ≤ 3 }
     {
         match self.rows.get(&id.0) {
-            Some(row) => row.written.len(),
+            Some(row) => row.written().len(),
             None => unreachable!(),
         }
     }
@@ -150,7 +144,7 @@ impl Index {
     {
         looks.add_one();
         match self.rows.get(&id.0) {
-            Some(row) => row.written[i],
+            Some(row) => row.written()[i],
             None => unreachable!(),
         }
     }
@@ -165,28 +159,35 @@ impl Index {
         ensures succeeds { HasRoom self.old.room (footprint plan.now) → IsOk result }
     {
         self.rows.reserve(1)?;
-        self.next_written.reserve(plan.writes().len())?;
-        self.next_read.reserve(plan.reads().len())?;
         room_for(&mut self.writers, plan.writes())?;
         room_for(&mut self.readers, plan.reads())
     }
 
     /// Adds a row of a program, which has this plan. The other rows of the program are in the index. Where memory is refused the rows
     /// are as before.
-    pub fn add<T>(&mut self, program: &Program<T>, id: RowId, plan: &Plan) -> Result<(), AllocError>
+    pub fn add<T>(
+        &mut self,
+        program: &Program<T>,
+        id: RowId,
+        plan: SharedPlan,
+    ) -> Result<(), AllocError>
         requires there { IsSome (place_of program.now.rows id.0) }
         requires others { remove (ids_of program.now.rows) (place_in program.now.rows id.0) ≡ ids_of self.old.rows }
-        ensures ok { OnOk result (self.new.rows ≡ insert self.old.rows (place_in program.now.rows id.0) (id.0, footprint plan.now)) }
+        ensures ok { OnOk result (self.new.rows ≡ insert self.old.rows (place_in program.now.rows id.0) (id.0, footprint plan)) }
         ensures err { OnErr result (self.new.rows ≡ self.old.rows) }
-        ensures succeeds { HasRoom self.old.room (footprint plan.now) → IsOk result }
+        ensures succeeds { HasRoom self.old.room (footprint plan) → IsOk result }
     {
-        self.room(plan)?;
+        self.room(plan.get())?;
         let place = program.place_of(id).unwrap();
-        let written = take_filled(self.alloc, &mut self.next_written, plan.writes());
-        let read = take_filled(self.alloc, &mut self.next_read, plan.reads());
-        put_all(&mut self.writers, &self.rows, plan.writes(), place, id);
-        put_all(&mut self.readers, &self.rows, plan.reads(), place, id);
-        put_row(&mut self.rows, place, id, RowKeys { written, read });
+        put_all(
+            &mut self.writers,
+            &self.rows,
+            plan.get().writes(),
+            place,
+            id,
+        );
+        put_all(&mut self.readers, &self.rows, plan.get().reads(), place, id);
+        put_row(&mut self.rows, place, id, RowKeys::new(plan));
         Ok(())
     }
 
@@ -202,20 +203,25 @@ impl Index {
         let _row = self.rows.shift_remove_index(place);
     }
 
-    /// A copy, with the same rows.
+    /// A copy, with the same rows. It shares their plans.
     pub fn copy(&self) -> Result<Index, AllocError>
         ensures { IfOk result (λ copy. copy.rows ≡ self.now.rows) }
     {
-        let rows = copy_rows(self.alloc, &self.rows)?;
+        let rows = self.rows.clone()?;
         let writers = self.writers.copy()?;
         let readers = self.readers.copy()?;
         Ok(Index {
-            alloc: self.alloc,
             rows,
             writers,
             readers,
-            next_written: Vec::new(self.alloc),
-            next_read: Vec::new(self.alloc),
         })
+    }
+}
+
+impl Clone for Index {
+    ghost is_clone = { λ index copy. copy.rows ≡ index.rows };
+
+    fn clone(&self) -> Result<Index, AllocError> {
+        self.copy()
     }
 }

@@ -1,67 +1,64 @@
 //! The rows of an index, each with the keys that it writes and reads.
 
-ghost use Rattle.std.specs.Prelude.{◌≡◌, ◌<◌, ◌≤◌, [], None, length, IfOk, insert};
-ghost use Rattle.std.specs.Vec.{vec_capacity};
+ghost use Rattle.std.specs.Prelude.{◌≡◌, ◌<◌, ◌≤◌, None, length, insert};
 ghost use Rattle.indexmap.specs.IndexMap.{spare};
 ghost use Rattle.paris_program.specs.Program.{place_of};
+ghost use Rattle.paris_depends.specs.Index.{footprint};
 ghost use Rattle.paris_depends.specs.Sides.{keys_on};
 
 use crate::sides::Side;
 use indexmap::IndexMap;
+use paris_instr::SharedPlan;
 use paris_names::{Key, RowId};
-use std::alloc::{AllocError, Global};
+use std::alloc::AllocError;
 use std::marker::Model;
-use std::mem;
 
 /// The keys that a row's plan writes, and those that it reads. A clause sees the two lists.
 #[derive(Drop)]
 pub(crate) struct RowKeys {
-    pub(crate) written: Vec<Key>,
-    pub(crate) read: Vec<Key>,
+    plan: SharedPlan,
 }
 
 impl Model for RowKeys {
-    ghost use Rattle.paris_depends.specs.Index.{Footprint};
+    ghost use Rattle.paris_depends.specs.Index.{Footprint, footprint};
 
     ghost Value = { Footprint };
 
-    ghost view = { λ r. record { written = r.written.items; read = r.read.items } };
+    ghost view = { λ r. footprint r.plan };
 }
 
 impl RowKeys {
+    /// The keys of a plan.
+    pub(crate) fn new(plan: SharedPlan) -> RowKeys
+        ensures { result ≡ footprint plan }
+    {
+        RowKeys { plan }
+    }
+
+    /// The keys that the row's plan writes.
+    pub(crate) fn written(&self) -> &[Key]
+        ensures { result.now ≡ self.now.written }
+    {
+        self.plan.get().writes()
+    }
+
     /// The keys on a side.
     pub(crate) fn keys_on(&self, side: Side) -> &[Key]
         ensures { result.now ≡ keys_on side self.now }
     {
         match side {
-            Side::Writers => self.written.as_slice(),
-            Side::Readers => self.read.as_slice(),
+            Side::Writers => self.plan.get().writes(),
+            Side::Readers => self.plan.get().reads(),
         }
-    }
-
-    /// A copy, with the same keys.
-    fn copy(&self, alloc: Global) -> Result<RowKeys, AllocError>
-        ensures { IfOk result (λ copy. copy ≡ self.now) }
-    {
-        let mut written = Vec::new(alloc);
-        written.extend_from_slice(self.written.as_slice())?;
-        let mut read = Vec::new(alloc);
-        read.extend_from_slice(self.read.as_slice())?;
-        Ok(RowKeys { written, read })
     }
 }
 
-/// Takes an empty vector that has room for keys, with the keys in it, and leaves another empty one.
-pub(crate) fn take_filled(alloc: Global, next: &mut Vec<Key>, keys: &[Key]) -> Vec<Key>
-    requires empty { next.old.items ≡ [] }
-    requires room { length keys.now ≤ vec_capacity next.old }
-    ensures value { result.items ≡ keys.now }
-    ensures left { next.new.items ≡ [] }
-{
-    let mut filled = mem::replace(next, Vec::new(alloc));
-    match filled.extend_from_slice(keys) {
-        Ok(()) => filled,
-        Err(_) => unreachable!(),
+impl Clone for RowKeys {
+    ghost is_clone = { λ row copy. copy ≡ row };
+
+    fn clone(&self) -> Result<RowKeys, AllocError> {
+        let plan = self.plan.copy()?;
+        Ok(RowKeys { plan })
     }
 }
 
@@ -76,19 +73,4 @@ pub(crate) fn put_row(rows: &mut IndexMap<u64, RowKeys>, place: usize, id: RowId
         Ok(_) => (),
         Err(_) => unreachable!(),
     }
-}
-
-/// A copy of the rows, in the same order.
-pub(crate) fn copy_rows(
-    alloc: Global,
-    rows: &IndexMap<u64, RowKeys>,
-) -> Result<IndexMap<u64, RowKeys>, AllocError>
-    ensures { IfOk result (λ copy. copy.entries ≡ rows.now.entries) }
-{
-    let mut copy = IndexMap::new(alloc);
-    for i in 0..rows.len() {
-        let (id, row) = rows.get_index(i).unwrap();
-        copy.insert(*id, row.copy(alloc)?)?;
-    }
-    Ok(copy)
 }

@@ -12,7 +12,7 @@ use Rattle.paris_machine.specs.declared.events.Event.{Event}
 use Rattle.paris_machine.specs.declared.events.Reply.{Reply}
 use Rattle.paris_desk.specs.declared.records.Entry.{Entry}
 use Rattle.paris_desk.specs.declared.records.Receipt.{Receipt}
-use Rattle.paris_desk.specs.History.{Legal, LegalFrom}
+use Rattle.paris_desk.specs.History.{Legal, LegalFrom, entry}
 use Rattle.paris_desk.specs.Agreement.{Accounted, InPlace, InPlaces, calls_of, list_of}
 
 pub turn : {X : Type 0} (i : ℕ) (xs : List X) (x : X) → i < length xs → x ≡ get_or xs i x → drop i xs ≡ x ∷ drop (i + 1) xs
@@ -37,6 +37,10 @@ legal_goes i h e s s' event r lt is left same answer step right =
       (λ legal. let l : LegalFrom s (e ∷ drop (i + 1) h) = subst (λ zs. LegalFrom s zs) t (left.0 legal) in subst (λ z. LegalFrom z (drop (i + 1) h)) next l.1),
       (λ rest. left.1 (subst (λ zs. LegalFrom s zs) (sym t) (made, subst (λ z. LegalFrom z (drop (i + 1) h)) (sym next) rest))),
     )
+
+-- an entry that has a seat and a receipt's event has its reply, or is another one
+pub of_entry : (kept : Entry) (seat : ℕ) (r : Receipt) (b : Bool) → kept.seat ≡ seat → kept.event ≡ r.event → (IsTrue b ↔ (kept.reply ≡ r.reply)) → IsTrue b ↔ (kept ≡ entry seat r.event r.reply)
+of_entry kept seat r b at made is = (λ t i. entry (at i) (made i) (is.0 t i), λ same. is.1 (ap (λ (x : Entry). x.reply) same))
 
 -- a receipt is out of its place
 pub places_stop : (h : List Entry) (seat above i : ℕ) (rs : List Receipt) (r : Receipt) → i < length rs → r ≡ get_or rs i r → (InPlaces h seat 0 rs ↔ InPlaces h seat above (drop i rs)) → ¬ (InPlace h seat above r) → ¬ (InPlaces h seat 0 rs)

@@ -5,28 +5,39 @@ use Rattle.std.specs.List.{position, position_or_len}
 use Rattle.std.proofs.lemmas.Bool.Decides.{nat_tests}
 use Rattle.std.proofs.lemmas.List.{map-append}
 use Rattle.std.proofs.lemmas.List.Sums.{sum_by_push}
+use Rattle.paris_desk.specs.declared.records.Entry.{Entry}
 use Rattle.paris_desk.specs.declared.records.Receipt.{Receipt}
 use Rattle.paris_desk.specs.Seats.{Sitting}
-use Rattle.paris_desk.specs.Closing.{has_seat, receipts_of, by_number}
+use Rattle.paris_desk.specs.Closing.{has_seat, receipts_of, past_of, by_number}
 
--- at this place is the first of these seats that has a number: its receipts, and what is left without it
+-- at this place is the first of these seats that has a number: its receipts and its past, and what is left without it
 pub record Found (n : ℕ) (ss : List Sitting) (place : ℕ) : Type 0 where
   pub within : place < length ss
+  pub number : (d : Sitting) → (get_or ss place d).number ≡ n
   pub receipts : (d : Sitting) → (get_or ss place d).receipts ≡ receipts_of n ss
-  pub others : (m : ℕ) → m ≢ n → (has_seat m (take place ss ++ drop (suc place) ss) ≡ has_seat m ss) × (receipts_of m (take place ss ++ drop (suc place) ss) ≡ receipts_of m ss)
+  pub past : (d : Sitting) → (get_or ss place d).past ≡ past_of n ss
+  pub others : (m : ℕ) → m ≢ n → (has_seat m (take place ss ++ drop (suc place) ss) ≡ has_seat m ss) × (receipts_of m (take place ss ++ drop (suc place) ss) ≡ receipts_of m ss) × (past_of m (take place ss ++ drop (suc place) ss) ≡ past_of m ss)
 
 here : (n : ℕ) (s : Sitting) (ss : List Sitting) → (s.number == n) ≡ true → Found n (s ∷ ss) 0
 here n s ss eq = record {
   within = omega arith;
+  number = λ d. (grind (arith, nat_tests, eq));
   receipts = λ d. rw eq refl;
-  others = λ m ne. (let no : (s.number == m) ≡ false = grind (arith, nat_tests, eq, ne) in (rw no refl, rw no refl));
+  past = λ d. rw eq refl;
+  others = λ m ne. (let no : (s.number == m) ≡ false = grind (arith, nat_tests, eq, ne) in (rw no refl, rw no refl, rw no refl));
 }
 
 further : (n : ℕ) (s : Sitting) (ss : List Sitting) (place : ℕ) → (s.number == n) ≡ false → Found n ss place → Found n (s ∷ ss) (suc place)
 further n s ss place eq f = record {
   within = (let w = f.within in omega (arith, w));
+  number = λ d. f.number d;
   receipts = λ d. rw eq (f.receipts d);
-  others = λ m ne. (ap (λ (b : Bool). (s.number == m) || b) (f.others m ne).0, ap (λ (rs : List Receipt). if s.number == m then s.receipts else rs) (f.others m ne).1);
+  past = λ d. rw eq (f.past d);
+  others = λ m ne. (
+    ap (λ (b : Bool). (s.number == m) || b) (f.others m ne).0,
+    ap (λ (rs : List Receipt). if s.number == m then s.receipts else rs) (f.others m ne).1,
+    ap (λ (es : List Entry). if s.number == m then s.past else es) (f.others m ne).2,
+  );
 }
 
 abbrev first : ℕ → List Sitting → ℕ

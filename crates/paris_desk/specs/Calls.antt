@@ -1,5 +1,6 @@
 -- Calls of a seat: what a recorded one does to the history and the seat, and why another one is not recorded.
-use Rattle.std.specs.Prelude.{◌≡◌, ◌<◌, ◌≤◌, ◌+◌, ◌==◌, ◌||◌, ◌⊎◌, ℕ, Bool, List, [], ◌∷◌, ◌++◌, length, nat_lt, if◌then◌else◌, Option, Some, None}
+use Rattle.std.specs.Prelude.{◌≡◌, ◌<◌, ◌≤◌, ◌==◌, ◌||◌, ◌⊎◌, ℕ, Bool, List, [], ◌∷◌, ◌++◌, length, nat_lt, if◌then◌else◌, Option, Some, None}
+use mathlib.Core.List.{IsPrefix}
 use Rattle.paris_names.specs.Faults.{number_of}
 use Rattle.paris_names.specs.declared.faults.Fault.{Fault}
 use Rattle.paris_names.specs.declared.faults.Fault.TheVariants.{HistoryFull, NoMemory, StrangeSeat}
@@ -15,21 +16,25 @@ use Rattle.paris_desk.specs.Seats.{Sitting, called}
 abbrev pub hold_fault : ℕ → ℕ → ℕ → Option Fault
 hold_fault limit len front = if nat_lt len front then Some (StrangeSeat front len) else (if len == limit then Some (HistoryFull limit) else None)
 
--- from a history to the next and from a seat to the next, a call is recorded: its entry is added, with the machine's reply
+-- from a history to the next and from a seat to the next, a call is recorded: its entry is added, with the machine's reply. The history
+-- begins with the seat's past, and the next one is its past then
 pub record Recorded (limit : ℕ) (h h' : List Entry) (s s' : Sitting) (event : Event) (reply : Reply) : Type 0 where
   pub due : hold_fault limit (length h) s.front ≡ None
+  pub begins : IsPrefix s.past h
   pub answer : reply ≡ reply_to (state_of h) event
   pub history : h' ≡ h ++ entry s.number event reply ∷ []
   pub legal : Legal h'
-  pub seat : s' ≡ called s (length h + 1) event reply
+  pub seat : s' ≡ called s h' event reply
 
--- a seat's call is recorded: it is the next entry of a legal history, of no fewer entries than the seat was told
+-- a seat's call is recorded: it is the next entry of a legal history, which begins with the seat's past and has no fewer entries than the
+-- seat was told. With that entry the history is the seat's past
 pub record Called (s s' : Sitting) (event : Event) (reply : Reply) : Type 0 where
   pub history : List Entry
   pub told : s.front ≤ length history
+  pub begins : IsPrefix s.past history
   pub answer : reply ≡ reply_to (state_of history) event
   pub legal : Legal (history ++ entry s.number event reply ∷ [])
-  pub seat : s' ≡ called s (length history + 1) event reply
+  pub seat : s' ≡ called s (history ++ entry s.number event reply ∷ []) event reply
 
 -- what a seat can know of why its call is not recorded: the history is shorter than the seat was told, or has as many entries as the
 -- limit, or memory was refused

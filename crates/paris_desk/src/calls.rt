@@ -6,7 +6,8 @@ ghost use Rattle.paris_machine.specs.declared.events.Reply.TheVariants as ReplyC
 ghost use Rattle.paris_desk.specs.Calls.{Called, Unrecorded, is_unrecorded};
 
 use crate::desk::Desk;
-use crate::seat::{Office, Seat};
+use crate::office::Office;
+use crate::seat::Seat;
 use paris_events::{Edit, EditReply, RowLook, Verdict};
 use paris_exec::{Done, Order};
 use paris_machine::{Event, Reply, Shown};

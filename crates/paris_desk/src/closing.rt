@@ -1,16 +1,25 @@
 //! How a desk ends with all of its seats.
 
-ghost use Rattle.std.specs.Prelude.{◌≡◌, ◌≢◌, ◌≤◌, ◌+◌, ◌==◌, ℕ, true, [], length, map, position, IfOk, IfErr, MatchOption, vec_capacity};
+ghost use Rattle.std.specs.Prelude.{◌≡◌, ◌≢◌, ◌<◌, ◌≤◌, ◌+◌, ◌==◌, ℕ, true, [], length, map, position, IfOk, IfErr, MatchOption, vec_capacity};
+ghost use mathlib.Core.List.{IsPrefix};
 ghost use Rattle.std.specs.List.{sum_by};
+ghost use Rattle.std.specs.Arc.{arc_value};
 ghost use Rattle.paris_desk.specs.History.{Legal, state_of};
-ghost use Rattle.paris_desk.specs.Closing.{AreHere, Hinders, by_number, has_seat, receipts_of};
+ghost use Rattle.paris_desk.specs.Agreement.{Agree, list_of};
+ghost use Rattle.paris_desk.specs.Receipts.{IsPart, receipts_in};
+ghost use Rattle.paris_desk.specs.Closing.{AreHere, AreWithin, Hinders, IsAhead, by_number, has_seat, is_unopened, past_of, receipts_of};
 
 use crate::desk::Desk;
 use crate::hold::Locked;
+use crate::log::Known;
+use crate::office::Office;
+use crate::publishing::end;
 use crate::records::{Entry, Receipt};
-use crate::seat::{Office, Seat};
+use crate::seat::Seat;
 use paris_book::Book;
+use std::alloc::Global;
 use std::sync::ledger::Share;
+use std::sync::{Arc, Mutex, Wait};
 
 /// What is left of a closed desk: the book, the history that led to it, and the receipts of each seat, by its number.
 #[derive(Drop)]
@@ -25,6 +34,9 @@ pub struct Closed {
 pub enum Cause {
     /// The seat of this number is not handed in, and all seats of lesser numbers are.
     Missing(u64),
+    /// The seat of this number knows more than the history's entries, of which there are so many, and no seat of a lesser number
+    /// does.
+    Ahead(u64, u64),
     /// Memory for the lists of receipts was refused.
     NoMemory,
 }
@@ -81,12 +93,43 @@ fn place_of<L: Office>(seats: &[Seat<L>], number: u64) -> Option<usize>
     seats.iter().position(|seat| seat.number() == number)
 }
 
+/// How many entries the first seat of a number knows.
+fn known_by<L: Office>(seats: &[Seat<L>], number: u64) -> u64
+    requires { has_seat number seats.now ≡ true }
+    ensures { result ≡ length (past_of number seats.now) }
+{
+    match place_of(seats, number) {
+        Some(place) => {
+            let seat = &seats[place];
+            seat.known.len()
+        }
+        None => unreachable!(),
+    }
+}
+
+/// The least number below a count of a seat that knows more than a history.
+fn first_ahead<L: Office>(seats: &[Seat<L>], count: u64, known: &Known<L>) -> Option<u64>
+    requires { AreHere count seats.now }
+    ensures { MatchOption result (AreWithin count (length known.now) seats.now) (λ number. (number < count) × IsAhead number (length known.now) seats.now) }
+{
+    for number in 0..count {
+        if known_by(seats, number) > known.len() {
+            return Some(number);
+        }
+    }
+    None
+}
+
 /// Takes the first seat of a number out.
 fn take_out<L: Office>(seats: &mut Vec<Seat<L>>, number: u64) -> Seat<L>
     requires { has_seat number seats.old.items ≡ true }
+    ensures number { result.number ≡ number }
     ensures receipts { result.receipts ≡ receipts_of number seats.old.items }
+    ensures past { result.past ≡ past_of number seats.old.items }
     ensures len { length seats.new.items + 1 ≡ length seats.old.items }
-    ensures others { (n : ℕ) → n ≢ number → (has_seat n seats.new.items ≡ has_seat n seats.old.items) × (receipts_of n seats.new.items ≡ receipts_of n seats.old.items) }
+    ensures others { (n : ℕ) → n ≢ number → (has_seat n seats.new.items ≡ has_seat n seats.old.items)
+        × (receipts_of n seats.new.items ≡ receipts_of n seats.old.items)
+        × (past_of n seats.new.items ≡ past_of n seats.old.items) }
 {
     match place_of(seats.as_slice(), number) {
         Some(place) => seats.remove(place),
@@ -107,27 +150,34 @@ fn let_none_go<L: Office>(whole: &mut Share<L>, left: Vec<Seat<L>>)
             receipts: _receipts,
             front: _,
             share,
+            known: _known,
+            reader: _reader,
         } = seat;
         whole.merge(share);
         unreachable!();
     }
 }
 
-/// Gathers the receipts by number, and merges the shares.
+/// Gathers the receipts by number, and merges the shares. The history, of which all is known, begins with the past of each seat, and
+/// the receipts are a part of it.
 fn gather<L: Office>(
     receipts: &mut Vec<Vec<Receipt>>,
     whole: &mut Share<L>,
     seats: Vec<Seat<L>>,
     count: u64,
+    known: &Known<L>,
 )
     requires room { (receipts.old.items ≡ []) × (count ≤ vec_capacity receipts.old) }
     requires none { (whole.old.parts ≡ 0) × (whole.old.amount ≡ 0) }
     requires here { AreHere count seats.items }
+    requires within { AreWithin count (length known.now) seats.items }
     requires parts { count ≡ L.parts }
     ensures len { length seats.items ≡ count }
     ensures parts { whole.new.parts ≡ count }
     ensures amount { whole.new.amount ≡ sum_by length (by_number count seats.items) }
     ensures receipts { map (λ r. r.items) receipts.new.items ≡ by_number count seats.items }
+    ensures pasts { (n : ℕ) → n < count → IsPrefix (past_of n seats.items) known.now }
+    ensures standing { (n : ℕ) → n < count → IsPart n 0 (receipts_of n seats.items) known.now }
 {
     let mut left = seats;
     for number in 0..count {
@@ -136,22 +186,49 @@ fn gather<L: Office>(
             receipts: own,
             front: _,
             share,
+            known: past,
+            reader: _reader,
         } = take_out(&mut left, number);
+        past.compare(known);
         whole.merge(share);
         receipts.push_reserved(own);
     }
     let_none_go(whole, left);
 }
 
+/// The book, once nobody else has it: when nobody looks any more and nobody publishes, that is so.
+fn alone<R: Wait>(rt: &R, book: Arc<Book, Global>) -> Book
+    ensures { result ≡ arc_value book }
+{
+    let mut book = book;
+    for _ in rt.forever() {
+        match Arc::try_unwrap(book) {
+            Ok(alone) => return alone,
+            Err(back) => book = back,
+        }
+    }
+    unreachable!()
+}
+
 /// Closes a desk, once its seats are handed in: seats and desk are given up for what they leave. The history is legal and leads to
-/// the book, and it has as many entries as there are receipts. Where a seat is missing, or memory is refused, all is handed back.
-pub fn close<L: Office>(desk: Desk<L>, seats: Vec<Seat<L>>) -> Result<Closed, CloseFault<L>>
+/// the book. It begins with the past of each seat, and its entries of a seat are that seat's receipts, in order and each once, so that
+/// `audit` finds that they agree. Where a seat is missing, or memory is refused, all is handed back, and so it is where a seat knows
+/// more than the history has.
+pub fn close<L: Office, R: Wait>(
+    rt: &R,
+    desk: Desk<L>,
+    seats: Vec<Seat<L>>,
+) -> Result<Closed, CloseFault<L>>
     ensures legal { IfOk result (λ closed. Legal closed.history.items × (closed.book ≡ state_of closed.history.items)) }
     ensures receipts { IfOk result (λ closed. map (λ r. r.items) closed.receipts.items ≡ by_number L.seats seats.items) }
     ensures count { IfOk result (λ closed. length closed.history.items ≡ sum_by length (by_number L.seats seats.items)) }
     ensures here { IfOk result (λ _. AreHere L.seats seats.items × (length seats.items ≡ L.seats)) }
+    ensures begins { IfOk result (λ closed. (n : ℕ) → n < L.seats → IsPrefix (past_of n seats.items) closed.history.items) }
+    ensures each { IfOk result (λ closed. (n : ℕ) → list_of (map (λ r. r.items) closed.receipts.items) n ≡ receipts_in n 0 closed.history.items) }
+    ensures agree { IfOk result (λ closed. Agree closed.history.items (map (λ r. r.items) closed.receipts.items)) }
     ensures cause { IfErr result (λ fault. Hinders L.seats seats.items fault.cause) }
-    ensures back { IfErr result (λ fault. (fault.desk ≡ desk) × (fault.seats ≡ seats)) }
+    ensures back { IfErr result (λ fault. fault.seats ≡ seats) }
+    ensures unopened { IfErr result (λ fault. is_unopened fault.cause ≡ true → fault.desk ≡ desk) }
 {
     let count = desk.seats.seats;
     let mut receipts = Vec::new(desk.alloc);
@@ -160,20 +237,35 @@ pub fn close<L: Office>(desk: Desk<L>, seats: Vec<Seat<L>>) -> Result<Closed, Cl
     }
     let Desk {
         lock,
-        seats: _count,
-        alloc: _,
+        seats: parts,
+        alloc,
     } = desk;
+    let locked = lock.into_inner();
+    if let Some(number) = first_ahead(seats.as_slice(), count, &locked.known) {
+        let cause = Cause::Ahead(number, locked.known.len());
+        let lock = Mutex::new(locked);
+        let desk = Desk {
+            lock,
+            seats: parts,
+            alloc,
+        };
+        return Err(CloseFault { desk, seats, cause });
+    }
     let Locked {
         book,
         history,
         limit: _,
         mut tally,
         mut rest,
-    } = lock.into_inner();
-    gather(&mut receipts, &mut rest, seats, count);
+        head: _head,
+        known,
+        writer,
+    } = locked;
+    gather(&mut receipts, &mut rest, seats, count, &known);
     tally.audit(&mut rest);
+    end(rt, writer);
     Ok(Closed {
-        book,
+        book: alone(rt, book),
         history,
         receipts,
     })

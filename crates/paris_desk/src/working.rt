@@ -6,7 +6,8 @@ ghost use Rattle.paris_desk.specs.Calls.{Excused};
 ghost use Rattle.paris_desk.specs.Work.{Gained, Left, Turn, Worked, Stopped};
 
 use crate::desk::Desk;
-use crate::seat::{Office, Seat};
+use crate::office::Office;
+use crate::seat::Seat;
 use paris_book::execute_inside;
 use paris_exec::Gate;
 use paris_names::Fault;

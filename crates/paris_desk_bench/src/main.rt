@@ -93,16 +93,16 @@ fn measure_with<L: Office + Send + Sync, R: Clock + Threads + Wait + Sync>(
     limit: u64,
     task: Task,
 ) -> Result<u128, Stop>
-    requires opening { (opening.blank.name ≡ L.name) × (opening.blank.parts ≡ L.parts) }
+    requires opening { (opening.blank.name ≡ L.name) × (opening.blank.parts ≡ L.parts) × (opening.seen.book ≡ L.log) }
     requires seats { (seats ≡ L.parts) × (seats ≡ L.seats) }
     requires few { (1 ≤ seats) × (seats ≤ MAX_SEATS) }
     requires limit { (limit ≡ L.limit) × (limit ≤ MAX_HISTORY) }
 {
-    let Ok((desk, mut all)) = Desk::<L>::new(alloc, opening, seats, limit) else {
+    let Ok((desk, mut all)) = Desk::<L>::new(rt, alloc, opening, seats, limit) else {
         return Err(Stop::Fault(Fault::NoMemory));
     };
     let measured = measure_at(rt, alloc, &desk, &mut all, task);
-    desk.discard();
+    desk.discard(rt);
     measured
 }
 

@@ -4,6 +4,8 @@
 #[cfg(test)]
 mod dice;
 #[cfg(test)]
+mod eyes;
+#[cfg(test)]
 mod first;
 #[cfg(test)]
 mod plain;

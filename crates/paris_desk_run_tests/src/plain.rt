@@ -105,13 +105,33 @@ fn with_lists(
     Ok(new)
 }
 
+/// Where a key stands in a list.
+fn place_in(keys: &[Key], key: Key) -> Option<usize> {
+    for (place, other) in keys.iter().enumerate() {
+        if *other == key {
+            return Some(place);
+        }
+    }
+    None
+}
+
 /// The list beside a key.
 fn list_at<'a>(keys: &[Key], lists: &'a [Items<u128>], key: Key) -> Option<&'a [u128]> {
-    let place = keys.iter().position(|k| *k == key)?;
+    let place = place_in(keys, key)?;
     match lists.get(place) {
         Some(list) => Some(list.as_slice()),
         None => None,
     }
+}
+
+/// Where the first number stands that isn't below a bound.
+fn first_wide(values: &[u128], bound: u128) -> Option<u64> {
+    for (place, value) in values.iter().enumerate() {
+        if *value >= bound {
+            return Some(place as u64);
+        }
+    }
+    None
 }
 
 impl Plain {
@@ -170,8 +190,8 @@ impl Plain {
         if values.is_empty() || end > list.len() as u64 {
             return Err(Fault::WrongCount);
         }
-        if let Some(wide) = values.iter().position(|x| *x >= 1u128 << width) {
-            return Err(Fault::TooWide(from.saturating_add(wide as u64)));
+        if let Some(wide) = first_wide(values, 1u128 << width) {
+            return Err(Fault::TooWide(from.saturating_add(wide)));
         }
         let new = overwritten(self.alloc, list, from, values)?;
         if let Some(old) = place.and_then(|p| self.start.get_mut(p)) {
@@ -182,7 +202,12 @@ impl Plain {
 
     /// The place of the row of an id.
     pub(crate) fn place_of(&self, id: RowId) -> Option<usize> {
-        self.rows.iter().position(|row| row.id == id)
+        for (place, row) in self.rows.iter().enumerate() {
+            if row.id == id {
+                return Some(place);
+            }
+        }
+        None
     }
 
     /// How many rows stand before a spot.

@@ -12,7 +12,7 @@ use std::process::Abort;
 use std::test::*;
 
 /// How often the replies of each kind were met.
-#[derive(Clone, Copy, PartialEq, Eq, Debug)]
+#[derive(Clone, Copy)]
 pub(crate) struct Met {
     pub(crate) accepted: u64,
     pub(crate) refused: u64,
@@ -22,6 +22,32 @@ pub(crate) struct Met {
     pub(crate) settled: u64,
     pub(crate) pending: u64,
     pub(crate) causes: u64,
+    pub(crate) seen: u64,
+}
+
+/// Whether none of these is zero.
+fn are_met(counts: &[u64]) -> bool {
+    for count in counts {
+        if *count == 0 {
+            return false;
+        }
+    }
+    true
+}
+
+impl Met {
+    /// Whether replies of each kind were met.
+    pub(crate) fn has_all(self) -> bool {
+        let calls = [self.accepted, self.refused, self.orders, self.kept];
+        let looks = [
+            self.late,
+            self.settled,
+            self.pending,
+            self.causes,
+            self.seen,
+        ];
+        are_met(&calls) && are_met(&looks)
+    }
 }
 
 pub(crate) const NOTHING_MET: Met = Met {
@@ -33,6 +59,7 @@ pub(crate) const NOTHING_MET: Met = Met {
     settled: 0,
     pending: 0,
     causes: 0,
+    seen: 0,
 };
 
 /// One more.
@@ -47,7 +74,7 @@ fn is_edited(
     wanted: Result<EditReply, Fault>,
     answer: &Result<EditReply, Fault>,
 ) {
-    assert_eq!(rt; *answer, wanted);
+    assert!(rt; *answer == wanted);
     match answer {
         Ok(_) => count(&mut met.accepted),
         Err(_) => count(&mut met.refused),
@@ -124,7 +151,7 @@ fn is_outcome_of(
             let writes = done.order().plan().writes();
             assert!(rt; are_right(plain, behind, writes, values.as_slice())?);
         }
-        Outcome::Refused(cause) => assert_eq!(rt; Some(*cause), plain.cause(place)),
+        Outcome::Refused(cause) => assert!(rt; plain.cause(place) == Some(*cause)),
     }
     Ok(())
 }
@@ -138,7 +165,7 @@ fn is_brought(
     verdict: Verdict,
 ) -> Result<(), AllocError> {
     let place = plain.place_of(done.order().id());
-    assert_eq!(rt; verdict == Verdict::Gone, place.is_none());
+    assert!(rt; (verdict == Verdict::Gone) == place.is_none());
     if verdict != Verdict::Kept {
         count(&mut met.late);
         return Ok(());
@@ -173,7 +200,7 @@ fn is_shown_at(
         }
         Shown::Pending(id) => {
             count(&mut met.pending);
-            assert_eq!(rt; Some(*id), plain.writer(place, key));
+            assert!(rt; plain.writer(place, key) == Some(*id));
         }
     }
     Ok(())
@@ -192,7 +219,7 @@ fn is_shown(
             is_shown_at(rt, met, plain, key, place, shown)
         }
         (Err(wanted), Err(fault)) => {
-            assert_eq!(rt; *fault, wanted);
+            assert!(rt; *fault == wanted);
             Ok(())
         }
         _ => {
@@ -210,7 +237,7 @@ fn is_listed(
     looks: &[RowLook],
 ) -> Result<(), AllocError> {
     plain.run(rt)?;
-    assert_eq!(rt; looks.len(), plain.rows.len());
+    assert!(rt; looks.len() == plain.rows.len());
     for (place, (row, look)) in plain.rows.iter().zip(looks.iter()).enumerate() {
         let cause = if look.status.is_settled() {
             plain.cause(place)
@@ -218,7 +245,7 @@ fn is_listed(
             None
         };
         assert!(rt; look.id == row.id && look.instr == row.plan.instr());
-        assert_eq!(rt; look.cause, cause);
+        assert!(rt; look.cause == cause);
         if cause.is_some() {
             count(&mut met.causes);
         }
@@ -254,16 +281,37 @@ fn is_right_reply(
     }
 }
 
-/// All replies of a history are what the definitions give.
+/// Looks that met a history of so many entries show what the definitions give there.
+fn are_right_looks(
+    rt: &impl Abort,
+    met: &mut Met,
+    plain: &mut Plain,
+    seen: &[Entry],
+    length: u64,
+) -> Result<(), AllocError> {
+    for look in seen {
+        if look.seat == length {
+            is_right_reply(rt, met, plain, look)?;
+            count(&mut met.seen);
+        }
+    }
+    Ok(())
+}
+
+/// All replies of a history are what the definitions give, and so is what was seen with no lock.
 pub(crate) fn agrees(
     rt: &impl Abort,
     alloc: Global,
     met: &mut Met,
     history: &[Entry],
+    seen: &[Entry],
 ) -> Result<(), AllocError> {
     let mut plain = Plain::new(alloc);
-    for entry in history {
+    are_right_looks(rt, met, &mut plain, seen, 0)?;
+    for (place, entry) in history.iter().enumerate() {
         is_right_reply(rt, met, &mut plain, entry)?;
+        let length = (place as u64).saturating_add(1);
+        are_right_looks(rt, met, &mut plain, seen, length)?;
     }
     Ok(())
 }

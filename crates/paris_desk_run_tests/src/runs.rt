@@ -3,14 +3,15 @@
 ghost use Rattle.std.specs.Prelude.{◌≡◌, ◌≤◌};
 ghost use Rattle.paris_desk.specs.declared.limits.TheConstants.{MAX_HISTORY, MAX_SEATS};
 
-use crate::dice::{Dice, any_of};
+use crate::dice::Dice;
+use crate::eyes::Eyes;
 use crate::first::begins;
 use crate::replay::{Met, NOTHING_MET, agrees};
 use crate::seats::{Player, Shape, Shared, finishes, plays, width_of};
 use crate::spellings::{FIRST_FIELDS, name};
-use paris_desk::{CloseFault, Closed, Desk, Office, Opening, Seat, audit, close};
+use paris_desk::{CloseFault, Closed, Desk, Entry, Office, Opening, Seat, audit, close};
 use paris_events::{Edit, EditReply};
-use paris_names::Items;
+use paris_names::{Fault, Items};
 use std::alloc::{AllocError, Global};
 use std::marker::Brand;
 use std::process::Abort;
@@ -22,6 +23,9 @@ use std::time::Clock;
 
 /// How many entries a history has room for.
 const LIMIT: u64 = 100_000;
+
+/// How many runs a test plays.
+const RUNS: u64 = 50;
 
 const LINE_OF_FOUR: Shape = Shape {
     axes: &[4],
@@ -41,10 +45,12 @@ const LARGE_SQUARE: Shape = Shape {
     width: 16,
 };
 
-/// A run: how many of its seats are sessions, how many seats there are, its set, and the seed of its numbers.
+/// A run: how many of its seats are sessions, how many play, how many there are with those that only look, one for each session, its
+/// set, and the seed of its numbers.
 #[derive(Clone, Copy)]
 struct Run {
     sessions: u64,
+    players: u64,
     seats: u64,
     shape: Shape,
     seed: u64,
@@ -68,7 +74,8 @@ fn run_of(seed: u64) -> Run
     let workers = dice.throw(4).min(3) + 1;
     Run {
         sessions,
-        seats: sessions + workers,
+        players: sessions + workers,
+        seats: sessions + workers + sessions,
         shape: shape_of(seed),
         seed,
     }
@@ -81,7 +88,7 @@ fn accepts<L: Office>(
     edit: Edit,
 ) {
     let answer = desk.edit(rt, &mut player.seat, edit);
-    assert_eq!(rt; answer, Ok(EditReply::Accepted));
+    assert!(rt; matches!(answer, Ok(EditReply::Accepted)));
 }
 
 /// Declares the set, and some fields.
@@ -108,7 +115,26 @@ fn declares<L: Office>(
     Ok(())
 }
 
-/// The seats with what their threads keep.
+/// The dice of the seat of a number.
+fn dice_of(run: Run, number: u64) -> Dice {
+    Dice::new(run.seed.wrapping_mul(16).wrapping_add(number))
+}
+
+/// A player with its seat.
+fn player_of<L: Office>(alloc: Global, seat: Seat<L>, run: Run) -> Player<L> {
+    let number = seat.number();
+    Player {
+        is_session: number < run.sessions,
+        dice: dice_of(run, number),
+        seat,
+        hand: Vec::new(alloc),
+        last: 0,
+        fault: None,
+        eyes: Eyes::new(alloc),
+    }
+}
+
+/// The seats with what their threads keep. The first ones play, and the others look for the first ones.
 fn players_of<L: Office>(
     alloc: Global,
     seats: Vec<Seat<L>>,
@@ -116,31 +142,97 @@ fn players_of<L: Office>(
 ) -> Result<Vec<Player<L>>, AllocError> {
     let mut players = Vec::new(alloc);
     for seat in seats {
-        let number = seat.number();
-        players.push(Player {
-            is_session: number < run.sessions,
-            dice: Dice::new(run.seed.wrapping_mul(16).wrapping_add(number)),
-            seat,
-            hand: Vec::new(alloc),
-            last: 0,
-            fault: None,
-        })?;
+        let place = seat.number().checked_sub(run.players);
+        match place {
+            None => players.push(player_of(alloc, seat, run))?,
+            Some(place) => {
+                if let Some(player) = players.get_mut(place as usize) {
+                    player.eyes.seat = Some(seat);
+                }
+            }
+        }
     }
     Ok(players)
 }
 
-/// The seats of players who met no fault.
-fn seats_of<L: Office>(
+/// All looks so far, and those of a player.
+fn add_looks(seen: &mut Vec<Entry>, more: Vec<Entry>) -> Result<(), AllocError> {
+    for look in more {
+        seen.push(look)?;
+    }
+    Ok(())
+}
+
+/// Adds the seats of a player to others, and what was seen.
+fn gives_back<L: Office>(
+    player: Player<L>,
+    seats: &mut Vec<Seat<L>>,
+    seen: &mut Vec<Entry>,
+) -> Result<(), AllocError> {
+    seats.push(player.seat)?;
+    let Eyes { seat, seen: more } = player.eyes;
+    if let Some(seat) = seat {
+        seats.push(seat)?;
+    }
+    add_looks(seen, more)
+}
+
+/// The seats of players who met no fault, and what was seen.
+fn left_by<L: Office>(
     rt: &impl Abort,
     alloc: Global,
     players: Vec<Player<L>>,
-) -> Result<Vec<Seat<L>>, AllocError> {
-    let mut seats = Vec::new(alloc);
+) -> Result<(Vec<Seat<L>>, Vec<Entry>), AllocError> {
+    let (mut seats, mut seen) = (Vec::new(alloc), Vec::new(alloc));
     for player in players {
-        assert_eq!(rt; player.fault, None);
-        seats.push(player.seat)?;
+        assert!(rt; player.fault.is_none());
+        gives_back(player, &mut seats, &mut seen)?;
     }
-    Ok(seats)
+    Ok((seats, seen))
+}
+
+/// The first seat declares a set and makes calls of each kind.
+fn starts<L: Office>(
+    rt: &(impl Abort + Wait),
+    alloc: Global,
+    desk: &Desk<L>,
+    players: &mut [Player<L>],
+    shape: Shape,
+) -> Result<(), Fault> {
+    let first = players.first_mut().expect(rt, "there is a seat");
+    declares(rt, alloc, desk, first, shape)?;
+    begins(rt, alloc, desk, first, shape)
+}
+
+/// All seats play, each in a thread.
+fn play_at_once<L: Office + Send + Sync, R: Abort + Threads + Wait + Clock + Sync>(
+    rt: &R,
+    alloc: Global,
+    desk: &Desk<L>,
+    players: &mut [Player<L>],
+    run: Run,
+) {
+    let shared = Shared {
+        left: AtomicU64::new(run.sessions),
+        front: AtomicU64::new(0),
+    };
+    for_each_mut(
+        rt,
+        players,
+        16,
+        &|_, player| { plays(rt, alloc, desk, player, run.shape, &shared) },
+    );
+}
+
+/// The first seat finishes.
+fn ends<L: Office>(
+    rt: &(impl Abort + Wait),
+    alloc: Global,
+    desk: &Desk<L>,
+    players: &mut [Player<L>],
+) -> Result<(), Fault> {
+    let first = players.first_mut().expect(rt, "there is a seat");
+    finishes(rt, alloc, desk, first)
 }
 
 /// The first seat declares a set and makes calls of each kind, then all seats play, each in a thread, and then the first one finishes.
@@ -150,29 +242,18 @@ fn plays_at<L: Office + Send + Sync, R: Abort + Threads + Wait + Clock + Sync>(
     desk: &Desk<L>,
     seats: Vec<Seat<L>>,
     run: Run,
-) -> Result<Vec<Seat<L>>, AllocError> {
+) -> Result<(Vec<Seat<L>>, Vec<Entry>), AllocError> {
     let mut players = players_of(alloc, seats, run)?;
-    let first = players.first_mut().expect(rt, "there is a seat");
-    declares(rt, alloc, desk, first, run.shape)?;
-    assert_eq!(rt; begins(rt, alloc, desk, first, run.shape), Ok(()));
-    let shared = Shared {
-        left: AtomicU64::new(run.sessions),
-        front: AtomicU64::new(0),
-    };
-    for_each_mut(
-        rt,
-        players.as_mut_slice(),
-        16,
-        &|_, player| { plays(rt, alloc, desk, player, run.shape, &shared) },
-    );
-    let first = players.first_mut().expect(rt, "there is a seat");
-    assert_eq!(rt; finishes(rt, alloc, desk, first), Ok(()));
-    seats_of(rt, alloc, players)
+    let all = players.as_mut_slice();
+    assert!(rt; starts(rt, alloc, desk, all, run.shape).is_ok());
+    play_at_once(rt, alloc, desk, all, run);
+    assert!(rt; ends(rt, alloc, desk, all).is_ok());
+    left_by(rt, alloc, players)
 }
 
 /// What is left of a desk that is closed with all its seats.
-fn left_of<L: Office>(rt: &impl Abort, desk: Desk<L>, seats: Vec<Seat<L>>) -> Closed {
-    match close(desk, seats) {
+fn left_of<L: Office>(rt: &(impl Abort + Wait), desk: Desk<L>, seats: Vec<Seat<L>>) -> Closed {
+    match close(rt, desk, seats) {
         Ok(closed) => closed,
         Err(fault) => {
             let CloseFault {
@@ -180,7 +261,7 @@ fn left_of<L: Office>(rt: &impl Abort, desk: Desk<L>, seats: Vec<Seat<L>>) -> Cl
                 seats: _seats,
                 cause: _,
             } = fault;
-            desk.discard();
+            desk.discard(rt);
             None.expect(rt, "it is closed")
         }
     }
@@ -192,68 +273,78 @@ fn opens<L: Office + Send + Sync, R: Abort + Threads + Wait + Clock + Sync>(
     opening: Opening,
     limit: u64,
     run: Run,
-) -> Result<Closed, AllocError>
-    requires opening { (opening.blank.name ≡ L.name) × (opening.blank.parts ≡ L.parts) }
+) -> Result<(Closed, Vec<Entry>), AllocError>
+    requires opening { (opening.blank.name ≡ L.name) × (opening.blank.parts ≡ L.parts) × (opening.seen.book ≡ L.log) }
     requires seats { (run.seats ≡ L.parts) × (run.seats ≡ L.seats) }
     requires few { (1 ≤ run.seats) × (run.seats ≤ MAX_SEATS) }
     requires limit { (limit ≡ L.limit) × (limit ≤ MAX_HISTORY) }
 {
-    let (desk, seats) = Desk::<L>::new(alloc, opening, run.seats, limit)?;
+    let (desk, seats) = Desk::<L>::new(rt, alloc, opening, run.seats, limit)?;
     match plays_at(rt, alloc, &desk, seats, run) {
-        Ok(seats) => Ok(left_of(rt, desk, seats)),
+        Ok((seats, seen)) => Ok((left_of(rt, desk, seats), seen)),
         Err(fault) => {
-            desk.discard();
+            desk.discard(rt);
             Err(fault)
         }
     }
 }
 
-/// Plays a run, and counts the replies that were met. History and receipts agree, and each reply is what the definitions give.
+/// History and receipts agree, and each reply is what the definitions give, and so is what was seen with no lock.
+fn is_right(
+    rt: &impl Abort,
+    alloc: Global,
+    met: &mut Met,
+    closed: &Closed,
+    seen: &[Entry],
+) -> Result<(), AllocError> {
+    let agree = audit(alloc, &closed.history, &closed.receipts)?;
+    assert!(rt; agree);
+    agrees(rt, alloc, met, &closed.history, seen)
+}
+
+/// Plays a run, counts the replies that were met, and looks whether all is right.
 fn plays_run<R: Abort + Threads + Wait + Clock + Sync>(
     rt: &R,
     alloc: Global,
     met: &mut Met,
     run: Run,
-) -> Result<(), Fail>
+) -> Result<(), AllocError>
     requires { (1 ≤ run.seats) × (run.seats ≤ MAX_SEATS) }
 {
-    let closed = opens::<Brand, R>(rt, alloc, Opening::new(run.seats), LIMIT, run)?;
-    assert!(rt; audit(alloc, &closed.history, &closed.receipts)?);
-    Ok(agrees(rt, alloc, met, &closed.history)?)
+    let (closed, seen) = opens::<Brand, R>(rt, alloc, Opening::new(run.seats), LIMIT, run)?;
+    is_right(rt, alloc, met, &closed, &seen)
 }
 
-/// Plays fifty runs. Replies of all kinds are met.
-fn plays_fifty<R: Abort + Threads + Wait + Clock + Sync>(
+/// Plays so many runs. Replies of all kinds are met.
+fn plays_runs<R: Abort + Threads + Wait + Clock + Sync>(
     rt: &R,
     alloc: Global,
     first: u64,
-) -> Result<(), Fail> {
+) -> Result<(), AllocError> {
     let mut met = NOTHING_MET;
-    for seed in 0..50u64 {
+    for seed in 0..RUNS {
         plays_run(rt, alloc, &mut met, run_of(first.wrapping_add(seed)))?;
     }
-    assert!(rt; met.accepted > 0 && met.refused > 0 && met.orders > 0);
-    assert!(rt; met.kept > 0 && met.late > 0);
-    assert!(rt; met.settled > 0 && met.pending > 0 && met.causes > 0);
+    assert!(rt; met.has_all());
     Ok(())
 }
 
 #[test]
 fn the_first_fifty_runs_agree(rt: HostRuntime) -> Result<(), Fail> {
-    plays_fifty(&rt, rt.alloc(), 1)
+    Ok(plays_runs(&rt, rt.alloc(), 1)?)
 }
 
 #[test]
 fn the_second_fifty_runs_agree(rt: HostRuntime) -> Result<(), Fail> {
-    plays_fifty(&rt, rt.alloc(), 51)
+    Ok(plays_runs(&rt, rt.alloc(), 51)?)
 }
 
 #[test]
 fn the_third_fifty_runs_agree(rt: HostRuntime) -> Result<(), Fail> {
-    plays_fifty(&rt, rt.alloc(), 101)
+    Ok(plays_runs(&rt, rt.alloc(), 101)?)
 }
 
 #[test]
 fn the_last_fifty_runs_agree(rt: HostRuntime) -> Result<(), Fail> {
-    plays_fifty(&rt, rt.alloc(), 151)
+    Ok(plays_runs(&rt, rt.alloc(), 151)?)
 }

@@ -1,9 +1,10 @@
 //! What seats do in their threads: sessions call at random, and workers work until the sessions are through.
 
 use crate::dice::{Dice, any_of};
+use crate::eyes::{Eyes, looks};
 use crate::spellings::{FIELDS, INSTRUCTIONS, KEYS, SLOW, instr_of, key, name};
 use paris_desk::{Desk, Front, Office, Seat, work};
-use paris_events::{Edit, EditReply, Verdict};
+use paris_events::{Edit, EditReply, RowLook, Verdict};
 use paris_exec::{Done, OpenGate, Order, execute};
 use paris_machine::{Reply, Shown};
 use paris_names::{Fault, Items, RowId, Spot};
@@ -44,6 +45,7 @@ pub(crate) struct Player<L: Office> {
     pub(crate) hand: Vec<Done>,
     pub(crate) last: u64,
     pub(crate) fault: Option<Fault>,
+    pub(crate) eyes: Eyes<L>,
 }
 
 /// An id, which a row has in most cases.
@@ -311,6 +313,20 @@ fn shows<L: Office>(rt: &(impl Abort + Wait), desk: &Desk<L>, player: &mut Playe
     shows_at(rt, desk, player, text, spot);
 }
 
+/// Looks at a key with no lock.
+fn sees<L: Office>(
+    rt: &impl Abort,
+    alloc: Global,
+    desk: &Desk<L>,
+    player: &mut Player<L>,
+) -> Result<(), Fault> {
+    let text = any_of(&mut player.dice, b"a".as_slice(), KEYS);
+    let spot = any_spot(&mut player.dice, player.last);
+    let name = key(rt, text);
+    looks(rt, alloc, desk, &mut player.eyes, &player.seat, &name, spot)?;
+    Ok(())
+}
+
 /// Lists the rows, and learns their ids.
 pub(crate) fn lists<L: Office>(
     rt: &(impl Abort + Wait),
@@ -336,7 +352,8 @@ fn calls<L: Office>(
         0..=6 => edits(rt, alloc, desk, player, shape),
         7 | 8 => takes(rt, alloc, desk, player),
         9 | 10 => brings(rt, desk, player),
-        11..=13 => Ok(shows(rt, desk, player)),
+        11 | 12 => Ok(shows(rt, desk, player)),
+        13 => sees(rt, alloc, desk, player),
         14 => lists(rt, desk, player),
         _ => desk.release(rt, &mut player.seat),
     }
@@ -387,6 +404,16 @@ fn serves<L: Office, R: Abort + Wait + Clock>(
     Ok(())
 }
 
+/// Whether all rows are settled.
+fn are_settled(looks: &[RowLook]) -> bool {
+    for look in looks {
+        if !look.status.is_settled() {
+            return false;
+        }
+    }
+    true
+}
+
 /// What is left to do behind all threads: orders that are out are given up, all rows are run, and the rows are settled. They are
 /// listed, and each key is shown.
 pub(crate) fn finishes<L: Office>(
@@ -398,7 +425,7 @@ pub(crate) fn finishes<L: Office>(
     desk.release(rt, &mut player.seat)?;
     work(rt, alloc, desk, &mut player.seat, &OpenGate, TURNS)?;
     let looks = desk.list(rt, &mut player.seat)?;
-    assert!(rt; looks.iter().all(|look| look.status.is_settled()));
+    assert!(rt; are_settled(looks.as_slice()));
     for text in KEYS {
         shows_at(rt, desk, player, *text, Spot::End);
     }

@@ -88,16 +88,16 @@ fn opens<L: Office + Send + Sync, R: Abort + Threads + Wait + Sync>(
     script: Script,
     ending: Ending,
 ) -> Result<(), Fail>
-    requires opening { (opening.blank.name ≡ L.name) × (opening.blank.parts ≡ L.parts) }
+    requires opening { (opening.blank.name ≡ L.name) × (opening.blank.parts ≡ L.parts) × (opening.seen.book ≡ L.log) }
     requires seats { (size.0 ≡ L.parts) × (size.0 ≡ L.seats) }
     requires few { (1 ≤ size.0) × (size.0 ≤ MAX_SEATS) }
     requires limit { (size.1 ≡ L.limit) × (size.1 ≤ MAX_HISTORY) }
 {
-    let (desk, mut seats) = Desk::<L>::new(alloc, opening, size.0, size.1)?;
+    let (desk, mut seats) = Desk::<L>::new(rt, alloc, opening, size.0, size.1)?;
     match follows(rt, alloc, &desk, &mut seats, script) {
         Ok(()) => ends(rt, alloc, desk, seats, ending),
         Err(fail) => {
-            desk.discard();
+            desk.discard(rt);
             Err(fail)
         }
     }

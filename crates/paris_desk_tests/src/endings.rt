@@ -5,6 +5,7 @@ use paris_machine::{Event, Reply};
 use paris_names::Fault;
 use std::alloc::Global;
 use std::process::Abort;
+use std::sync::Wait;
 use std::test::*;
 
 /// A change to what is left of a closed desk, by which history and receipts don't agree any more.
@@ -46,8 +47,8 @@ pub(crate) enum Ending {
 }
 
 /// What is left of a desk that is closed with all its seats.
-fn left_of<L: Office>(rt: &impl Abort, desk: Desk<L>, seats: Vec<Seat<L>>) -> Closed {
-    match close(desk, seats) {
+fn left_of<L: Office>(rt: &(impl Abort + Wait), desk: Desk<L>, seats: Vec<Seat<L>>) -> Closed {
+    match close(rt, desk, seats) {
         Ok(closed) => closed,
         Err(fault) => {
             let CloseFault {
@@ -55,7 +56,7 @@ fn left_of<L: Office>(rt: &impl Abort, desk: Desk<L>, seats: Vec<Seat<L>>) -> Cl
                 seats: _seats,
                 cause: _,
             } = fault;
-            desk.discard();
+            desk.discard(rt);
             None.expect(rt, "it is closed")
         }
     }
@@ -63,13 +64,13 @@ fn left_of<L: Office>(rt: &impl Abort, desk: Desk<L>, seats: Vec<Seat<L>>) -> Cl
 
 /// The desk and the seats that come back, since the seat of a number is missing.
 fn back_of<L: Office>(
-    rt: &impl Abort,
+    rt: &(impl Abort + Wait),
     desk: Desk<L>,
     seats: Vec<Seat<L>>,
     number: u64,
 ) -> (Desk<L>, Vec<Seat<L>>) {
     let count = seats.len();
-    let fault = close(desk, seats).err().expect(rt, "a seat is missing");
+    let fault = close(rt, desk, seats).err().expect(rt, "a seat is missing");
     let CloseFault { desk, seats, cause } = fault;
     assert!(rt; cause == Cause::Missing(number) && seats.len() == count);
     (desk, seats)
@@ -77,7 +78,7 @@ fn back_of<L: Office>(
 
 /// What is left of a desk that is closed first without the seat at a place, and then with it.
 fn left_at_last<L: Office>(
-    rt: &impl Abort,
+    rt: &(impl Abort + Wait),
     desk: Desk<L>,
     seats: Vec<Seat<L>>,
     place: usize,
@@ -153,7 +154,7 @@ fn make_change(rt: &impl Abort, closed: &mut Closed, change: Spoil) {
 
 /// Ends a desk.
 pub(crate) fn ends<L: Office>(
-    rt: &impl Abort,
+    rt: &(impl Abort + Wait),
     alloc: Global,
     desk: Desk<L>,
     seats: Vec<Seat<L>>,
@@ -161,7 +162,7 @@ pub(crate) fn ends<L: Office>(
 ) -> Result<(), Fail> {
     match ending {
         Ending::IsDiscarded => {
-            desk.discard();
+            desk.discard(rt);
             Ok(())
         }
         Ending::Closes(counts) => agrees(rt, alloc, &left_of(rt, desk, seats), counts),

@@ -150,16 +150,16 @@ fn opens<L: Office + Send + Sync, R: Abort + Threads + Wait + Sync, C: Clock + S
     gate: &TwoAtOnce<'_, C>,
     ending: Ending,
 ) -> Result<(), Fail>
-    requires opening { (opening.blank.name ≡ L.name) × (opening.blank.parts ≡ L.parts) }
+    requires opening { (opening.blank.name ≡ L.name) × (opening.blank.parts ≡ L.parts) × (opening.seen.book ≡ L.log) }
     requires seats { (seats ≡ L.parts) × (seats ≡ L.seats) }
     requires few { (1 ≤ seats) × (seats ≤ MAX_SEATS) }
     requires limit { (limit ≡ L.limit) × (limit ≤ MAX_HISTORY) }
 {
-    let (desk, mut all) = Desk::<L>::new(alloc, opening, seats, limit)?;
+    let (desk, mut all) = Desk::<L>::new(rt, alloc, opening, seats, limit)?;
     match works_with(rt, alloc, &desk, &mut all, gate) {
         Ok(()) => ends(rt, alloc, desk, all, ending),
         Err(fail) => {
-            desk.discard();
+            desk.discard(rt);
             Err(fail)
         }
     }

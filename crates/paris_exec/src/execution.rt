@@ -66,7 +66,7 @@ pub fn execute(alloc: Global, order: Order) -> Result<Done, (Order, AllocError)>
     ensures refused { RefusedInAnyWorld order }
 {
     match outcome_of(alloc, &order) {
-        Ok(outcome) => Ok(Done::new(order, outcome)),
+        Ok(outcome) => Done::new(alloc, order, outcome),
         Err(error) => Err((order, error)),
     }
 }

@@ -1,6 +1,6 @@
 //! Orders, and what executing them gives.
 
-ghost use Rattle.std.specs.Prelude.{◌≡◌, ◌<◌, ◌≤◌, length, true, IfOk, List};
+ghost use Rattle.std.specs.Prelude.{◌≡◌, ◌<◌, ◌≤◌, length, true, IfOk, IfErr, List};
 ghost use Rattle.std.specs.Option.{SomeIff, option_copied};
 ghost use Rattle.paris_names.specs.Keys.{has_key};
 ghost use Rattle.paris_geometry.specs.Geometry.{processor_count};
@@ -13,6 +13,7 @@ use paris_model::Refusal;
 use paris_names::{Edition, Items, Key, RowId};
 use std::alloc::{AllocError, Global};
 use std::marker::Model;
+use std::sync::Arc;
 
 /// An order for a row: its plan, and a value for each key that the plan reads. A clause sees the task.
 #[derive(Debug, Drop)]
@@ -41,14 +42,14 @@ pub enum Outcome {
     Refused(Refusal),
 }
 
-/// An executed order. Its outcome is the definitions' outcome of its own order. A clause sees the order's task.
+/// An order with the definitions' outcome of it. A clause sees the order's task.
 #[derive(Debug, Drop)]
-pub struct Done {
+struct Executed {
     task: Order,
     outcome: Outcome,
 }
 
-impl Model for Done {
+impl Model for Executed {
     ghost use Rattle.std.specs.Prelude.{◌≡◌};
     ghost use Rattle.paris_exec.specs.Tasks.{Task, task_outcome};
 
@@ -57,6 +58,22 @@ impl Model for Done {
     ghost view = { λ a. a.task };
 
     ghost invariant = { λ a. a.outcome ≡ task_outcome a.task };
+}
+
+/// An executed order. Its outcome is the definitions' outcome of its own order. It never changes, and its copies share it. A clause
+/// sees the order's task.
+#[derive(Debug, Drop)]
+pub struct Done {
+    executed: Arc<Executed, Global>,
+}
+
+impl Model for Done {
+    ghost use Rattle.std.specs.Arc.{arc_value};
+    ghost use Rattle.paris_exec.specs.Tasks.{Task};
+
+    ghost Value = { Task };
+
+    ghost view = { λ a. arc_value a.executed };
 }
 
 /// The value beside a key.
@@ -189,30 +206,46 @@ impl Order {
     }
 }
 
-impl Outcome {
-    /// A copy that equals the outcome.
-    fn copy(&self, alloc: Global) -> Result<Outcome, AllocError>
-        ensures { IfOk result (λ outcome. outcome ≡ self.now) }
+impl Executed {
+    /// What the instruction leaves at a key that its plan writes: of a refused one, the value that was read.
+    fn shared_value(&self, key: &Key) -> &SharedValue
+        requires { has_key (writes self.now.plan) key.now ≡ true }
+        ensures value { result.now ≡ task_value self.now key.now }
+        ensures count { length result.now.numbers ≡ processor_count self.now.plan.axes }
     {
-        match self {
+        match &self.outcome {
             Outcome::Values(values) => {
-                let copies = copies(alloc, values.as_slice())?;
-                Ok(Outcome::Values(Items::new(copies)))
+                match value_beside(self.task.plan().writes(), values.as_slice(), key) {
+                    Some(value) => value,
+                    None => unreachable!(),
+                }
             }
-            Outcome::Refused(cause) => Ok(Outcome::Refused(*cause)),
+            Outcome::Refused(_) => self.task.shared_input(key),
         }
     }
 }
 
 impl Done {
-    /// An order with its outcome.
-    pub(crate) fn new(order: Order, outcome: Outcome) -> Done
+    /// An order with its outcome. At want of memory the order comes back.
+    pub(crate) fn new(
+        alloc: Global,
+        order: Order,
+        outcome: Outcome,
+    ) -> Result<Done, (Order, AllocError)>
         requires { outcome ≡ task_outcome order }
-        ensures { result ≡ order }
+        ensures ok { IfOk result (λ done. done ≡ order) }
+        ensures err { IfErr result (λ e. e.0 ≡ order) }
     {
-        Done {
+        let executed = Executed {
             task: order,
             outcome,
+        };
+        match Arc::new(alloc, executed) {
+            Ok(executed) => Ok(Done { executed }),
+            Err(failed) => {
+                let Executed { task, .. } = failed.value;
+                Err((task, AllocError))
+            }
         }
     }
 
@@ -220,14 +253,14 @@ impl Done {
     pub fn order(&self) -> &Order
         ensures { result.now ≡ self.now }
     {
-        &self.task
+        &self.executed.task
     }
 
     /// What it gave.
     pub fn outcome(&self) -> &Outcome
         ensures { result.now ≡ task_outcome self.now }
     {
-        &self.outcome
+        &self.executed.outcome
     }
 
     /// What the instruction leaves at a key that its plan writes: of a refused one, the value that was read.
@@ -245,23 +278,14 @@ impl Done {
         ensures value { result.now ≡ task_value self.now key.now }
         ensures count { length result.now.numbers ≡ processor_count self.now.plan.axes }
     {
-        match &self.outcome {
-            Outcome::Values(values) => {
-                match value_beside(self.task.plan().writes(), values.as_slice(), key) {
-                    Some(value) => value,
-                    None => unreachable!(),
-                }
-            }
-            Outcome::Refused(_) => self.task.shared_input(key),
-        }
+        self.executed.shared_value(key)
     }
 
-    /// A copy that equals the result.
+    /// A copy that equals the result, and shares it. No memory is taken: the error is for a count of owners that is full.
     pub fn copy(&self) -> Result<Done, AllocError>
         ensures { IfOk result (λ done. done ≡ self.now) }
     {
-        let task = self.task.copy()?;
-        let outcome = self.outcome.copy(*self.task.inputs.allocator())?;
-        Ok(Done { task, outcome })
+        let executed = Arc::try_clone(&self.executed)?;
+        Ok(Done { executed })
     }
 }

@@ -7,6 +7,8 @@ mod naming;
 mod operands;
 mod plans;
 mod resolving;
+mod shared;
 
 pub use plans::Plan;
 pub use resolving::resolve;
+pub use shared::SharedPlan;

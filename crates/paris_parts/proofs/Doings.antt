@@ -1,14 +1,19 @@
 -- Jobs that are done one after another, and at once.
-use Rattle.std.proofs.Common.{◌≡◌, ℕ, zero, suc, ◌+◌, ◌<◌, List, [], ◌∷◌, ◌++◌, length, get_or, drop, take, map, None, Vec, Global, sym, ap, ◌∙◌, subst, arith, append_assoc, append-nil, add-one, drop-cons}
-use Rattle.std.specs.Prelude.{MatchOption}
-use Rattle.std.specs.List.{All}
+use Rattle.std.proofs.Common.{◌≡◌, ℕ, zero, suc, ◌+◌, ◌<◌, ◌≤◌, List, [], ◌∷◌, ◌++◌, length, get_or, drop, take, map, Ok, Err, Vec, Global, refl, sym, ap, ◌∙◌, subst, arith, append_assoc, append-nil, add-one, drop-cons}
+use Rattle.std.specs.Prelude.{Result, IfOk}
+use Rattle.std.specs.List.{All, AllZip}
 use Rattle.std.proofs.lemmas.List.{map-append, take_more}
-use Rattle.std.proofs.lemmas.List.Elements.{All-get_or}
+use Rattle.std.proofs.lemmas.List.Elements.{All-cons, All-head, All-nil, All-tail}
+use Rattle.paris_names.specs.declared.faults.Fault.{Fault}
+use Rattle.paris_desk.specs.declared.records.Receipt.{Receipt}
+use Rattle.paris_desk.specs.Pasts.{Learned}
+use Rattle.paris_desk.specs.Seats.{Sitting}
 use Rattle.paris_events.specs.declared.rows.RowFault.{RowFault}
 use Rattle.paris_events.specs.declared.rows.RowLook.{RowLook}
 use Rattle.paris_machine.specs.Lists.{fault_by}
 use Rattle.paris_parts.specs.Hands.{faults_among}
-use Rattle.paris_parts.specs.Jobs.{AreDone, Doing, HasRun, IsDone}
+use Rattle.paris_parts.specs.Jobs.{AreDone, AreTold, Doing, HasRun, HasRunIn, IsNew, RunsBehind, begun_at}
+use Rattle.paris_parts.specs.Seeing.{IsInTime}
 
 -- an item is moved from those that are left to those that are done
 pub moved : {X Y : Type 0} (f : X → Y) (done : List Y) (x : X) (before rest : List X) (out : List Y) → before ≡ x ∷ rest → done ++ map f before ≡ out
@@ -35,18 +40,93 @@ lines_more ls i line within is =
     let f : Vec ℕ Global → List ℕ = λ v. v.items in
     ap (map f) (take_more ls i line within ∙ ap (λ (x : Vec ℕ Global). take i ls ++ x ∷ []) (sym is)) ∙ map-append f (take i ls) (line ∷ [])
 
-done_at : (parts : List (List (List ℕ))) (d d' : Doing) → HasRun parts d d' → d'.fault ≡ None → IsDone parts d.seat d'
-done_at parts d d' run none = subst (λ o. MatchOption o (IsDone parts d.seat d') (λ _. Unit {0})) none run
+-- a job is told of all that the first seat knows
+abbrev pub IsTold : Sitting → Sitting → Result Doing Fault → Type 0
+IsTold first s job = (s1 : Sitting) × Learned s first s1 × (job ≡ Ok (begun_at s1))
 
--- where a first job and the others were run, and none was stopped, all are done
-pub are_done : (parts : List (List (List ℕ))) (d d' : Doing) (ds ds' : List Doing) → HasRun parts d d' → length ds' ≡ length ds
-    → ((i : ℕ) (e : Doing) → i < length ds → HasRun parts (get_or ds i e) (get_or ds' i e)) → All (λ (j : Doing). j.fault ≡ None) (d' ∷ ds')
-    → AreDone parts (d ∷ ds) (d' ∷ ds')
-are_done parts d d' ds ds' run long each none = (
-  ap suc long,
-  λ i e within. done_at parts (get_or (d ∷ ds) i e) (get_or (d' ∷ ds') i e) (runs i e within) (All-get_or (λ (j : Doing). j.fault ≡ None) (d' ∷ ds') i e (omega (arith, within, long)) none),
+pub told_one : (first s s1 : Sitting) (job : Result Doing Fault) → Learned s first s1 → job ≡ Ok (begun_at s1) → IsTold first s job
+told_one first s s1 job learned is = (s1, learned, is)
+
+zip_more : {A B : Type 0} (R : A → B → Type 0) (xs : List A) (ys : List B) (x : A) (y : B) → AllZip R xs ys → R x y → AllZip R (xs ++ x ∷ []) (ys ++ y ∷ [])
+zip_more R [] [] x y h r = (r, tt)
+zip_more R [] (b ∷ ys) x y h r = absurd h
+zip_more R (a ∷ xs) [] x y h r = absurd h
+zip_more R (a ∷ xs) (b ∷ ys) x y h r = (h.0, zip_more R xs ys x y h.1 r)
+
+-- the seats that were told, which stand before those that are left
+abbrev pub AreBegun : Sitting → List Sitting → List Sitting → List (Result Doing Fault) → Type 0
+AreBegun first ss left jobs = (gone : List Sitting) × (gone ++ left ≡ ss) × AllZip (IsTold first) gone jobs
+
+pub begun_none : (first : Sitting) (ss : List Sitting) → AreBegun first ss ss []
+begun_none first ss = ([], refl, tt)
+
+pub begun_more : (first s s1 : Sitting) (ss before left : List Sitting) (jobs jobs' : List (Result Doing Fault)) → before ≡ s ∷ left → Learned s first s1 → jobs' ≡ jobs ++ Ok (begun_at s1) ∷ []
+    → AreBegun first ss before jobs → AreBegun first ss left jobs'
+begun_more first s s1 ss before left jobs jobs' next learned more (gone, all, told) = (
+  gone ++ s ∷ [],
+  append_assoc gone (s ∷ []) left ∙ ap (λ (l : List Sitting). gone ++ l) (sym next) ∙ all,
+  subst (AllZip (IsTold first) (gone ++ s ∷ [])) (sym more) (zip_more (IsTold first) gone jobs s (Ok (begun_at s1)) told (s1, learned, refl)),
 )
-  where
-    runs : (i : ℕ) (e : Doing) → i < suc (length ds) → HasRun parts (get_or (d ∷ ds) i e) (get_or (d' ∷ ds') i e)
-    runs zero e within = run
-    runs (suc k) e within = each k e (omega (arith, within))
+
+pub begun_all : (first : Sitting) (ss left : List Sitting) (jobs : List (Result Doing Fault)) → left ≡ [] → AreBegun first ss left jobs → AreTold first ss jobs
+begun_all first ss left jobs none (gone, all, told) =
+    subst (λ (l : List Sitting). AllZip (IsTold first) l jobs) (sym (append-nil gone) ∙ ap (λ (l : List Sitting). gone ++ l) (sym none) ∙ all) told
+
+-- a seat that knew nothing is in time once it is told
+told_in_time : (first s s1 : Sitting) → IsNew s → Learned s first s1 → IsInTime s1
+told_in_time first s s1 new l =
+    let none : s1.receipts ≡ [] = l.same.1 ∙ new.0 in
+    (l.front.1, subst (All (λ (r : Receipt). r.number ≤ length s1.past)) (sym none) (All-nil (λ (r : Receipt). r.number ≤ length s1.past)))
+
+abbrev BegunInTime : Result Doing Fault → Type 0
+BegunInTime job = IfOk job (λ begun. IsInTime begun.seat)
+
+pub told_all_in_time : (first : Sitting) (ss : List Sitting) (jobs : List (Result Doing Fault)) → All IsNew ss → AreTold first ss jobs → All (λ (job : Result Doing Fault). IfOk job (λ begun. IsInTime begun.seat)) jobs
+told_all_in_time first [] [] new told = All-nil BegunInTime
+told_all_in_time first [] (job ∷ jobs) new told = absurd told
+told_all_in_time first (s ∷ ss) [] new told = absurd told
+told_all_in_time first (s ∷ ss) (job ∷ jobs) new ((s1, learned, is), told) =
+    All-cons BegunInTime job jobs (subst BegunInTime (sym is) (told_in_time first s s1 (All-head IsNew s ss new) learned))
+    (told_all_in_time first ss jobs (All-tail IsNew s ss new) told)
+
+-- what was told and then run has run behind the first seat
+pub ran_behind : (parts : List (List (List ℕ))) (first : Sitting) (ss : List Sitting) (jobs jobs' : List (Result Doing Fault)) (ds : List Doing) → AreTold first ss jobs
+    → ((i : ℕ) (d : Result Doing Fault) → i < length jobs → HasRunIn parts (get_or jobs i d) (get_or jobs' i d)) → length jobs' ≡ length jobs → map Ok ds ≡ jobs' → AllZip (RunsBehind parts first) ss ds
+ran_behind parts first [] [] jobs' [] told each long all = tt
+ran_behind parts first [] [] jobs' (d ∷ ds) told each long all = absurd (let same = ap length all in omega (arith, same, long))
+ran_behind parts first [] (job ∷ jobs) jobs' ds told each long all = absurd told
+ran_behind parts first (s ∷ ss) [] jobs' ds told each long all = absurd told
+ran_behind parts first (s ∷ ss) (job ∷ jobs) jobs' [] told each long all = absurd (let same = ap length all in omega (arith, same, long))
+ran_behind parts first (s ∷ ss) (job ∷ jobs) jobs' (d ∷ ds) ((s1, learned, is), told) each long all =
+    let ran : HasRunIn parts job (Ok d) = subst (λ (l : List (Result Doing Fault)). HasRunIn parts job (get_or l 0 job)) (sym all) (each 0 job (omega arith)) in
+    let here : HasRun parts s1 d = subst (λ (x : Result Doing Fault). HasRunIn parts x (Ok d)) is ran in (
+      (s1, learned, here),
+      ran_behind parts first ss jobs (map Ok ds) ds told
+          (λ i e within. (subst (λ (l : List (Result Doing Fault)). HasRunIn parts (get_or jobs i e) (get_or l (suc i) e)) (sym all) (each (suc i) e (omega (arith, within)))))
+          (let same = ap length all in omega (arith, same, long)) refl,
+    )
+
+-- the first job and the others are done
+pub are_done : (parts : List (List (List ℕ))) (seats rest : List Sitting) (s : Sitting) (d : Doing) (jobs jobs' : List (Result Doing Fault)) (ds : List Doing) → seats ≡ s ∷ rest → HasRun parts s d
+    → AreTold d.seat rest jobs → ((i : ℕ) (e : Result Doing Fault) → i < length jobs → HasRunIn parts (get_or jobs i e) (get_or jobs' i e)) → length jobs' ≡ length jobs
+    → map Ok ds ≡ Ok d ∷ jobs' → AreDone parts seats ds
+are_done parts seats rest s d jobs jobs' [] are run told each long all = absurd (let same = ap length all in omega (arith, same))
+are_done parts seats rest s d jobs jobs' (d' ∷ ds) are run told each long all =
+    let first : d' ≡ d = cc in
+    let others : map Ok ds ≡ jobs' = cc in
+    subst (λ (l : List Sitting). AreDone parts l (d' ∷ ds)) (sym are)
+    (subst (λ (x : Doing). HasRun parts s x × AllZip (RunsBehind parts x.seat) rest ds) (sym first) (run, ran_behind parts d.seat rest jobs jobs' ds told each long others))
+
+-- a list of seats by its first one
+pub first_seat : (seats rest : List Sitting) (s : Sitting) → 1 ≤ length seats → s ≡ get_or seats 0 s → rest ≡ drop 1 seats → seats ≡ s ∷ rest
+first_seat [] rest s some at is = absurd (omega (arith, some))
+first_seat (a ∷ seats) rest s some at is = λ i. sym at i ∷ sym is i
+
+pub new_rest : (seats : List Sitting) → All IsNew seats → All IsNew (drop 1 seats)
+new_rest [] new = All-nil IsNew
+new_rest (s ∷ seats) new = All-tail IsNew s seats new
+
+pub all_done : (parts : List (List (List ℕ))) (seats : List Sitting) (d : Doing) (jobs : List (Result Doing Fault)) (result : Result (Vec Doing Global) Fault)
+    → IfOk result (λ all. map Ok all.items ≡ Ok d ∷ jobs) → ((ds : List Doing) → map Ok ds ≡ Ok d ∷ jobs → AreDone parts seats ds) → IfOk result (λ all. AreDone parts seats all.items)
+all_done parts seats d jobs (Ok all) same done = done all.items same
+all_done parts seats d jobs (Err fault) same done = tt

@@ -1,7 +1,10 @@
 -- What a script in parts comes to.
-use Rattle.std.proofs.Common.{◌≡◌, ℕ, ◌+◌, ◌*◌, ◌<◌, ◌≤◌, Bool, true, false, List, [], ◌∷◌, ◌++◌, length, map, refl, ap, ◌∙◌, subst, arith, append_assoc, length-append, if◌then◌else◌}
-use Rattle.std.specs.Prelude.{◌↔◌}
+use Rattle.std.proofs.Common.{◌≡◌, ℕ, ◌+◌, ◌*◌, ◌<◌, ◌≤◌, Bool, true, false, Ok, Err, List, [], ◌∷◌, ◌++◌, length, map, refl, sym, ap, ◌∙◌, subst, arith, append_assoc, length-append, if◌then◌else◌}
+use Rattle.std.specs.Prelude.{IfOk, Result}
+use Rattle.paris_names.specs.declared.faults.Fault.{Fault}
+use Rattle.paris_parts.specs.declared.run.Transcript.{Transcript}
 use Rattle.std.specs.List.{All}
+use mathlib.Core.List.{IsPrefix}
 use Rattle.std.proofs.lemmas.List.Elements.{All-cons, All-head, All-nil, All-tail}
 use Rattle.paris_machine.specs.State.{State}
 use Rattle.paris_machine.specs.Settling.{all_settled}
@@ -9,55 +12,60 @@ use Rattle.paris_session.specs.Transcript.{lines, start, with_book, replies, aft
 use Rattle.paris_session.specs.declared.answers.Summary.{Summary}
 use Rattle.paris_desk.specs.declared.records.Entry.{Entry}
 use Rattle.paris_desk.specs.declared.records.Receipt.{Receipt}
-use Rattle.paris_desk.specs.Agreement.{Agree}
-use Rattle.paris_desk.specs.Closing.{by_number}
-use Rattle.paris_desk.specs.History.{Legal, state_of}
+use Rattle.paris_desk.specs.Agreement.{Agree, list_of}
+use Rattle.paris_desk.specs.Closing.{by_number, past_of}
+use Rattle.paris_desk.specs.History.{state_of}
+use Rattle.paris_desk.specs.Receipts.{receipts_in}
 use Rattle.paris_desk.specs.Seats.{Sitting, fresh}
-use Rattle.paris_parts.specs.Jobs.{AreDone, Doing, IsShort, begun_at}
+use Rattle.paris_parts.specs.Jobs.{AreDone, Doing, IsShort}
 use Rattle.paris_parts.specs.Parts.{cut, is_cut, parts}
 use Rattle.paris_parts.proofs.Runs.{each_done}
 use Rattle.paris_session.proofs.WholeLemmas.{few_lines}
 use Rattle.paris_session.specs.Run.{most_reads}
 use Rattle.paris_parts.specs.Texts.{edits_in, closed_text}
-use Rattle.paris_parts.specs.Run.{Concludes, EachDone, LeftBy, Plays, last_session}
+use Rattle.paris_parts.specs.Run.{Concludes, LeftBy, Plays, last_session}
 
 pub concludes : (seats : ℕ) (sat : List Sitting) (last : List (List ℕ)) (text text1 text2 closing : List ℕ) (history : List Entry) (book : State) (receipts : List (List Receipt)) (agree : Bool) (edits : ℕ) (s s' rest : Summary)
-    → Legal history → book ≡ state_of history → receipts ≡ by_number seats sat → ((agree ≡ true) ↔ Agree history receipts) → edits ≡ edits_in history
+    → book ≡ state_of history → receipts ≡ by_number seats sat → Agree history receipts → ((n : ℕ) → n < seats → IsPrefix (past_of n sat) history) → ((n : ℕ) → list_of receipts n ≡ receipts_in n 0 history)
+    → agree ≡ true → edits ≡ edits_in history
     → closing ≡ closed_text edits agree → text1 ≡ text ++ closing → text2 ≡ text1 ++ replies (with_book start (all_settled book) []) last
     → rest ≡ record { commands = (after_lines (with_book start (all_settled book) []) last).commands; refusals = (after_lines (with_book start (all_settled book) []) last).refusals }
     → s'.commands ≡ s.commands + rest.commands → s'.refusals ≡ s.refusals + rest.refusals
     → Concludes seats sat last text text2 s s'
-concludes seats sat last text text1 text2 closing history book receipts agree edits s s' rest legal same are audit count closing_is first second counted commands refusals = record {
+concludes seats sat last text text1 text2 closing history book receipts agree edits s s' rest same are agreed begins each told count closing_is first second counted commands refusals = record {
   history = history;
-  legal = legal;
-  agree = agree;
-  audit = subst (λ (rs : List (List Receipt)). (agree ≡ true) ↔ Agree history rs) are audit;
+  agree = subst (Agree history) are agreed;
+  begins = begins;
+  each = λ n. (ap (λ (l : List (List Receipt)). list_of l n) (sym are) ∙ each n);
   written =
       second
-      ∙ ap (λ (l : List ℕ). l ++ replies (with_book start (all_settled book) []) last) (first ∙ ap (λ (l : List ℕ). text ++ l) (closing_is ∙ ap (λ (n : ℕ). closed_text n agree) count))
-      ∙ append_assoc text (closed_text (edits_in history) agree) (replies (with_book start (all_settled book) []) last)
-      ∙ ap (λ (z : State). text ++ (closed_text (edits_in history) agree ++ replies (with_book start (all_settled z) []) last)) same;
+      ∙ ap (λ (l : List ℕ). l ++ replies (with_book start (all_settled book) []) last) (first ∙ ap (λ (l : List ℕ). text ++ l) (closing_is ∙ ap (λ (n : ℕ). closed_text n agree) count ∙ ap (closed_text (edits_in history)) told))
+      ∙ append_assoc text (closed_text (edits_in history) true) (replies (with_book start (all_settled book) []) last)
+      ∙ ap (λ (z : State). text ++ (closed_text (edits_in history) true ++ replies (with_book start (all_settled z) []) last)) same;
   commands = commands ∙ ap (λ (x : Summary). s.commands + x.commands) counted ∙ ap (λ (z : State). s.commands + (after_lines (with_book start (all_settled z) []) last).commands) same;
   refusals = refusals ∙ ap (λ (x : Summary). s.refusals + x.refusals) counted ∙ ap (λ (z : State). s.refusals + (after_lines (with_book start (all_settled z) []) last).refusals) same;
 }
 
-pub plays : (seats : ℕ) (played : List (List (List ℕ))) (last : List (List ℕ)) (ds : List Doing) (sat : List Sitting) (text text' : List ℕ) (s s' : Summary)
-    → EachDone played seats ds → LeftBy ds (length played) sat text s → Concludes seats sat last text text' s s' → Plays seats played last text' s'
-plays seats played last ds sat text text' s s' each (sat_is, text_is, commands, refusals) end = record {
+pub plays_done : (seats : ℕ) (played : List (List (List ℕ))) (last : List (List ℕ)) (sat : List Sitting) (text text' : List ℕ) (s s' : Summary) → 1 ≤ length played → 1 ≤ seats
+    → ((ds : List Doing) × AreDone played (fresh seats) ds × LeftBy ds (length played) sat text s) → Concludes seats sat last text text' s s' → Plays seats played last text' s'
+plays_done seats played last sat text text' s s' some any (ds, done, (sat_is, text_is, commands, refusals)) end = record {
   done = ds;
-  each = each;
   history = end.history;
-  legal = end.legal;
-  agree = end.agree;
-  audit = subst (λ (ss : List Sitting). (end.agree ≡ true) ↔ Agree end.history (by_number seats ss)) sat_is end.audit;
-  written = end.written ∙ ap (λ (l : List ℕ). l ++ (closed_text (edits_in end.history) end.agree ++ replies (last_session end.history) last)) text_is;
+  each = each_done played seats ds end.history done some any
+      (subst (λ (ss : List Sitting). (n : ℕ) → n < seats → IsPrefix (past_of n ss) end.history) sat_is end.begins)
+      (subst (λ (ss : List Sitting). (n : ℕ) → list_of (by_number seats ss) n ≡ receipts_in n 0 end.history) sat_is end.each);
+  agree = subst (λ (ss : List Sitting). Agree end.history (by_number seats ss)) sat_is end.agree;
+  written = end.written ∙ ap (λ (l : List ℕ). l ++ (closed_text (edits_in end.history) true ++ replies (last_session end.history) last)) text_is;
   commands = end.commands ∙ ap (λ (n : ℕ). n + (after_lines (last_session end.history) last).commands) commands;
   refusals = end.refusals ∙ ap (λ (n : ℕ). n + (after_lines (last_session end.history) last).refusals) refusals;
 }
 
-pub plays_done : (seats : ℕ) (played : List (List (List ℕ))) (last : List (List ℕ)) (sat : List Sitting) (text text' : List ℕ) (s s' : Summary)
-    → ((ds : List Doing) × EachDone played seats ds × LeftBy ds (length played) sat text s) → Concludes seats sat last text text' s s' → Plays seats played last text' s'
-plays_done seats played last sat text text' s s' (ds, each, left) end = plays seats played last ds sat text text' s s' each left end
+-- the same of what a run came to
+pub plays_if : (seats : ℕ) (played : List (List (List ℕ))) (last : List (List ℕ)) (sat : List Sitting) (text : List ℕ) (s : Summary) (result : Result Transcript Fault) → 1 ≤ length played → 1 ≤ seats
+    → ((ds : List Doing) × AreDone played (fresh seats) ds × LeftBy ds (length played) sat text s) → IfOk result (λ t. Concludes seats sat last text t.text.items s t.summary)
+    → IfOk result (λ t. Plays seats played last t.text.items t.summary)
+plays_if seats played last sat text s (Ok t) some any done end = plays_done seats played last sat text t.text.items s t.summary some any done end
+plays_if seats played last sat text s (Err fault) some any done end = tt
 
 -- where there are few lines, each part is short
 pub parts_short : (begun lines : List (List ℕ)) → length begun + length lines < 1125899906842624 → All IsShort (cut begun lines)
@@ -81,8 +89,3 @@ script_short script few =
     let lines_few = few_lines script in
     let most : most_reads ≡ 1073741824 = refl in
     parts_short [] (lines script) (omega (arith, few, lines_few, most))
-
--- what is done at new seats, of each seat
-pub play_done : (parts : List (List (List ℕ))) (count : ℕ) (seats : List Sitting) (ds ds' : List Doing) → seats ≡ fresh count → ds ≡ map begun_at seats → AreDone parts ds ds' → EachDone parts count ds'
-play_done parts count seats ds ds' new begun done =
-    each_done parts count ds' (subst (λ (x : List Doing). AreDone parts x ds') (begun ∙ ap (map begun_at) new) done)

@@ -4,4 +4,6 @@ pub mod Ends
 pub mod Lasts
 pub mod Playing
 pub mod Runs
+pub mod Sights
+pub mod Steps
 pub mod Telling

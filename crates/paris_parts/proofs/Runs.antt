@@ -1,61 +1,214 @@
 -- What comes of all that is done at the seats of a desk.
-use Rattle.std.proofs.Common.{◌≡◌, ℕ, zero, suc, ◌+◌, ◌-◌, ◌<◌, ◌≤◌, List, [], ◌∷◌, ◌++◌, length, get_or, take, drop, map, Some, refl, sym, ap, ◌∙◌, subst, inl, inr, arith, length-append}
-use Rattle.std.specs.Prelude.{slice_get, MatchOption}
-use Rattle.std.specs.List.{All}
+use Rattle.std.proofs.Common.{◌≡◌, ℕ, zero, suc, ◌+◌, ◌-◌, ◌<◌, ◌≤◌, Bool, true, false, List, [], ◌∷◌, ◌++◌, length, get_or, take, drop, map, Option, None, Some, refl, sym, ap, ◌∙◌, subst, inl, inr, arith, length-append}
+use Rattle.std.specs.Prelude.{◌==◌, slice_get, if◌then◌else◌, MatchOption}
+use Rattle.std.specs.List.{All, AllZip}
+use mathlib.Core.List.{IsPrefix}
 use Rattle.std.proofs.lemmas.Bool.{cases_lt}
+use Rattle.std.proofs.lemmas.Bool.Decides.{nat_tests}
 use Rattle.std.proofs.lemmas.List.{get_or_append_left, get_or-append_right, get_or-map, length-map}
 use Rattle.std.proofs.Math.Seq.{take-append_seam}
-use Rattle.std.proofs.lemmas.List.Elements.{All-get_or}
+use Rattle.std.proofs.lemmas.List.Elements.{All-cons, All-get_or, All-nil}
 use Rattle.std.proofs.lemmas.Option.{slice_get-get_or}
+use Rattle.paris_desk.specs.Agreement.{list_of}
+use Rattle.paris_desk.specs.Closing.{by_number, past_of, receipts_of}
+use Rattle.paris_desk.specs.declared.limits.TheConstants.{MAX_HISTORY}
+use Rattle.paris_desk.specs.declared.records.Entry.{Entry}
+use Rattle.paris_desk.specs.declared.records.Receipt.{Receipt}
+use Rattle.paris_desk.specs.Pasts.{Learned}
+use Rattle.paris_desk.specs.Receipts.{receipts_in}
 use Rattle.paris_desk.specs.Seats.{Sitting, sitting, fresh}
-use Rattle.paris_parts.specs.Jobs.{Doing, AreDone, HasWorked, IsDone, IsShort, Played, begun_at}
+use Rattle.paris_desk.specs.Work.{Gained, Worked}
+use Rattle.paris_desk.proofs.Lists.{by_number_at}
+use Rattle.paris_desk.proofs.Prefixes.{prefix_self}
+use Rattle.paris_parts.specs.Hands.{Plays, empty_hand}
+use Rattle.paris_parts.specs.Jobs.{Doing, AreDone, HasRun, HasWorked, IsDone, IsNew, IsShort, Played, RunsBehind, begun_at}
+use Rattle.paris_parts.specs.Seeing.{Glimpses, IsInTime, Sees}
 use Rattle.paris_parts.specs.Texts.{at_seat}
 use Rattle.paris_parts.specs.Run.{EachDone}
+use Rattle.paris_parts.proofs.Playing.{plays_so}
+use Rattle.paris_parts.proofs.Sights.{UpTo, all_both, seen_so}
 
 pub fresh_length : (n : ℕ) → length (fresh n) ≡ n
 fresh_length zero = refl
 fresh_length (suc n) =
-    let long : length (fresh n ++ sitting n [] 0 ∷ []) ≡ length (fresh n) + 1 = length-append (fresh n) (sitting n [] 0 ∷ []) in
+    let long : length (fresh n ++ sitting n [] 0 [] ∷ []) ≡ length (fresh n) + 1 = length-append (fresh n) (sitting n [] 0 [] ∷ []) in
     let before = fresh_length n in
     omega (arith, long, before)
 
-fresh_at : (count n : ℕ) (d : Sitting) → n < count → get_or (fresh count) n d ≡ sitting n [] 0
+fresh_at : (count n : ℕ) (d : Sitting) → n < count → get_or (fresh count) n d ≡ sitting n [] 0 []
 fresh_at zero n d less = absurd (omega (arith, less))
 fresh_at (suc count) n d less = elim (cases_lt n count) [
-  | inl low ↦ get_or_append_left (fresh count) (sitting count [] 0 ∷ []) d n (let long = fresh_length count in omega (arith, long, low)) ∙ fresh_at count n d low
+  | inl low ↦ get_or_append_left (fresh count) (sitting count [] 0 [] ∷ []) d n (let long = fresh_length count in omega (arith, long, low)) ∙ fresh_at count n d low
   | inr high ↦
       let same : count ≡ n = omega (arith, less, high) in
       let none : n - count ≡ 0 = omega (arith, same) in
-      get_or-append_right (fresh count) (sitting count [] 0 ∷ []) count n d (fresh_length count) high
-      ∙ ap (λ (i : ℕ). get_or (sitting count [] 0 ∷ []) i d) none ∙ ap (λ (k : ℕ). sitting k [] 0) same
+      get_or-append_right (fresh count) (sitting count [] 0 [] ∷ []) count n d (fresh_length count) high
+      ∙ ap (λ (i : ℕ). get_or (sitting count [] 0 [] ∷ []) i d) none ∙ ap (λ (k : ℕ). sitting k [] 0 []) same
 ]
 
-begun_nth : (count n : ℕ) (d : Doing) → n < count → get_or (map begun_at (fresh count)) n d ≡ begun_at (sitting n [] 0)
-begun_nth count n d less =
-    let within : n < length (fresh count) = (let long = fresh_length count in omega (arith, long, less)) in
-    get_or-map begun_at (fresh count) n (sitting n [] 0) d within ∙ ap begun_at (fresh_at count n (sitting n [] 0) less)
+pub fresh_new : (n : ℕ) → All IsNew (fresh n)
+fresh_new zero = All-nil IsNew
+fresh_new (suc n) = all_both IsNew (fresh n) (sitting n [] 0 [] ∷ []) (fresh_new n) (All-cons IsNew (sitting n [] 0 []) [] (refl, refl) (All-nil IsNew))
 
--- where all jobs of new seats are done, it is known of each seat by its number
-pub each_done : (parts : List (List (List ℕ))) (count : ℕ) (ds : List Doing) → AreDone parts (map begun_at (fresh count)) ds → EachDone parts count ds
-each_done parts count ds done =
-    let long : length (map begun_at (fresh count)) ≡ count = length-map (fresh count) begun_at ∙ fresh_length count in (
-      done.0 ∙ long,
-      λ n less. (let d = begun_at (sitting n [] 0) in
-          subst (λ (x : Doing). IsDone parts x.seat (get_or ds n d)) (begun_nth count n d less) (done.1 n d (omega (arith, long, less)))),
+-- how a seat began: it is the first, or was told of all that the first one knew
+abbrev BeganAt : Sitting → ℕ → Sitting → Sitting → Type 0
+BeganAt first zero s s1 = s1 ≡ s
+BeganAt first (suc n) s s1 = Learned s first s1
+
+zip_at : {A B : Type 0} (R : A → B → Type 0) (xs : List A) (ys : List B) (n : ℕ) (x : A) (y : B) → AllZip R xs ys → n < length xs → R (get_or xs n x) (get_or ys n y)
+zip_at R [] ys n x y h within = absurd (omega (arith, within))
+zip_at R (a ∷ xs) [] n x y h within = absurd h
+zip_at R (a ∷ xs) (b ∷ ys) zero x y h within = h.0
+zip_at R (a ∷ xs) (b ∷ ys) (suc n) x y h within = zip_at R xs ys n x y h.1 (omega (arith, within))
+
+zip_long : {A B : Type 0} (R : A → B → Type 0) (xs : List A) (ys : List B) → AllZip R xs ys → length ys ≡ length xs
+zip_long R [] [] h = refl
+zip_long R [] (b ∷ ys) h = absurd h
+zip_long R (a ∷ xs) [] h = absurd h
+zip_long R (a ∷ xs) (b ∷ ys) h = ap suc (zip_long R xs ys h.1)
+
+done_long : (parts : List (List (List ℕ))) (ss : List Sitting) (ds : List Doing) → AreDone parts ss ds → length ds ≡ length ss
+done_long parts [] ds done = absurd done
+done_long parts (s ∷ ss) [] done = absurd done
+done_long parts (s ∷ ss) (d ∷ ds) done = ap suc (zip_long (RunsBehind parts d.seat) ss ds done.1)
+
+-- what is known of the seat at a place
+ran_at : (parts : List (List (List ℕ))) (ss : List Sitting) (ds : List Doing) (n : ℕ) (s : Sitting) (d e : Doing) → AreDone parts ss ds → n < length ss
+    → (s1 : Sitting) × BeganAt (get_or ds 0 e).seat n (get_or ss n s) s1 × HasRun parts s1 (get_or ds n d)
+ran_at parts [] ds n s d e done within = absurd done
+ran_at parts (a ∷ ss) [] n s d e done within = absurd done
+ran_at parts (a ∷ ss) (b ∷ ds) zero s d e done within = (a, refl, done.0)
+ran_at parts (a ∷ ss) (b ∷ ds) (suc n) s d e done within = zip_at (RunsBehind parts b.seat) ss ds n s d done.1 (omega (arith, within))
+
+began_same : (first : Sitting) (n : ℕ) (s s1 : Sitting) → BeganAt first n s s1 → (s1.number ≡ s.number) × (s1.receipts ≡ s.receipts)
+began_same first zero s s1 is = (ap (λ (x : Sitting). x.number) is, ap (λ (x : Sitting). x.receipts) is)
+began_same first (suc n) s s1 l = l.same
+
+began_told : (first : Sitting) (n : ℕ) (s s1 : Sitting) → BeganAt first n s s1 → 1 ≤ n → IsPrefix first.past s1.past
+began_told first zero s s1 is other = absurd (omega (arith, other))
+began_told first (suc n) s s1 l other = l.others
+
+-- the number and the receipts of a seat that has run
+run_number : (parts : List (List (List ℕ))) (s : Sitting) (d : Doing) → HasRun parts s d → d.seat.number ≡ s.number
+run_number parts s d = by_part (slice_get parts s.number)
+  where
+    by_part : (o : Option (List (List ℕ))) → MatchOption o (HasWorked s d.seat) (λ part. Played (Glimpses s.past d.seat) part s d × IsInTime d.seat) → d.seat.number ≡ s.number
+    by_part None (ran, worked) = worked.gained.0
+    by_part (Some part) (played, time) = played.1.0
+
+-- in the closed history a seat has done what it did
+done_so : (parts : List (List (List ℕ))) (h : List Entry) (n : ℕ) (s1 : Sitting) (d : Doing) → s1.number ≡ n → s1.receipts ≡ [] → HasRun parts s1 d
+    → ((made : List Receipt) (seen : List Entry) → Glimpses s1.past d.seat made seen → Sees h n made seen) → IsDone (Sees h n) parts (sitting n [] 0 []) d
+done_so parts h n s1 d number none run so = subst (λ (k : ℕ). MatchOption (slice_get parts k) (HasWorked (sitting n [] 0 []) d.seat) (λ part. Played (Sees h n) part (sitting n [] 0 []) d)) number (by_part (slice_get parts s1.number) run)
+  where
+    gained : (rs : List Receipt) → Gained s1 d.seat rs → Gained (sitting n [] 0 []) d.seat rs
+    gained rs g = (g.0 ∙ number, g.1 ∙ ap (λ (l : List Receipt). l ++ rs) none)
+
+    worked : (ran : ℕ) → Worked MAX_HISTORY ran s1 d.seat → Worked MAX_HISTORY ran (sitting n [] 0 []) d.seat
+    worked ran w = record {
+      few = w.few;
+      pairs = w.pairs;
+      last = w.last;
+      are_pairs = w.are_pairs;
+      ends = w.ends;
+      gained = gained (w.pairs ++ w.last) w.gained;
+    }
+
+    by_part : (o : Option (List (List ℕ))) → MatchOption o (HasWorked s1 d.seat) (λ part. Played (Glimpses s1.past d.seat) part s1 d × IsInTime d.seat)
+        → MatchOption o (HasWorked (sitting n [] 0 []) d.seat) (λ part. Played (Sees h n) part (sitting n [] 0 []) d)
+    by_part None (ran, w) = (ran, worked ran w)
+    by_part (Some part) ((rs, g, plays, few), time) = (
+      rs,
+      gained rs g,
+      subst (λ (l : List Receipt). Plays (Sees h n) l empty_hand part rs d.hand d.text) none (plays_so (Glimpses s1.past d.seat) (Sees h n) s1.receipts empty_hand part rs d.hand d.text so plays),
+      few,
+    )
+
+-- seats that stand by their numbers: the one of a number stands at its place
+seat_at : (k : ℕ) (ss : List Sitting) (n : ℕ) (s : Sitting) → ((i : ℕ) (t : Sitting) → i < length ss → (get_or ss i t).number ≡ k + i) → n < length ss
+    → (receipts_of (k + n) ss ≡ (get_or ss n s).receipts) × (past_of (k + n) ss ≡ (get_or ss n s).past)
+seat_at k [] n s numbers within = absurd (omega (arith, within))
+seat_at k (a ∷ ss) zero s numbers within =
+    let own : a.number ≡ k + 0 = numbers 0 s (omega arith) in
+    let hit : (a.number == (k + 0)) ≡ true = grind (arith, nat_tests, own) in
+    (rw hit refl, rw hit refl)
+seat_at k (a ∷ ss) (suc n) s numbers within =
+    let own : a.number ≡ k + 0 = numbers 0 s (omega arith) in
+    let miss : (a.number == (k + suc n)) ≡ false = grind (arith, nat_tests, own) in
+    let on : suc k + n ≡ k + suc n = omega arith in
+    let rest = seat_at (suc k) ss n s (λ i t inside. (let e = numbers (suc i) t (omega (arith, inside)) in omega (arith, e))) (omega (arith, within)) in
+    (rw miss (ap (λ (j : ℕ). receipts_of j ss) (sym on) ∙ rest.0), rw miss (ap (λ (j : ℕ). past_of j ss) (sym on) ∙ rest.1))
+
+-- seats that have run have their numbers still
+number_at : (parts : List (List (List ℕ))) (count : ℕ) (ds : List Doing) → AreDone parts (fresh count) ds → (n : ℕ) (d : Doing) → n < count → (get_or ds n d).seat.number ≡ n
+number_at parts count ds done n d within =
+    let inside : n < length (fresh count) = (let long = fresh_length count in omega (arith, long, within)) in
+    let (s1, began, run) = ran_at parts (fresh count) ds n (sitting n [] 0 []) d d done inside in
+    run_number parts s1 (get_or ds n d) run ∙ (began_same (get_or ds 0 d).seat n (get_or (fresh count) n (sitting n [] 0 [])) s1 began).0
+    ∙ ap (λ (s : Sitting). s.number) (fresh_at count n (sitting n [] 0 []) within)
+
+-- a first seat that has played is in time
+first_in_time : (parts : List (List (List ℕ))) (s : Sitting) (d : Doing) → s.number ≡ 0 → 1 ≤ length parts → HasRun parts s d → IsInTime d.seat
+first_in_time parts s d number some run =
+    let at : slice_get parts s.number ≡ Some (get_or parts 0 []) = ap (slice_get parts) number ∙ slice_get-get_or parts 0 [] some in
+    (subst (λ o. MatchOption o (HasWorked s d.seat) (λ part. Played (Glimpses s.past d.seat) part s d × IsInTime d.seat)) at run).1
+
+-- where all seats have run whose desk is closed, it is known in the history what each has done
+pub each_done : (parts : List (List (List ℕ))) (count : ℕ) (ds : List Doing) (h : List Entry) → AreDone parts (fresh count) ds → 1 ≤ length parts → 1 ≤ count
+    → ((n : ℕ) → n < count → IsPrefix (past_of n (map (λ (d : Doing). d.seat) ds)) h) → ((n : ℕ) → list_of (by_number count (map (λ (d : Doing). d.seat) ds)) n ≡ receipts_in n 0 h) → EachDone h parts count ds
+each_done parts count ds h done some any begins each =
+    let seat_of : Doing → Sitting = λ d. d.seat in
+    let sat : List Sitting = map seat_of ds in
+    let long : length ds ≡ count = done_long parts (fresh count) ds done ∙ fresh_length count in
+    let sat_long : length sat ≡ length ds = length-map ds seat_of in
+    let numbers : (i : ℕ) (t : Sitting) → i < length sat → (get_or sat i t).number ≡ 0 + i = λ i t inside.
+    (ap (λ (s : Sitting). s.number) (get_or-map seat_of ds i (begun_at (sitting i [] 0 [])) t (omega (arith, inside, sat_long)))
+    ∙ number_at parts count ds done i (begun_at (sitting i [] 0 [])) (omega (arith, inside, sat_long, long)) ∙ omega arith) in
+    let found : (n : ℕ) → n < count → (receipts_of n sat ≡ (at_seat ds n).seat.receipts) × (past_of n sat ≡ (at_seat ds n).seat.past) = λ n within.
+    (let own = begun_at (sitting n [] 0 []) in
+    let there : get_or sat n (sitting n [] 0 []) ≡ (at_seat ds n).seat = get_or-map seat_of ds n own (sitting n [] 0 []) (omega (arith, within, long)) in
+    let zero_more : 0 + n ≡ n = omega arith in
+    let both = seat_at 0 sat n (sitting n [] 0 []) numbers (omega (arith, within, sat_long, long)) in (
+      ap (λ (k : ℕ). receipts_of k sat) (sym zero_more) ∙ both.0 ∙ ap (λ (s : Sitting). s.receipts) there,
+      ap (λ (k : ℕ). past_of k sat) (sym zero_more) ∙ both.1 ∙ ap (λ (s : Sitting). s.past) there,
+    )) in
+    let own : (n : ℕ) → n < count → (at_seat ds n).seat.receipts ≡ receipts_in n 0 h = λ n within. (sym (found n within).0 ∙ sym (by_number_at count sat n within) ∙ each n) in
+    let past : (n : ℕ) → n < count → IsPrefix (at_seat ds n).seat.past h = λ n within. (subst (λ (l : List Entry). IsPrefix l h) (found n within).1 (begins n within)) in
+    let first = at_seat ds 0 in
+    let inside : (n : ℕ) → n < count → n < length (fresh count) = λ n within. (let l = fresh_length count in omega (arith, l, within)) in
+    let (s0, began0, run0) = ran_at parts (fresh count) ds 0 (sitting 0 [] 0 []) (begun_at (sitting 0 [] 0 [])) (begun_at (sitting 0 [] 0 [])) done (inside 0 any) in
+    let number0 : s0.number ≡ 0 = ap (λ (s : Sitting). s.number) began0 ∙ ap (λ (s : Sitting). s.number) (fresh_at count 0 (sitting 0 [] 0 []) any) in
+    let upto = (first_in_time parts s0 first number0 some run0).1 in (
+      long,
+      λ n within. (
+          let (s1, began, run) = ran_at parts (fresh count) ds n (sitting n [] 0 []) (begun_at (sitting n [] 0 [])) (begun_at (sitting 0 [] 0 [])) done (inside n within) in
+          let same = began_same first.seat n (get_or (fresh count) n (sitting n [] 0 [])) s1 began in
+          let fresh_is = fresh_at count n (sitting n [] 0 []) within in
+          done_so parts h n s1 (at_seat ds n) (same.0 ∙ ap (λ (s : Sitting). s.number) fresh_is) (same.1 ∙ ap (λ (s : Sitting). s.receipts) fresh_is) run
+          (seen_so h n (at_seat ds n).seat s1.past first.seat.past first.seat.receipts (past n within) (own n within)
+          (began_told first.seat n (get_or (fresh count) n (sitting n [] 0 [])) s1 began) upto (own 0 any))),
     )
 
 -- a part that was played has few commands
-played_few : (parts : List (List (List ℕ))) (n : ℕ) (d : Doing) → All IsShort parts → n < length parts → IsDone parts (sitting n [] 0) d → d.hand.commands < 1125899906842624
-played_few parts n d short within done =
-    let at : slice_get parts n ≡ Some (get_or parts n []) = slice_get-get_or parts n [] within in
+played_few : (parts : List (List (List ℕ))) (n : ℕ) (s : Sitting) (d : Doing) → s.number ≡ n → All IsShort parts → n < length parts → HasRun parts s d → d.hand.commands < 1125899906842624
+played_few parts n s d number short within run =
+    let at : slice_get parts s.number ≡ Some (get_or parts n []) = ap (slice_get parts) number ∙ slice_get-get_or parts n [] within in
     let few : IsShort (get_or parts n []) = All-get_or IsShort parts n [] within short in
-    let played : Played (get_or parts n []) (sitting n [] 0) d = subst (λ o. MatchOption o (HasWorked (sitting n [] 0) d.seat) (λ part. Played part (sitting n [] 0) d)) at done in
-    let less = played.3 in
+    let both = subst (λ o. MatchOption o (HasWorked s d.seat) (λ part. Played (Glimpses s.past d.seat) part s d × IsInTime d.seat)) at run in
+    let less = both.0.3 in
     omega (arith, less, few)
 
-pub all_few : (parts : List (List (List ℕ))) (count : ℕ) (ds : List Doing) → All IsShort parts → length parts ≤ count → EachDone parts count ds
+pub all_few : (parts : List (List (List ℕ))) (count : ℕ) (ds : List Doing) → All IsShort parts → length parts ≤ count → AreDone parts (fresh count) ds
     → (n : ℕ) → n < length parts → (at_seat ds n).hand.commands < 1125899906842624
-all_few parts count ds short enough each n within = played_few parts n (at_seat ds n) short within (each.1 n (omega (arith, within, enough)))
+all_few parts count ds short enough done n within =
+    let less : n < count = omega (arith, within, enough) in
+    let inside : n < length (fresh count) = (let long = fresh_length count in omega (arith, long, less)) in
+    let (s1, began, run) = ran_at parts (fresh count) ds n (sitting n [] 0 []) (begun_at (sitting n [] 0 [])) (begun_at (sitting 0 [] 0 [])) done inside in
+    let number = (began_same (get_or ds 0 (begun_at (sitting 0 [] 0 []))).seat n (get_or (fresh count) n (sitting n [] 0 [])) s1 began).0 ∙ ap (λ (s : Sitting). s.number) (fresh_at count n (sitting n [] 0 []) less) in
+    played_few parts n s1 (at_seat ds n) number short within run
+
+pub all_long : (parts : List (List (List ℕ))) (count : ℕ) (ds : List Doing) → AreDone parts (fresh count) ds → length ds ≡ count
+all_long parts count ds done = done_long parts (fresh count) ds done ∙ fresh_length count
 
 -- a list that was lent to be changed is as it was left
 pub written_back : {X : Type 0} (n : ℕ) (xs ys : List X) → length xs ≡ n → take n (xs ++ drop (length xs) ys) ≡ xs

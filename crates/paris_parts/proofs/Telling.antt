@@ -8,7 +8,7 @@ use Rattle.paris_parts.specs.Texts.{at_seat, commands_in, head_line, parts_text,
 -- what stands at a place is what is done at the seat of this number
 pub at_is : (ds : List Doing) (n : ℕ) (d : Doing) → n < length ds → d ≡ get_or ds n d → d ≡ at_seat ds n
 at_is ds n d within is =
-    let one : Some (get_or ds n d) ≡ Some (at_seat ds n) = sym (slice_get-get_or ds n d within) ∙ slice_get-get_or ds n (begun_at (sitting n [] 0)) within in
+    let one : Some (get_or ds n d) ≡ Some (at_seat ds n) = sym (slice_get-get_or ds n d within) ∙ slice_get-get_or ds n (begun_at (sitting n [] 0 [])) within in
     let same : get_or ds n d ≡ at_seat ds n = cc in
     is ∙ same
 

@@ -1,5 +1,5 @@
 -- What is answered to the lines of a part by a session that has a seat: its orders are its own, and of the book it knows the replies to
--- its calls.
+-- its calls and what it looks at.
 use Rattle.std.specs.Prelude.{◌≡◌, ℕ, ◌+◌, ◌==◌, Bool, true, List, [], ◌∷◌, ◌++◌, length, slice_index, nat_lt, Option, Some, None, Result, Ok, Err, if◌then◌else◌, MatchBool}
 use Rattle.paris_names.specs.declared.faults.Fault.{Fault}
 use Rattle.paris_names.specs.declared.faults.Fault.TheVariants.{NoOrder, Syntax}
@@ -7,6 +7,7 @@ use Rattle.paris_events.specs.declared.rows.RowFault.{RowFault}
 use Rattle.paris_events.specs.declared.rows.RowLook.{RowLook}
 use Rattle.paris_exec.specs.Tasks.{Task}
 use Rattle.paris_machine.specs.Lists.{fault_by}
+use Rattle.paris_machine.specs.Show.{show_reply}
 use Rattle.paris_machine.specs.declared.events.Event.TheVariants as event
 use Rattle.paris_machine.specs.declared.events.Reply.{Reply}
 use Rattle.paris_machine.specs.declared.events.Reply.TheVariants as reply
@@ -15,6 +16,8 @@ use Rattle.paris_text.specs.declared.commands.Command.{Command}
 use Rattle.paris_text.specs.declared.commands.Command.TheVariants as command
 use Rattle.paris_replies.specs.Replies.{ok_text, edit_text, order_text, nothing_text, verdict_text, list_text, faults_text, refusal_text}
 use Rattle.paris_session.specs.Transcript.{longest_line, order_at, shown_text}
+use Rattle.paris_desk.specs.History.{state_of}
+use Rattle.paris_desk.specs.declared.records.Entry.{Entry}
 use Rattle.paris_desk.specs.declared.records.Receipt.{Receipt}
 use Rattle.paris_parts.specs.declared.asked.Asked.{Asked}
 use Rattle.paris_parts.specs.declared.asked.Asked.TheVariants as asks
@@ -53,7 +56,7 @@ asked_by h (command.Edit e) = asks.Call (event.Edit e)
 asked_by h command.Take = asks.Call event.Take
 asked_by h (command.Bring number) = bring_asked (order_at h.tray number)
 asked_by h command.Release = asks.Call event.Release
-asked_by h (command.Show key spot) = asks.Call (event.Show key spot)
+asked_by h (command.Show key spot) = asks.Look key spot
 asked_by h command.List = asks.Call event.List
 asked_by h command.Faults = asks.Faults
 asked_by h command.Settle = asks.Refused (Syntax 1)
@@ -84,26 +87,30 @@ abbrev pub faults_among : List RowLook → List RowFault
 faults_among [] = []
 faults_among (look ∷ looks) = fault_by look.id look.cause ++ faults_among looks
 
--- what is asked for is answered by at most one call of the seat, of which this is the receipt: the hand after it, and the text
-abbrev pub AnswersAsked : Hand → Asked → List Receipt → Hand → List ℕ → Type 0
-AnswersAsked h (asks.Call e) rs h' text = (r : Receipt) × (rs ≡ r ∷ []) × (r.event ≡ e) × ((h', text) ≡ told h r.reply)
-AnswersAsked h asks.Faults rs h' text =
+-- what is asked for is answered by at most one call of the seat, of which this is the receipt, or by a look, at the book after a history
+-- that the seat sees: the hand after it, and the text
+abbrev pub AnswersAsked : (List Entry → Type 0) → Hand → Asked → List Receipt → Hand → List ℕ → Type 0
+AnswersAsked Sees h (asks.Call e) rs h' text = (r : Receipt) × (rs ≡ r ∷ []) × (r.event ≡ e) × ((h', text) ≡ told h r.reply)
+AnswersAsked Sees h (asks.Look key spot) rs h' text =
+    (seen : List Entry) × Sees seen × (rs ≡ []) × ((h', text) ≡ told h (reply.Show (show_reply (state_of seen) key spot)))
+AnswersAsked Sees h asks.Faults rs h' text =
     (r : Receipt) × (looks : List RowLook) × (rs ≡ r ∷ []) × (r.event ≡ event.List) × (r.reply ≡ reply.List looks) × ((h', text) ≡ plainly h (faults_text (faults_among looks)))
-AnswersAsked h (asks.Refused fault) rs h' text = (rs ≡ []) × ((h', text) ≡ refused h fault)
+AnswersAsked Sees h (asks.Refused fault) rs h' text = (rs ≡ []) × ((h', text) ≡ refused h fault)
 
 -- whether a line is skipped: it is empty, or begins with `#`
 abbrev pub is_skipped : List ℕ → Bool
 is_skipped line = if length line == 0 then true else (slice_index line 0 == 35)
 
 -- a line is answered
-abbrev pub Answers : Hand → List ℕ → List Receipt → Hand → List ℕ → Type 0
-Answers h line rs h' text = MatchBool (is_skipped line)
+abbrev pub Answers : (List Entry → Type 0) → Hand → List ℕ → List Receipt → Hand → List ℕ → Type 0
+Answers Sees h line rs h' text = MatchBool (is_skipped line)
     ((rs ≡ []) × ((h', text) ≡ plainly h []))
-    (AnswersAsked (with_command h) (asked_by_line (with_command h) line) rs h' text)
+    (AnswersAsked Sees (with_command h) (asked_by_line (with_command h) line) rs h' text)
 
--- lines are answered one after another, by the calls of these receipts
-abbrev pub Plays : Hand → List (List ℕ) → List Receipt → Hand → List ℕ → Type 0
-Plays h [] rs h' text = (rs ≡ []) × (h' ≡ h) × (text ≡ [])
-Plays h (line ∷ lines) rs h' text =
+-- lines are answered one after another, by the calls of these receipts. What a look sees depends on the calls before it, of which those
+-- before the first line are given
+abbrev pub Plays : (List Receipt → List Entry → Type 0) → List Receipt → Hand → List (List ℕ) → List Receipt → Hand → List ℕ → Type 0
+Plays Sees made h [] rs h' text = (rs ≡ []) × (h' ≡ h) × (text ≡ [])
+Plays Sees made h (line ∷ lines) rs h' text =
     (m : Hand) × (first : List Receipt) × (rest : List Receipt) × (begun : List ℕ) × (more : List ℕ)
-    × Answers h line first m begun × Plays m lines rest h' more × (rs ≡ first ++ rest) × (text ≡ begun ++ more)
+    × Answers (Sees made) h line first m begun × Plays Sees (made ++ first) m lines rest h' more × (rs ≡ first ++ rest) × (text ≡ begun ++ more)

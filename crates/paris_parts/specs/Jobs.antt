@@ -1,45 +1,65 @@
 -- What is done at a desk by its seats, each in a thread of its own: it plays a part, or works.
-use Rattle.std.specs.Prelude.{◌≡◌, ◌<◌, ◌≤◌, ℕ, List, [], length, Option, None, slice_get, slice_index_or, MatchOption}
+use Rattle.std.specs.Prelude.{◌≡◌, ◌<◌, ◌≤◌, ℕ, List, [], ◌∷◌, length, slice_get, MatchOption, Result, Ok, IfOk}
+use Rattle.std.specs.List.{AllZip}
 use Rattle.paris_names.specs.declared.faults.Fault.{Fault}
 use Rattle.paris_desk.specs.declared.limits.TheConstants.{MAX_HISTORY}
+use Rattle.paris_desk.specs.declared.records.Entry.{Entry}
 use Rattle.paris_desk.specs.declared.records.Receipt.{Receipt}
+use Rattle.paris_desk.specs.Pasts.{Learned}
 use Rattle.paris_desk.specs.Seats.{Sitting}
 use Rattle.paris_desk.specs.Work.{Gained, Worked}
 use Rattle.paris_parts.specs.Hands.{Hand, Plays, empty_hand}
+use Rattle.paris_parts.specs.Seeing.{Glimpses, IsInTime}
 
--- a seat, what it has in hand, what was told at it, and why it stopped
+-- a seat, what it has in hand, and what was told at it
 pub record Doing : Type 0 where
   pub seat : Sitting
   pub hand : Hand
   pub text : List ℕ
-  pub fault : Option Fault
 
-abbrev pub doing : Sitting → Hand → List ℕ → Option Fault → Doing
-doing seat hand text fault = record { seat = seat; hand = hand; text = text; fault = fault }
+abbrev pub doing : Sitting → Hand → List ℕ → Doing
+doing seat hand text = record { seat = seat; hand = hand; text = text }
 
 -- nothing is done yet
 abbrev pub begun_at : Sitting → Doing
-begun_at seat = doing seat empty_hand [] None
+begun_at seat = doing seat empty_hand []
 
--- a part was played to its end
-abbrev pub Played : List (List ℕ) → Sitting → Doing → Type 0
-Played part s d = (rs : List Receipt) × Gained s d.seat rs × Plays empty_hand part rs d.hand d.text × (d.hand.commands ≤ length part)
+-- a part was played to its end, where a look sees such histories
+abbrev pub Played : (List Receipt → List Entry → Type 0) → List (List ℕ) → Sitting → Doing → Type 0
+Played Sees part s d = (rs : List Receipt) × Gained s d.seat rs × Plays Sees s.receipts empty_hand part rs d.hand d.text × (d.hand.commands ≤ length part)
 
 -- orders were run until no row was ready, or as many as a history may have entries
 abbrev pub HasWorked : Sitting → Sitting → Type 0
 HasWorked s s' = (ran : ℕ) × Worked MAX_HISTORY ran s s'
 
 -- a seat has played the part of its number, and where there is none, it has worked
-abbrev pub IsDone : List (List (List ℕ)) → Sitting → Doing → Type 0
-IsDone parts s d = MatchOption (slice_get parts s.number) (HasWorked s d.seat) (λ part. Played part s d)
+abbrev pub IsDone : (List Receipt → List Entry → Type 0) → List (List (List ℕ)) → Sitting → Doing → Type 0
+IsDone Sees parts s d = MatchOption (slice_get parts s.number) (HasWorked s d.seat) (λ part. Played Sees part s d)
 
--- or it was stopped by a fault
-abbrev pub HasRun : List (List (List ℕ)) → Doing → Doing → Type 0
-HasRun parts d d' = MatchOption d'.fault (IsDone parts d.seat d') (λ _. Unit {0})
+-- the same of a seat whose desk isn't closed
+abbrev pub HasRun : List (List (List ℕ)) → Sitting → Doing → Type 0
+HasRun parts s d = MatchOption (slice_get parts s.number) (HasWorked s d.seat) (λ part. Played (Glimpses s.past d.seat) part s d × IsInTime d.seat)
 
--- all of them are done
-abbrev pub AreDone : List (List (List ℕ)) → List Doing → List Doing → Type 0
-AreDone parts ds ds' = (length ds' ≡ length ds) × ((i : ℕ) (d : Doing) → i < length ds → IsDone parts (slice_index_or ds i d).seat (slice_index_or ds' i d))
+-- a job, where no fault ends it
+abbrev pub HasRunIn : List (List (List ℕ)) → Result Doing Fault → Result Doing Fault → Type 0
+HasRunIn parts job job' = IfOk job (λ begun. IfOk job' (λ d. HasRun parts begun.seat d))
+
+-- a seat knows nothing
+abbrev pub IsNew : Sitting → Type 0
+IsNew s = (s.receipts ≡ []) × (s.past ≡ [])
+
+-- a job of each seat, once it is told of all that the first one knows
+abbrev pub AreTold : Sitting → List Sitting → List (Result Doing Fault) → Type 0
+AreTold first ss jobs = AllZip (λ s job. (s1 : Sitting) × Learned s first s1 × (job ≡ Ok (begun_at s1))) ss jobs
+
+-- a seat has run once it was told of all that the first one knew
+abbrev pub RunsBehind : List (List (List ℕ)) → Sitting → Sitting → Doing → Type 0
+RunsBehind parts first s d = (s1 : Sitting) × Learned s first s1 × HasRun parts s1 d
+
+-- the first seat has run, and then the others
+abbrev pub AreDone : List (List (List ℕ)) → List Sitting → List Doing → Type 0
+AreDone parts (s ∷ ss) (d ∷ ds) = HasRun parts s d × AllZip (RunsBehind parts d.seat) ss ds
+AreDone parts _ _ = ⊥
 
 -- a part has fewer lines than that its commands could not be counted
 abbrev pub IsShort : List (List ℕ) → Type 0

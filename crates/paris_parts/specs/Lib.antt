@@ -1,5 +1,7 @@
 pub mod Parts
 pub mod Hands
+pub mod Seeing
+pub mod Moving
 pub mod Jobs
 pub mod Texts
 pub mod Run

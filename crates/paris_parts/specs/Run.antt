@@ -1,17 +1,20 @@
 -- What a script in parts does at a desk, and what is written for it.
-use Rattle.std.specs.Prelude.{◌≡◌, ◌<◌, ◌≤◌, ◌↔◌, ℕ, ◌+◌, Bool, true, List, [], ◌∷◌, ◌++◌, length, map}
+use Rattle.std.specs.Prelude.{◌≡◌, ◌<◌, ◌≤◌, ℕ, ◌+◌, true, List, [], ◌∷◌, ◌++◌, length, map}
+use mathlib.Core.List.{IsPrefix}
 use Rattle.paris_machine.specs.Settling.{all_settled}
 use Rattle.paris_session.specs.Transcript.{start, with_book, replies, after_lines}
 use Rattle.paris_session.specs.Transcript.{Sitting as Session}
 use Rattle.paris_session.specs.declared.answers.Summary.{Summary}
 use Rattle.paris_desk.specs.declared.limits.TheConstants.{MAX_SEATS}
 use Rattle.paris_desk.specs.declared.records.Entry.{Entry}
-use Rattle.paris_desk.specs.Agreement.{Agree}
-use Rattle.paris_desk.specs.Closing.{by_number}
-use Rattle.paris_desk.specs.History.{Legal, state_of}
+use Rattle.paris_desk.specs.Agreement.{Agree, list_of}
+use Rattle.paris_desk.specs.Closing.{by_number, past_of}
+use Rattle.paris_desk.specs.History.{state_of}
+use Rattle.paris_desk.specs.Receipts.{receipts_in}
 use Rattle.paris_desk.specs.Seats.{Sitting, sitting}
 use Rattle.paris_parts.specs.Jobs.{Doing, IsDone}
 use Rattle.paris_parts.specs.Parts.{parts}
+use Rattle.paris_parts.specs.Seeing.{Sees}
 use Rattle.paris_parts.specs.Texts.{at_seat, parts_text, commands_in, refusals_in, edits_in, closed_text}
 
 -- the session that plays the last part: its book is the history's, settled
@@ -23,30 +26,31 @@ abbrev pub LeftBy : List Doing → ℕ → List Sitting → List ℕ → Summary
 LeftBy ds played seats text summary =
     (seats ≡ map (λ (d : Doing). d.seat) ds) × (text ≡ parts_text ds played) × (summary.commands ≡ commands_in ds played) × (summary.refusals ≡ refusals_in ds played)
 
--- a desk is closed whose seats have these receipts, and the last part is played: what is written behind a text, and the counts
+-- a desk is closed whose seats have these receipts, which are those of its history and agree with it, and it begins with the past of each
+-- seat; and the last part is played: what is written behind a text, and the counts
 pub record Concludes (seats : ℕ) (sat : List Sitting) (last : List (List ℕ)) (text text' : List ℕ) (summary summary' : Summary) : Type 0 where
   pub history : List Entry
-  pub legal : Legal history
-  pub agree : Bool
-  pub audit : (agree ≡ true) ↔ Agree history (by_number seats sat)
-  pub written : text' ≡ text ++ (closed_text (edits_in history) agree ++ replies (last_session history) last)
+  pub agree : Agree history (by_number seats sat)
+  pub begins : (n : ℕ) → n < seats → IsPrefix (past_of n sat) history
+  pub each : (n : ℕ) → list_of (by_number seats sat) n ≡ receipts_in n 0 history
+  pub written : text' ≡ text ++ (closed_text (edits_in history) true ++ replies (last_session history) last)
   pub commands : summary'.commands ≡ summary.commands + (after_lines (last_session history) last).commands
   pub refusals : summary'.refusals ≡ summary.refusals + (after_lines (last_session history) last).refusals
 
--- what is done at each of so many seats: it has played the part of its number, and where there is none it has worked
-abbrev pub EachDone : List (List (List ℕ)) → ℕ → List Doing → Type 0
-EachDone played seats done = (length done ≡ seats) × ((n : ℕ) → n < seats → IsDone played (sitting n [] 0) (at_seat done n))
+-- what is done at each of so many seats: it has played the part of its number, with looks at beginnings of a history, and where there is
+-- none it has worked
+abbrev pub EachDone : List Entry → List (List (List ℕ)) → ℕ → List Doing → Type 0
+EachDone history played seats done = (length done ≡ seats) × ((n : ℕ) → n < seats → IsDone (Sees history n) played (sitting n [] 0 []) (at_seat done n))
 
 -- what parts come to at a desk with so many seats: each part but the last is played at the seat of its number, the first of them before
--- the others, the seats behind them work, and the last part is played on the book that they leave, settled
+-- the others, the seats behind them work, and the last part is played on the book that they leave, settled. The history is legal, and agrees with the
+-- receipts of the seats
 pub record Plays (seats : ℕ) (played : List (List (List ℕ))) (last : List (List ℕ)) (text : List ℕ) (summary : Summary) : Type 0 where
   pub done : List Doing
-  pub each : EachDone played seats done
   pub history : List Entry
-  pub legal : Legal history
-  pub agree : Bool
-  pub audit : (agree ≡ true) ↔ Agree history (by_number seats (map (λ (d : Doing). d.seat) done))
-  pub written : text ≡ parts_text done (length played) ++ (closed_text (edits_in history) agree ++ replies (last_session history) last)
+  pub each : EachDone history played seats done
+  pub agree : Agree history (by_number seats (map (λ (d : Doing). d.seat) done))
+  pub written : text ≡ parts_text done (length played) ++ (closed_text (edits_in history) true ++ replies (last_session history) last)
   pub commands : summary.commands ≡ commands_in done (length played) + (after_lines (last_session history) last).commands
   pub refusals : summary.refusals ≡ refusals_in done (length played) + (after_lines (last_session history) last).refusals
 

@@ -14,7 +14,7 @@ head_line (suc n) = codes "session " ++ (decimal (suc n) ++ codes "\n")
 
 -- what is done at a seat, by its number
 abbrev pub at_seat : List Doing → ℕ → Doing
-at_seat ds n = slice_index_or ds n (begun_at (sitting n [] 0))
+at_seat ds n = slice_index_or ds n (begun_at (sitting n [] 0 []))
 
 -- what the first so many parts write
 abbrev pub parts_text : List Doing → ℕ → List ℕ

@@ -1,8 +1,11 @@
 //! What the seats of a desk do at once: some play a part, the others work.
 
-ghost use Rattle.std.specs.Prelude.{◌≡◌, ℕ, ◌<◌, length, map, slice_index_or, None, IfOk, IfNone, OnOk};
+ghost use Rattle.std.specs.Prelude.{◌≡◌, ◌<◌, ◌≤◌, ◌++◌, ◌∷◌, ℕ, [], Result, Ok, length, map, slice_index_or, IfOk, OnOk};
 ghost use Rattle.std.specs.List.{All};
-ghost use Rattle.paris_parts.specs.Jobs.{AreDone, Doing, HasRun, IsShort, begun_at};
+ghost use Rattle.paris_names.specs.declared.faults.Fault.{Fault};
+ghost use Rattle.paris_desk.specs.Pasts.{Learned};
+ghost use Rattle.paris_parts.specs.Jobs.{AreDone, AreTold, Doing, HasRun, HasRunIn, IsNew, IsShort, begun_at};
+ghost use Rattle.paris_parts.specs.Seeing.{IsInTime};
 
 use crate::parts::Part;
 use crate::players::Player;
@@ -12,16 +15,15 @@ use paris_names::Fault;
 use std::alloc::{AllocError, Global};
 use std::marker::Model;
 use std::sync::Wait;
-use std::thread;
 use std::thread::Threads;
+use std::{mem, thread};
 
-/// What is to be done at a seat, and what came of it.
+/// What is done at a seat.
 #[derive(Drop)]
 pub(crate) struct Job<L: Office> {
     pub(crate) seat: Seat<L>,
     pub(crate) player: Player,
     pub(crate) text: Vec<u8>,
-    pub(crate) fault: Option<Fault>,
 }
 
 impl<L: Office> Model for Job<L> {
@@ -29,7 +31,7 @@ impl<L: Office> Model for Job<L> {
 
     ghost Value = { Doing };
 
-    ghost view = { λ j. doing j.seat j.player j.text.items j.fault };
+    ghost view = { λ j. doing j.seat j.player j.text.items };
 }
 
 impl<L: Office> Job<L> {
@@ -40,118 +42,182 @@ impl<L: Office> Job<L> {
             seat,
             player: Player::new(alloc),
             text: Vec::new(alloc),
-            fault: None,
         }
     }
 
     /// Plays the part of the seat's number, or works where there is none.
     fn run<R: Wait, G: Gate>(
-        &mut self,
+        self,
         rt: &R,
         alloc: Global,
         desk: &Desk<L>,
         parts: &[Part],
         gate: &G,
-    )
-        requires { All IsShort parts.now }
-        ensures { HasRun parts.now self.old self.new }
+    ) -> Result<Job<L>, Fault>
+        requires short { All IsShort parts.now }
+        requires time { IsInTime self.seat }
+        ensures { IfOk result (λ job. HasRun parts.now self.seat job) }
     {
-        let Some(part) = parts.get(self.seat.number() as usize) else {
-            self.fault = work(rt, alloc, desk, &mut self.seat, gate, MAX_HISTORY).err();
-            return;
+        let Job {
+            mut seat,
+            player: _,
+            text,
+        } = self;
+        let Some(part) = parts.get(seat.number() as usize) else {
+            work(rt, alloc, desk, &mut seat, gate, MAX_HISTORY)?;
+            return Ok(Job {
+                seat,
+                player: Player::new(alloc),
+                text,
+            });
         };
-        self.player = Player::new(alloc);
-        match self.player.play(rt, desk, &mut self.seat, part) {
-            Ok(text) => {
-                self.text = text;
-                self.fault = None;
-            }
-            Err(fault) => self.fault = Some(fault),
-        }
+        let mut player = Player::new(alloc);
+        let (seat, text) = player.play(rt, desk, seat, part)?;
+        Ok(Job { seat, player, text })
     }
 }
 
-/// A job for each seat.
-pub(crate) fn jobs_of<L: Office>(
+/// A seat, once it is told of all that the first one knows.
+fn told<L: Office>(seat: Seat<L>, first: &Seat<L>) -> Seat<L>
+    ensures { Learned seat first.now result }
+{
+    let mut seat = seat;
+    seat.learn_from(first);
+    seat
+}
+
+/// A job of each seat, which is told of all that the first one knows.
+fn jobs_told<L: Office>(
     alloc: Global,
     seats: Vec<Seat<L>>,
-) -> Result<Vec<Job<L>>, AllocError>
-    ensures { IfOk result (λ jobs. jobs.items ≡ map begun_at seats.items) }
+    first: &Seat<L>,
+) -> Result<Vec<Result<Job<L>, Fault>>, AllocError>
+    ensures { IfOk result (λ jobs. AreTold first.now seats.items jobs.items) }
 {
     let mut jobs = Vec::new(alloc);
     for seat in seats {
-        jobs.push(Job::new(alloc, seat))?;
+        jobs.push(Ok(Job::new(alloc, told(seat, first))))?;
     }
     Ok(jobs)
 }
 
-/// The first fault of the jobs: one of the desk's before want of memory.
-fn first_fault<L: Office>(jobs: &[Job<L>]) -> Option<Fault>
-    ensures { IfNone result (All (λ j. j.fault ≡ None) jobs.now) }
-{
-    let mut first = None;
+/// Which fault ends a run where several were met: a full history before all others, and want of memory behind them.
+fn rank(fault: Fault) -> u64 {
+    match fault {
+        Fault::HistoryFull(_) => 2,
+        Fault::NoMemory => 0,
+        _ => 1,
+    }
+}
+
+fn worse(first: Option<Fault>, next: Option<Fault>) -> Option<Fault> {
+    match (first, next) {
+        (Some(fault), Some(other)) => Some(if rank(other) > rank(fault) {
+            other
+        } else {
+            fault
+        }),
+        (Some(fault), None) => Some(fault),
+        (None, next) => next,
+    }
+}
+
+/// Of the faults that ended jobs the one that ends the run.
+fn worst_fault<L: Office>(jobs: &[Result<Job<L>, Fault>]) -> Option<Fault> {
+    let mut worst = None;
     for job in jobs {
-        first = worse(first, job.fault);
-    }
-    first
-}
-
-fn worse(first: Option<Fault>, next: Option<Fault>) -> Option<Fault>
-    ensures { result ≡ None → (first ≡ None) × (next ≡ None) }
-{
-    match first {
-        Some(fault) => {
-            if fault.is_no_memory() && next.is_some() {
-                return next;
-            }
-            first
+        if let Err(fault) = job {
+            worst = worse(worst, Some(*fault));
         }
-        None => next,
+    }
+    worst
+}
+
+/// Runs a job, in its place.
+fn run_in<L: Office, R: Wait, G: Gate>(
+    rt: &R,
+    alloc: Global,
+    desk: &Desk<L>,
+    job: &mut Result<Job<L>, Fault>,
+    parts: &[Part],
+    gate: &G,
+)
+    requires short { All IsShort parts.now }
+    requires time { IfOk job.old (λ begun. IsInTime begun.seat) }
+    ensures { HasRunIn parts.now job.old job.new }
+{
+    if let Ok(begun) = mem::replace(job, Err(Fault::NoMemory)) {
+        *job = begun.run(rt, alloc, desk, parts, gate);
     }
 }
 
-/// Runs some jobs, each in a thread of its own.
+/// Runs the jobs, each in a thread of its own.
 fn run_at_once<L: Office + Send + Sync, R: Threads + Wait + Sync, G: Gate + Sync>(
     rt: &R,
     alloc: Global,
     desk: &Desk<L>,
-    jobs: &mut [Job<L>],
+    jobs: &mut [Result<Job<L>, Fault>],
     parts: &[Part],
     gate: &G,
 )
-    requires { All IsShort parts.now }
-    ensures { (i : ℕ) (d : Doing) → i < length jobs.old → HasRun parts.now (slice_index_or jobs.old i d) (slice_index_or jobs.new i d) }
+    requires short { All IsShort parts.now }
+    requires time { All (λ job. IfOk job (λ begun. IsInTime begun.seat)) jobs.old }
+    ensures len { length jobs.new ≡ length jobs.old }
+    ensures each { (i : ℕ) (d : Result Doing Fault) → i < length jobs.old → HasRunIn parts.now (slice_index_or jobs.old i d) (slice_index_or jobs.new i d) }
 {
     let threads = jobs.len().max(1);
     thread::for_each_mut(
         rt,
         jobs,
         threads,
-        &|_i: usize, job: &mut Job<L>| { job.run(rt, alloc, desk, parts, gate) },
+        &|_i: usize, job: &mut Result<Job<L>, Fault>| { run_in(rt, alloc, desk, job, parts, gate) },
     );
 }
 
-/// Runs the first job, and then the others at once.
+fn keep<L: Office>(jobs: &mut Vec<Job<L>>, job: Job<L>) -> Result<(), Fault>
+    ensures { OnOk result (jobs.new.items ≡ jobs.old.items ++ job ∷ []) }
+{
+    if jobs.push(job).is_err() {
+        return Err(Fault::NoMemory);
+    }
+    Ok(())
+}
+
+/// The first job and the others, of which none was ended by a fault.
+fn together<L: Office>(
+    alloc: Global,
+    first: Job<L>,
+    others: Vec<Result<Job<L>, Fault>>,
+) -> Result<Vec<Job<L>>, Fault>
+    ensures { IfOk result (λ jobs. map Ok jobs.items ≡ Ok first ∷ others.items) }
+{
+    let mut jobs = Vec::new(alloc);
+    keep(&mut jobs, first)?;
+    for job in others {
+        keep(&mut jobs, job?)?;
+    }
+    Ok(jobs)
+}
+
+/// Runs what there is to do at the first seat, and then at the others at once, which are told of all that the first one knows then.
 pub(crate) fn run_all<L: Office + Send + Sync, R: Threads + Wait + Sync, G: Gate + Sync>(
     rt: &R,
     alloc: Global,
     desk: &Desk<L>,
-    jobs: &mut [Job<L>],
+    seats: Vec<Seat<L>>,
     parts: &[Part],
     gate: &G,
-) -> Result<(), Fault>
-    requires { All IsShort parts.now }
-    ensures { OnOk result (AreDone parts.now jobs.old jobs.new) }
+) -> Result<Vec<Job<L>>, Fault>
+    requires short { All IsShort parts.now }
+    requires seats { (1 ≤ length seats.items) × All IsNew seats.items }
+    ensures { IfOk result (λ jobs. AreDone parts.now seats.items jobs.items) }
 {
-    if let Some((first, others)) = jobs.split_first_mut() {
-        first.run(rt, alloc, desk, parts, gate);
-        if let Some(fault) = first.fault {
-            return Err(fault);
-        }
-        run_at_once(rt, alloc, desk, others, parts, gate);
-    }
-    match first_fault(jobs) {
+    let mut seats = seats;
+    let first = Job::new(alloc, seats.remove(0)).run(rt, alloc, desk, parts, gate)?;
+    let mut others = jobs_told(alloc, seats, &first.seat)?;
+    run_at_once(rt, alloc, desk, others.as_mut_slice(), parts, gate);
+    match worst_fault(others.as_slice()) {
         Some(fault) => Err(fault),
-        None => Ok(()),
+        None => together(alloc, first, others),
     }
 }

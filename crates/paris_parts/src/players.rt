@@ -5,21 +5,24 @@ ghost use Rattle.paris_text.specs.CommandReading.{command_of};
 ghost use Rattle.paris_session.specs.Transcript.{longest_line, order_at, shown_text};
 ghost use Rattle.paris_text.specs.declared.commands.Command.TheVariants as CommandCase;
 ghost use Rattle.paris_machine.specs.declared.events.Reply.TheVariants as ReplyCase;
-ghost use Rattle.paris_desk.specs.declared.records.Receipt.{Receipt};
-ghost use Rattle.paris_desk.specs.Work.{Gained};
+ghost use Rattle.paris_book.specs.Among.{look_shown};
 ghost use Rattle.paris_parts.specs.declared.asked.Asked.TheVariants as AskedCase;
-ghost use Rattle.paris_parts.specs.Hands.{Answers, AnswersAsked, Plays, asked_by, asked_by_read, empty_hand, faults_among, hand, refused, told, with_command};
+ghost use Rattle.paris_parts.specs.Hands.{asked_by, asked_by_read, empty_hand, faults_among, hand, is_skipped, refused, told, with_command};
+ghost use Rattle.paris_parts.specs.Moving.{Answered, HasAnswered, HasPlayed, is_unmet};
+ghost use Rattle.paris_parts.specs.Seeing.{IsInTime};
 
 use crate::asked::Asked;
 use crate::parts::Part;
+use paris_book::Look;
 use paris_desk::{Desk, Office, Seat};
 use paris_events::{RowFault, RowLook};
 use paris_exec::{Order, execute};
 use paris_machine::{Event, Reply, Shown};
 use paris_names::limits::MAX_LINE;
-use paris_names::{Fault, Items};
+use paris_names::{Fault, Items, KeyName, Spot};
 use paris_replies::Room;
 use paris_text::{Command, read_command};
+use paris_view::View;
 use std::alloc::{AllocError, Global};
 use std::marker::Model;
 use std::sync::Wait;
@@ -29,6 +32,13 @@ fn is_overlong(line: &[u8]) -> bool
     ensures { result ≡ nat_lt longest_line (length line.now) }
 {
     line.len() > MAX_LINE
+}
+
+/// Whether a line is skipped.
+fn is_skipped(line: &[u8]) -> bool
+    ensures { result ≡ is_skipped line.now }
+{
+    line.is_empty() || line[0] == b'#'
 }
 
 /// The reply to a look at a key.
@@ -41,6 +51,30 @@ fn shown_text(alloc: Global, shown: &Shown) -> Result<Vec<u8>, AllocError>
             paris_replies::values_text(alloc, numbers.as_slice())
         }
         Shown::Pending(id) => Ok(Room::new(alloc)?.pending(*id)),
+    }
+}
+
+/// The reply to a look at what a key holds.
+fn look_text(alloc: Global, look: &Look<'_>) -> Result<Vec<u8>, AllocError>
+    ensures { IfOk result (λ text. text.items ≡ shown_text (look_shown look.now)) }
+{
+    match look {
+        Look::Settled(value) => {
+            let numbers = value.numbers()?;
+            paris_replies::values_text(alloc, numbers.as_slice())
+        }
+        Look::Pending(id) => Ok(Room::new(alloc)?.pending(*id)),
+    }
+}
+
+/// Whether a fault of a look says that the seat met no history that it could look at.
+fn is_unmet(fault: Fault) -> bool
+    ensures { result ≡ is_unmet fault }
+{
+    match fault {
+        Fault::NoEntry => true,
+        Fault::StrangeSeat(_, _) => true,
+        _ => false,
     }
 }
 
@@ -156,7 +190,7 @@ impl Player {
             Command::Take => Ok(Asked::Call(Event::Take)),
             Command::Bring(number) => self.bring_asked(number),
             Command::Release => Ok(Asked::Call(Event::Release)),
-            Command::Show { key, spot } => Ok(Asked::Call(Event::Show(key, spot))),
+            Command::Show { key, spot } => Ok(Asked::Look(key, spot)),
             Command::List => Ok(Asked::Call(Event::List)),
             Command::Faults => Ok(Asked::Faults),
             Command::Settle => Ok(Asked::Refused(Fault::Syntax(1))),
@@ -204,31 +238,82 @@ impl Player {
         desk: &Desk<L>,
         seat: &mut Seat<L>,
     ) -> Result<Vec<u8>, Fault>
-        ensures { IfOk result (λ text. (rs : List Receipt) × Gained seat.old seat.new rs × AnswersAsked self.old AskedCase.Faults rs self.new text.items) }
+        requires { IsInTime seat.old }
+        ensures { IfOk result (λ text. Answered seat.old seat.new self.old AskedCase.Faults self.new text.items) }
     {
         let looks = desk.list(rt, seat)?;
         let faults = faults_among(self.alloc(), looks.as_slice())?;
         Ok(paris_replies::faults_text(self.alloc(), faults.as_slice())?)
     }
 
-    /// Answers what is asked for, by at most one call of the seat.
-    fn answer_asked<L: Office, R: Wait>(
+    /// Answers by a call of the seat.
+    fn answer_call<L: Office, R: Wait>(
         &mut self,
         rt: &R,
         desk: &Desk<L>,
         seat: &mut Seat<L>,
-        asked: Asked,
+        event: Event,
     ) -> Result<Vec<u8>, Fault>
-        requires { (self.old.refusals < self.old.commands) × (length self.old.tray < self.old.commands) }
-        ensures { IfOk result (λ text. (rs : List Receipt) × Gained seat.old seat.new rs × AnswersAsked self.old asked rs self.new text.items) }
+        requires time { IsInTime seat.old }
+        requires few { (self.old.refusals < self.old.commands) × (length self.old.tray < self.old.commands) }
+        ensures { IfOk result (λ text. Answered seat.old seat.new self.old (AskedCase.Call event) self.new text.items) }
     {
+        match desk.call(rt, seat, event) {
+            Ok(reply) => self.tell(reply),
+            Err((_, fault)) => Err(fault),
+        }
+    }
+
+    /// Answers by a look of the seat, which waits for nobody.
+    fn answer_look<L: Office>(
+        &mut self,
+        desk: &Desk<L>,
+        seat: Seat<L>,
+        key: KeyName,
+        spot: Spot,
+    ) -> Result<(Seat<L>, Vec<u8>), Fault>
+        requires time { IsInTime seat }
+        requires few { self.old.refusals < self.old.commands }
+        ensures { IfOk result (λ p. Answered seat p.0 self.old (AskedCase.Look key spot) self.new p.1.items) }
+    {
+        match View::new(desk).look(seat, key, spot) {
+            Ok(held) => {
+                let text = look_text(self.alloc(), &held.look());
+                Ok((held.end(), text?))
+            }
+            Err((seat, fault)) => {
+                if is_unmet(fault) {
+                    return Err(fault);
+                }
+                Ok((seat, self.refuse(fault)?))
+            }
+        }
+    }
+
+    /// Answers what is asked for, by at most one call of the seat, or by a look of it.
+    fn answer_asked<L: Office, R: Wait>(
+        &mut self,
+        rt: &R,
+        desk: &Desk<L>,
+        seat: Seat<L>,
+        asked: Asked,
+    ) -> Result<(Seat<L>, Vec<u8>), Fault>
+        requires time { IsInTime seat }
+        requires few { (self.old.refusals < self.old.commands) × (length self.old.tray < self.old.commands) }
+        ensures { IfOk result (λ p. Answered seat p.0 self.old asked self.new p.1.items) }
+    {
+        let mut seat = seat;
         match asked {
-            Asked::Call(event) => match desk.call(rt, seat, event) {
-                Ok(reply) => self.tell(reply),
-                Err((_, fault)) => Err(fault),
-            },
-            Asked::Faults => self.answer_faults(rt, desk, seat),
-            Asked::Refused(fault) => self.refuse(fault),
+            Asked::Call(event) => {
+                let text = self.answer_call(rt, desk, &mut seat, event)?;
+                Ok((seat, text))
+            }
+            Asked::Look(key, spot) => self.answer_look(desk, seat, key, spot),
+            Asked::Faults => {
+                let text = self.answer_faults(rt, desk, &mut seat)?;
+                Ok((seat, text))
+            }
+            Asked::Refused(fault) => Ok((seat, self.refuse(fault)?)),
         }
     }
 
@@ -252,42 +337,47 @@ impl Player {
         &mut self,
         rt: &R,
         desk: &Desk<L>,
-        seat: &mut Seat<L>,
+        seat: Seat<L>,
         line: &[u8],
-    ) -> Result<Vec<u8>, Fault>
-        requires { self.old.commands < 2 ^ 62 }
-        ensures { IfOk result (λ text. (rs : List Receipt) × Gained seat.old seat.new rs × Answers self.old line.now rs self.new text.items) }
+    ) -> Result<(Seat<L>, Vec<u8>), Fault>
+        requires time { IsInTime seat }
+        requires few { self.old.commands < 2 ^ 62 }
+        ensures { IfOk result (λ p. HasAnswered seat p.0 self.old line.now self.new p.1.items) }
     {
-        if line.is_empty() || line[0] == b'#' {
-            return Ok(Vec::new(self.alloc()));
+        if is_skipped(line) {
+            return Ok((seat, Vec::new(self.alloc())));
         }
         self.count();
         if is_overlong(line) {
-            return self.refuse(Fault::Syntax(MAX_LINE as u64 + 1));
+            let text = self.refuse(Fault::Syntax(MAX_LINE as u64 + 1))?;
+            return Ok((seat, text));
         }
         let asked = self.asked_by_line(line)?;
         self.answer_asked(rt, desk, seat, asked)
     }
 
-    /// Answers the lines of a part, one after another.
+    /// Answers the lines of a part, one after another. The seat comes back, but where a fault ends the part.
     pub(crate) fn play<L: Office, R: Wait>(
         &mut self,
         rt: &R,
         desk: &Desk<L>,
-        seat: &mut Seat<L>,
+        seat: Seat<L>,
         part: &Part,
-    ) -> Result<Vec<u8>, Fault>
+    ) -> Result<(Seat<L>, Vec<u8>), Fault>
         requires few { length part.now < 2 ^ 62 }
         requires fresh { self.old ≡ empty_hand }
-        ensures text { IfOk result (λ text. (rs : List Receipt) × Gained seat.old seat.new rs × Plays empty_hand part.now rs self.new text.items) }
+        requires time { IsInTime seat }
+        ensures played { IfOk result (λ p. HasPlayed seat p.0 part.now self.new p.1.items) }
         ensures count { OnOk result (self.new.commands ≤ length part.now) }
     {
+        let mut seat = seat;
         let mut text = Vec::new(self.alloc());
         let lines = part.lines();
         for line in lines {
-            let reply = self.answer(rt, desk, seat, line.as_slice())?;
+            let (next, reply) = self.answer(rt, desk, seat, line.as_slice())?;
+            seat = next;
             text.extend_from_slice(reply.as_slice())?;
         }
-        Ok(text)
+        Ok((seat, text))
     }
 }

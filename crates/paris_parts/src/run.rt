@@ -8,22 +8,25 @@ ghost use Rattle.paris_desk.specs.declared.limits.TheConstants.{MAX_HISTORY, MAX
 ghost use Rattle.paris_names.specs.declared.limits.TheConstants.{MAX_WORKERS};
 ghost use Rattle.paris_session.specs.declared.run.RunFault.TheVariants as RunCase;
 ghost use Rattle.paris_session.specs.Run.{most_reads};
-ghost use Rattle.paris_desk.specs.Closing.{by_number};
-ghost use Rattle.paris_desk.specs.History.{Legal, state_of};
+ghost use mathlib.Core.List.{IsPrefix};
+ghost use Rattle.paris_desk.specs.Closing.{by_number, past_of};
+ghost use Rattle.paris_desk.specs.Agreement.{Agree, list_of};
+ghost use Rattle.paris_desk.specs.History.{state_of};
+ghost use Rattle.paris_desk.specs.Receipts.{receipts_in};
 ghost use Rattle.paris_desk.specs.Seats.{fresh};
-ghost use Rattle.paris_parts.specs.Jobs.{Doing, IsShort};
+ghost use Rattle.paris_parts.specs.Jobs.{AreDone, Doing, IsShort};
 ghost use Rattle.paris_parts.specs.declared.run.DeskRunFault.TheVariants as DeskCase;
-ghost use Rattle.paris_parts.specs.Run.{Concludes, EachDone, LeftBy, Plays, Runs};
+ghost use Rattle.paris_parts.specs.Run.{Concludes, LeftBy, Plays, Runs};
 ghost use Rattle.paris_parts.specs.Texts.{at_seat, commands_in, refusals_in};
 
-use crate::jobs::{Job, jobs_of, run_all};
+use crate::jobs::{Job, run_all};
 use crate::last::play_last;
 use crate::parts::{Part, parts_of};
 use crate::reading::read_all;
 use crate::texts::{closed_text, edits_in, parts_text};
 use paris_calls::{Tally, write_out};
 use paris_desk::{
-    CloseFault, Closed, Desk, MAX_HISTORY, MAX_SEATS, Office, Opening, Seat, audit, close,
+    Cause, CloseFault, Closed, Desk, MAX_HISTORY, MAX_SEATS, Office, Opening, Seat, audit, close,
 };
 use paris_exec::Gate;
 use paris_names::Fault;
@@ -42,7 +45,8 @@ pub enum DeskRunFault {
     Run(RunFault),
     /// There are fewer than three parts, or more sessions and workers than a desk has seats.
     Parts,
-    /// A call was not recorded: the history is full, or a seat was told of a longer one.
+    /// A call was not recorded, since the history is full or a seat was told of a longer one, or a seat met no history that it could
+    /// look at.
     Desk(Fault),
 }
 
@@ -128,12 +132,11 @@ fn play_parts<L: Office + Send + Sync, R: Threads + Wait + Sync, G: Gate + Sync>
     gate: &G,
 ) -> Result<Ended<L>, Fault>
     requires parts { All IsShort parts.now }
-    requires seats { (seats.items ≡ fresh count) × (count ≤ MAX_SEATS) × (length parts.now ≤ count) }
-    ensures done { IfOk result (λ ended. (ds : List Doing) × EachDone parts.now count ds × LeftBy ds (length parts.now) ended.seats.items ended.text.items ended.summary) }
+    requires seats { (seats.items ≡ fresh count) × (1 ≤ count) × (count ≤ MAX_SEATS) × (length parts.now ≤ count) }
+    ensures done { IfOk result (λ ended. (ds : List Doing) × AreDone parts.now (fresh count) ds × LeftBy ds (length parts.now) ended.seats.items ended.text.items ended.summary) }
     ensures few { IfOk result (λ ended. (ended.summary.commands < 2 ^ 62) × (ended.summary.refusals < 2 ^ 62)) }
 {
-    let mut jobs = jobs_of(alloc, seats)?;
-    run_all(rt, alloc, desk, jobs.as_mut_slice(), parts, gate)?;
+    let jobs = run_all(rt, alloc, desk, seats, parts, gate)?;
     let text = parts_text(alloc, jobs.as_slice(), parts.len())?;
     let summary = counted(jobs.as_slice(), parts.len());
     let seats = seats_of(alloc, jobs)?;
@@ -144,34 +147,46 @@ fn play_parts<L: Office + Send + Sync, R: Threads + Wait + Sync, G: Gate + Sync>
     })
 }
 
+/// The fault that ends a run whose desk is not closed.
+fn fault_of(cause: Cause) -> Fault {
+    match cause {
+        Cause::Ahead(_, _) | Cause::Missing(_) => Fault::NoEntry,
+        Cause::NoMemory => Fault::NoMemory,
+    }
+}
+
 /// Closes a desk, or ends it where that is refused.
-fn closed<L: Office>(desk: Desk<L>, seats: Vec<Seat<L>>) -> Result<Closed, AllocError>
-    ensures legal { IfOk result (λ closed. Legal closed.history.items × (closed.book ≡ state_of closed.history.items)) }
+fn closed<L: Office, R: Wait>(rt: &R, desk: Desk<L>, seats: Vec<Seat<L>>) -> Result<Closed, Fault>
+    ensures state { IfOk result (λ closed. closed.book ≡ state_of closed.history.items) }
+    ensures agree { IfOk result (λ closed. Agree closed.history.items (map (λ r. r.items) closed.receipts.items)) }
     ensures receipts { IfOk result (λ closed. map (λ r. r.items) closed.receipts.items ≡ by_number L.seats seats.items) }
+    ensures begins { IfOk result (λ closed. (n : ℕ) → n < L.seats → IsPrefix (past_of n seats.items) closed.history.items) }
+    ensures each { IfOk result (λ closed. (n : ℕ) → list_of (map (λ r. r.items) closed.receipts.items) n ≡ receipts_in n 0 closed.history.items) }
 {
-    match close(desk, seats) {
+    match close(rt, desk, seats) {
         Ok(closed) => Ok(closed),
         Err(fault) => {
             let CloseFault {
                 desk,
                 seats: _seats,
-                cause: _,
+                cause,
             } = fault;
-            desk.discard();
-            Err(AllocError)
+            desk.discard(rt);
+            Err(fault_of(cause))
         }
     }
 }
 
 /// Closes the desk, audits what it leaves, and plays the last part on the book that it leaves. What is written is added to what the
 /// parts wrote.
-fn conclude<L: Office, S: Settler>(
+fn conclude<L: Office, R: Wait, S: Settler>(
+    rt: &R,
     settler: &S,
     alloc: Global,
     desk: Desk<L>,
     ended: Ended<L>,
     last: &Part,
-) -> Result<Transcript, AllocError>
+) -> Result<Transcript, Fault>
     requires settler { S.can_settle settler.now }
     requires few { (length last.now < 2 ^ 62) × (ended.summary.commands < 2 ^ 62) × (ended.summary.refusals < 2 ^ 62) }
     ensures { IfOk result (λ t. Concludes L.seats ended.seats.items last.now ended.text.items t.text.items ended.summary t.summary) }
@@ -185,7 +200,7 @@ fn conclude<L: Office, S: Settler>(
         book,
         history,
         receipts,
-    } = closed(desk, seats)?;
+    } = closed(rt, desk, seats)?;
     let agree = audit(alloc, history.as_slice(), receipts.as_slice())?;
     let closing = closed_text(alloc, edits_in(history.as_slice()), agree)?;
     text.extend_from_slice(closing.as_slice())?;
@@ -209,19 +224,19 @@ fn play_all<L: Office + Send + Sync, R: Threads + Wait + Sync, S: Settler, G: Ga
     last: &Part,
     gate: &G,
 ) -> Result<Transcript, Fault>
-    requires opening { (opening.blank.name ≡ L.name) × (opening.blank.parts ≡ L.parts) }
+    requires opening { (opening.blank.name ≡ L.name) × (opening.blank.parts ≡ L.parts) × (opening.seen.book ≡ L.log) }
     requires seats { (seats ≡ L.parts) × (seats ≡ L.seats) }
-    requires few { (1 ≤ seats) × (seats ≤ MAX_SEATS) × (length parts.now ≤ seats) }
+    requires few { (1 ≤ seats) × (seats ≤ MAX_SEATS) × (1 ≤ length parts.now) × (length parts.now ≤ seats) }
     requires limit { (limit ≡ L.limit) × (limit ≤ MAX_HISTORY) }
     requires parts { All IsShort parts.now × IsShort last.now }
     requires settler { S.can_settle settler.now }
     ensures { IfOk result (λ t. Plays seats parts.now last.now t.text.items t.summary) }
 {
-    let (desk, all) = Desk::<L>::new(alloc, opening, seats, limit)?;
+    let (desk, all) = Desk::<L>::new(rt, alloc, opening, seats, limit)?;
     match play_parts(rt, alloc, &desk, all, seats, parts, gate) {
-        Ok(ended) => Ok(conclude(settler, alloc, desk, ended, last)?),
+        Ok(ended) => conclude(rt, settler, alloc, desk, ended, last),
         Err(fault) => {
-            desk.discard();
+            desk.discard(rt);
             Err(fault)
         }
     }
@@ -267,7 +282,7 @@ pub fn run_parts<R: Threads + Wait + Sync, S: Settler, G: Gate + Sync>(
 
 /// Runs the script in parts that the reader gives. It is read to its end first; its parts but the last are played at once by
 /// sessions of one desk, the first of them before the others, with so many workers beside them, and the last part is played on the
-/// book that they leave, settled. All is written at the end.
+/// book that they leave, settled. A `show` of any part but the last is a look, and no call. All is written at the end.
 pub fn run_sessions<H: Threads + Wait + Sync, S: Settler, R: Read, W: Write, G: Gate + Sync>(
     rt: &H,
     settler: &S,

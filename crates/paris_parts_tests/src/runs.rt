@@ -34,6 +34,7 @@ const ROWS: &[Row] = &[
         6,
         0,
     ),
+    (LOOKS, LOOKED, 10, 2),
     // A session settles nothing, and a cut is a line that says just its word.
     (
         b"# nothing\n\nsettle\nsession\nsession \nsession\nsettle\n",
@@ -42,6 +43,13 @@ const ROWS: &[Row] = &[
         2,
     ),
 ];
+
+/// Three calls and three looks, and then a call between two looks.
+const LOOKS: &[u8] =
+    b"set S 2\nfield a S 8\ninput a 0 7 9\nshow a start\nshow b end\nshow a after 9\nsession\nshow a end\ninput a 0 1 2\nshow a end\nsession\nshow a end\n";
+
+const LOOKED: &[u8] =
+    b"ok\nok\nok\nvalues 7 9\nrefused 7\nrefused 10\nsession 1\nvalues 7 9\nok\nvalues 1 2\nclose\nedits 4\naudit yes\nvalues 1 2\n";
 
 /// Two rows, neither of which reads what the other writes, and a session that does nothing.
 const TWO_ROWS: &[u8] =
@@ -87,6 +95,17 @@ fn independent_rows_are_executed_at_once(rt: HostRuntime) -> Result<(), Fail> {
     let gate = TwoAtOnce::new(&rt);
     writes(&rt, rt.alloc(), (TWO_ROWS, TWO_RESULTS, 7, 0), &gate);
     assert!(&rt; gate.has_let_two_through());
+    Ok(())
+}
+
+/// Looks are no calls: with a call of each worker, which finds nothing to do, the history has six entries.
+#[test]
+fn looks_are_not_recorded(rt: HostRuntime) -> Result<(), Fail> {
+    let transcript = run_parts(&rt, &Alone, rt.alloc(), LOOKS, WORKERS, 6, &OpenGate);
+    let text = transcript.map(|transcript| transcript.text);
+    assert!(&rt; matches!(text, Ok(text) if text.as_slice() == LOOKED));
+    let full = DeskRunFault::Desk(Fault::HistoryFull(5));
+    stops(&rt, rt.alloc(), LOOKS, 5, full);
     Ok(())
 }
 

@@ -121,26 +121,14 @@ impl<T> Program<T> {
     }
 }
 
-impl<T: Drop> Program<T> {
-    ghost use Rattle.std.specs.Fn.{FnReturnsAt};
-
-    /// A program with the same rows under the same ids, and the same next id. `copy` copies the data of a row: what it gives equals
-    /// its argument.
-    pub fn copy_with<F: Fn(&T) -> Result<T, AllocError>>(
-        &self,
-        copy: F,
-    ) -> Result<Program<T>, AllocError>
-        requires callable { F.IsAlwaysCallable copy }
-        requires equal { (row : T) (answer : _) → FnReturnsAt F.Fn copy row answer → IfOk answer (λ other. other ≡ row) }
+impl<T: Clone + Drop> Program<T> {
+    /// A program with the same rows under the same ids, and the same next id. What clones the data of a row gives equals.
+    pub fn copy(&self) -> Result<Program<T>, AllocError>
+        requires equal { (row copy : T) → T.is_clone row copy → copy ≡ row }
         ensures rows { IfOk result (λ program. program.rows ≡ self.now.rows) }
         ensures next_id { IfOk result (λ program. program.next_id ≡ self.now.next_id) }
     {
-        let mut rows = IndexMap::with_capacity(*self.rows.allocator(), self.rows.len())?;
-        for place in 0..self.rows.len() {
-            let (id, row) = self.at(place);
-            let data = copy(row)?;
-            rows.insert(id.0, data)?;
-        }
+        let rows = self.rows.clone()?;
         Ok(Program {
             rows,
             next_id: self.next_id,

@@ -7,7 +7,7 @@ use crate::common::Place::{Field, Flag};
 use crate::common::*;
 use paris_board::Board;
 use paris_depends::{Index, Looks, affected, origin};
-use paris_instr::Plan;
+use paris_instr::{Plan, SharedPlan};
 use paris_names::FlagName::{Context, Test};
 use paris_names::{Key, RowId, has_key};
 use paris_program::Program;
@@ -17,6 +17,7 @@ use std::process::Abort;
 /// Rows of plans, with an index of them.
 #[derive(Drop)]
 struct Rows {
+    alloc: Global,
     program: Program<Plan>,
     index: Index,
     ghost indexed: { footprints (λ p. p) program.rows ≡ index.rows },
@@ -25,6 +26,7 @@ struct Rows {
 impl Rows {
     fn new(alloc: Global) -> Rows {
         Rows {
+            alloc,
             program: Program::new(alloc),
             index: Index::new(alloc),
         }
@@ -45,6 +47,10 @@ impl Rows {
         assert!(rt; place <= self.program.len());
         assert!(rt; self.program.next_id().0 < 10000);
         let copy = plan.copy().ok().expect(rt, "there is memory");
+        let other = plan.copy().ok().expect(rt, "there is memory");
+        let shared = SharedPlan::new(self.alloc, other)
+            .ok()
+            .expect(rt, "there is memory");
         self.index.room(plan).ok().expect(rt, "there is memory");
         let id = self
             .program
@@ -52,7 +58,7 @@ impl Rows {
             .ok()
             .expect(rt, "there is memory");
         self.index
-            .add(&self.program, id, plan)
+            .add(&self.program, id, shared)
             .ok()
             .expect(rt, "there is room");
         id

@@ -2,7 +2,7 @@ use Rattle.std.proofs.Common.{refl, sym, ap, ◌∙◌, subst, take}
 use Rattle.paris_program.specs.Program.{Program}
 use Rattle.paris_book.specs.Entries.{ChangedAt}
 use Rattle.paris_book.specs.Marks.{ids_in, unsettled_by_ids, stale_data}
-use Rattle.paris_book.specs.declared.rows.RowData.{RowData}
+use Rattle.paris_book.specs.Rows.{RowData}
 use Rattle.paris_book.proofs.Unsettling.{unsettled_none, ids_more, unsettle_more, unsettle_none}
 use Rattle.paris_book.proofs.marks.unsettle_all.Goals as goal
 use Rattle.paris_book.proofs.marks.unsettle_all.Goals.{in-Some, in_default}

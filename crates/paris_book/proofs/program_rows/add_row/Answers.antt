@@ -1,6 +1,10 @@
-use Rattle.std.proofs.Common.{◌≡◌, true, false, refl, sym, subst}
-use Rattle.std.specs.Prelude.{IsSome}
+use Rattle.std.proofs.Common.{refl, sym, ap, ◌∙◌, subst}
+use Rattle.std.specs.Prelude.{IsSome, insert}
+use Rattle.paris_model.specs.Instructions.{Plan}
+use Rattle.paris_program.specs.Program.{place_in}
+use Rattle.paris_depends.specs.Index.{footprint}
 use Rattle.paris_book.specs.Marks.{data_plan}
+use Rattle.paris_book.specs.SharedIndexes.{indexed_in}
 use Rattle.paris_book.proofs.Indexing.{place_found, others_ids, added_all}
 use Rattle.paris_book.proofs.program_rows.add_row.Goals as goal
 
@@ -10,13 +14,11 @@ add-requires-clause-there c =
 
 pub add-requires-clause-others : goal.add-requires-clause-others
 add-requires-clause-others c =
-    others_ids data_plan c.args.program.now.rows c.args.index.now.rows c.args.place (c.at.result.0.0, c.at.result.1.now) c.at.ensures.sound.distinct c.at.ensures.value c.requires.others
-
-pub unreachable-requires : goal.unreachable-requires
-unreachable-requires c =
-    let wrong : false ≡ true = c.in-Err.ensures.succeeds (c.requires.room (c.at.result.0.0, c.at.result.1.now) c.at.ensures.value) in
-    cc
+    others_ids data_plan c.args.program.now.rows (indexed_in c.args.index.now) c.args.place (c.at.result.0.0, c.at.result.1.now) c.at.ensures.sound.distinct c.at.ensures.value c.requires.others
 
 pub returns : goal.returns
 returns c =
-    added_all data_plan c.args.program.now.rows c.args.index.now.rows c.add.new.self.rows c.args.place (c.at.result.0.0, c.at.result.1.now) c.at.ensures.sound.distinct c.at.ensures.value c.requires.others c.in-Ok.ensures.ok
+    let rows = c.args.program.now.rows in
+    let id = c.at.result.0.0 in
+    let is = c.add.ensures ∙ ap (λ (p : Plan). insert (indexed_in c.args.index.now) (place_in rows id) (id, footprint p)) (sym (c.requires.plan (id, c.at.result.1.now) c.at.ensures.value)) in
+    added_all data_plan rows (indexed_in c.args.index.now) (indexed_in c.add.new.self) c.args.place (id, c.at.result.1.now) c.at.ensures.sound.distinct c.at.ensures.value c.requires.others is

@@ -1,5 +1,7 @@
-use Rattle.std.proofs.Common.{◌≡◌, ◌+◌, ◌≤◌, ℕ, length, map, vec_len, vec_capacity, sum_by}
-use Rattle.paris_desk.specs.Closing.{by_number, has_seat, receipts_of}
+use Rattle.std.proofs.Common.{◌≡◌, ◌+◌, ◌<◌, ◌≤◌, ℕ, length, map, vec_len, vec_capacity, sum_by}
+use mathlib.Core.List.{IsPrefix}
+use Rattle.paris_desk.specs.Closing.{by_number, has_seat, past_of, receipts_of}
+use Rattle.paris_desk.specs.Receipts.{IsPart}
 use Rattle.paris_desk.proofs.closing.gather.Given as goal
 
 abbrev pub invariant-loop-number : goal.invariant-loop-number
@@ -10,4 +12,6 @@ invariant-loop-number g l =
     × (l.count ≤ vec_capacity l.receipts)
     × (vec_len l.receipts ≡ l.number)
     × (length l.left.items + l.number ≡ length l.fn.seats.items)
-    × ((n : ℕ) → l.number ≤ n → (has_seat n l.left.items ≡ has_seat n l.fn.seats.items) × (receipts_of n l.left.items ≡ receipts_of n l.fn.seats.items))
+    × ((n : ℕ) → l.number ≤ n → (has_seat n l.left.items ≡ has_seat n l.fn.seats.items) × (receipts_of n l.left.items ≡ receipts_of n l.fn.seats.items) × (past_of n l.left.items ≡ past_of n l.fn.seats.items))
+    × ((n : ℕ) → n < l.number → IsPrefix (past_of n l.fn.seats.items) l.known)
+    × ((n : ℕ) → n < l.number → IsPart n 0 (receipts_of n l.fn.seats.items) l.known)

@@ -21,3 +21,15 @@ returns-clause-others g c n ne =
     let at = ap (λ (ss : List Sitting). position (λ (s : Sitting). s.number == c.args.number) ss) c.as_slice.ensures.value in
     let f = found c.args.number c.in-Some.place c.args.seats.now.items c.requires (sym at ∙ sym c.place_of.ensures ∙ c.in-Some.is) in
     rw c.remove.ensures.items (f.others n ne)
+
+pub returns-clause-number : goal.returns-clause-number
+returns-clause-number g c =
+    let at = ap (λ (ss : List Sitting). position (λ (s : Sitting). s.number == c.args.number) ss) c.as_slice.ensures.value in
+    let f = found c.args.number c.in-Some.place c.args.seats.now.items c.requires (sym at ∙ sym c.place_of.ensures ∙ c.in-Some.is) in
+    ap (λ (s : Sitting). s.number) c.remove.ensures.value ∙ f.number c.remove.result
+
+pub returns-clause-past : goal.returns-clause-past
+returns-clause-past g c =
+    let at = ap (λ (ss : List Sitting). position (λ (s : Sitting). s.number == c.args.number) ss) c.as_slice.ensures.value in
+    let f = found c.args.number c.in-Some.place c.args.seats.now.items c.requires (sym at ∙ sym c.place_of.ensures ∙ c.in-Some.is) in
+    ap (λ (s : Sitting). s.past) c.remove.ensures.value ∙ f.past c.remove.result

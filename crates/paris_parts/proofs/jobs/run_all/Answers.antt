@@ -1,20 +1,31 @@
-use Rattle.std.proofs.Common.{◌≡◌, None, List, ◌∷◌, length, ap, sym, subst, arith}
+use Rattle.std.proofs.Common.{◌≡◌, List, ◌∷◌, ◌++◌, Ok, drop, length, take, sym, ap, ◌∙◌, subst}
+use Rattle.std.specs.Prelude.{Result, IfOk}
 use Rattle.std.specs.List.{All}
-use Rattle.paris_parts.specs.Jobs.{AreDone, Doing}
-use Rattle.paris_parts.proofs.Doings.{are_done}
+use Rattle.paris_names.specs.declared.faults.Fault.{Fault}
+use Rattle.paris_desk.specs.Seats.{Sitting}
+use Rattle.paris_parts.specs.Jobs.{AreTold, Doing, HasRun, IsNew}
+use Rattle.paris_parts.specs.Seeing.{IsInTime}
+use Rattle.paris_parts.proofs.Doings.{all_done, are_done, first_seat, new_rest, told_all_in_time}
+use Rattle.paris_parts.proofs.Runs.{written_back}
 use Rattle.paris_parts.proofs.jobs.run_all.Goals as goal
-use Rattle.paris_parts.proofs.jobs.run_all.Goals.{in-Some+in_default-fault, in_default}
+
+pub run_at_once-requires-clause-time : goal.run_at_once-requires-clause-time
+run_at_once-requires-clause-time g c κs within =
+    let new = subst (All IsNew) (sym c.remove.ensures.items) (new_rest c.args.seats.items c.requires.seats.1) in
+    subst (All (λ (job : Result Doing Fault). IfOk job (λ begun. IsInTime begun.seat))) (sym c.as_mut_slice.ensures.value)
+    (told_all_in_time c.first.inside.seat c.remove.new.self.items c.in_ok-others.others.items new c.in_ok-others.ensures)
 
 pub returns-in-None : goal.returns-in-None
 returns-in-None g c =
     let parts = c.args.parts.now in
-    let after : List Doing = c.match-split_first_mut.jobs in
-    elim c.match-split_first_mut.branch [
-      | in-Some+in_default-fault w ↦
-          (let first : Doing = w.in-Some.first.now in
-          let none = subst (λ (ds : List Doing). All (λ (d : Doing). d.fault ≡ None) ds) w.jobs-is c.in-None.ensures in
-          let done = are_done parts first w.run.new.self w.in-Some.others.now w.run_at_once.new.jobs w.run.ensures w.run_at_once.auto.jobs w.run_at_once.ensures none in
-          subst (λ (ds : List Doing). AreDone parts ds after) (sym w.in-Some.ensures.cases.0)
-          (subst (λ (ds : List Doing). AreDone parts (first ∷ w.in-Some.others.now) ds) (sym w.jobs-is) done))
-      | in_default w ↦ (ap length w.jobs-is, λ i d less. absurd (omega (arith, less, w.in_default.ensures.cases)))
-    ]
+    let first : Doing = c.in_ok-first.first in
+    let jobs : List (Result Doing Fault) = c.run_at_once.new.jobs in
+    let are = first_seat c.args.seats.items c.remove.new.self.items c.remove.result c.requires.seats.0 c.remove.ensures.value c.remove.ensures.items in
+    let run : HasRun parts c.remove.result first = subst (λ (b : Doing). HasRun parts b.seat first) c.new.ensures c.in_ok-first.ensures in
+    let told : AreTold first.seat c.remove.new.self.items c.as_mut_slice.result.now =
+    subst (AreTold first.seat c.remove.new.self.items) (sym c.as_mut_slice.ensures.value)
+    (subst (λ (s : Sitting). AreTold s c.remove.new.self.items c.in_ok-others.others.items) (ap (λ (d : Doing). d.seat) c.first.view_is) c.in_ok-others.ensures) in
+    let back = written_back c.in_ok-others.others.len jobs c.in_ok-others.others.items (c.run_at_once.ensures.len ∙ c.as_mut_slice.ensures.len) in
+    all_done parts c.args.seats.items _ _ c.together.result c.together.ensures
+    (λ ds same. are_done parts c.args.seats.items c.remove.new.self.items c.remove.result first c.as_mut_slice.result.now jobs ds are run told c.run_at_once.ensures.each
+    c.run_at_once.ensures.len (same ∙ (λ i. Ok first ∷ back i)))

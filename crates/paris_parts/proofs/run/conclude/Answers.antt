@@ -1,4 +1,4 @@
-use Rattle.std.proofs.Common.{◌≡◌, true, ap, ◌∙◌, refl, subst, arith, map, ℕ, List, ◌++◌, Vec, Global}
+use Rattle.std.proofs.Common.{◌≡◌, true, ap, ◌∙◌, sym, refl, subst, arith, map, ℕ, List, ◌++◌, Vec, Global}
 use Rattle.std.specs.Prelude.{◌↔◌}
 use Rattle.paris_desk.specs.Agreement.{Agree}
 use Rattle.paris_desk.specs.declared.records.Entry.{Entry}
@@ -18,11 +18,13 @@ returns g c =
     let left = c.in_ok-book.field-0 in
     let history : List Entry = left.history.items in
     let receipts : List (List Receipt) = map (λ (r : Vec Receipt Global). r.items) left.receipts.items in
-    let audit : (c.in_ok-agree.agree ≡ true) ↔ Agree history receipts =
-    subst (λ (h : List Entry). (c.in_ok-agree.agree ≡ true) ↔ Agree h receipts) c.as_slice.ensures.value
-    (subst (λ (rs : List (Vec Receipt Global)). (c.in_ok-agree.agree ≡ true) ↔ Agree c.as_slice.result.now (map (λ (r : Vec Receipt Global). r.items) rs)) c.as_slice-2.ensures.value c.in_ok-agree.ensures) in
+    let agreed : Agree history receipts = c.in_ok-book.ensures.agree in
+    let told : Agree c.as_slice.result.now (map (λ (r : Vec Receipt Global). r.items) c.as_slice-2.result.now) =
+    subst (λ (rs : List (Vec Receipt Global)). Agree c.as_slice.result.now (map (λ (r : Vec Receipt Global). r.items) rs)) (sym c.as_slice-2.ensures.value)
+    (subst (λ (h : List Entry). Agree h receipts) (sym c.as_slice.ensures.value) agreed) in
+    let yes : c.in_ok-agree.agree ≡ true = c.in_ok-agree.ensures.1 told in
     let count = c.edits_in.ensures ∙ ap edits_in c.as_slice-3.ensures.value in
     let first = c.in_ok-extend_from_slice.ensures.items ∙ ap (λ (l : List ℕ). c.args.ended.text.items ++ l) c.as_slice-4.ensures.value in
     concludes g.L.Office.seats c.args.ended.seats.items c.args.last.now c.args.ended.text.items c.extend_from_slice.new.self.items c.play_last.new.text.items
     c.in_ok-closing.closing.items history left.book receipts c.in_ok-agree.agree c.edits_in.result c.args.ended.summary _ c.in_ok-rest.rest
-    c.in_ok-book.ensures.legal.0 c.in_ok-book.ensures.legal.1 c.in_ok-book.ensures.receipts audit count c.in_ok-closing.ensures first c.in_ok-rest.ensures.text c.in_ok-rest.ensures.count refl refl
+    c.in_ok-book.ensures.state c.in_ok-book.ensures.receipts agreed c.in_ok-book.ensures.begins c.in_ok-book.ensures.each yes count c.in_ok-closing.ensures first c.in_ok-rest.ensures.text c.in_ok-rest.ensures.count refl refl

@@ -14,7 +14,7 @@ use Rattle.paris_book.proofs.book.Book.insert_plan.Goals as goal
 rows_are : (c : goal.After-drop-ids-2) → c.end_edit.new.rows.rows ≡ inserted_rows c.self.inside.edits c.self.inside.rows.next_id c.self.inside.rows.rows c.args.place c.args.plan
 rows_are c =
     insert_rows c.self.inside.edits c.self.inside.rows.next_id c.args.place c.args.plan c.self.inside.rows.rows c.insert_at.new.self.rows c.end_edit.new.rows.rows (ids_in c.in_ok-ids.ids.items)
-    (c.in_ok-id.ensures.ok.1 ∙ ap (λ d. insert c.self.inside.rows.rows c.args.place (c.self.inside.rows.next_id, d)) c.fresh_row.ensures)
+    (c.in_ok-id.ensures.ok.1 ∙ ap (λ d. insert c.self.inside.rows.rows c.args.place (c.self.inside.rows.next_id, d)) c.in_ok-row.ensures)
     c.end_edit.ensures.sound.distinct
     (c.in_ok-ids.ensures ∙ ap (λ ks. touched data_plan (has_key ks) (drop c.args.place c.self.inside.rows.rows)) c.writes.ensures)
     (c.end_edit.ensures.rows ∙ ap (λ js. unsettled_by_ids (c.self.inside.edits + 1) (ids_in js) c.insert_at.new.self.rows) c.as_slice.ensures.value)

@@ -39,8 +39,8 @@ rows_are c =
     replace_rows c.self.inside.edits t.place c.args.id.0 (writes_either t.row.plan c.args.plan) c.args.plan t.row c.self.inside.rows.rows c.replace.new.self.rows c.end_edit.new.rows.rows (ids_in c.in_ok-ids.ids.items)
     t.at
     (c.in_ok-replace.ensures.ok
-    ∙ ap (λ k. with_row c.self.inside.rows.rows k c.fresh_row.result) (target_place c.self.inside.rows.rows (find_row c.args.self.now c.args.id) c.args.id.0 c.args.below t)
-    ∙ ap (with_row c.self.inside.rows.rows t.place) c.fresh_row.ensures)
+    ∙ ap (λ k. with_row c.self.inside.rows.rows k c.in_ok-row.row) (target_place c.self.inside.rows.rows (find_row c.args.self.now c.args.id) c.args.id.0 c.args.below t)
+    ∙ ap (with_row c.self.inside.rows.rows t.place) c.in_ok-row.ensures)
     c.end_edit.ensures.sound.distinct
     (c.in_ok-ids.ensures t.row t.by_id ∙ ap (λ k. touched data_plan (writes_either t.row.plan c.args.plan) (drop k c.self.inside.rows.rows)) t.just_below)
     (c.end_edit.ensures.rows ∙ ap (λ js. unsettled_by_ids (c.self.inside.edits + 1) (ids_in js) c.replace.new.self.rows) c.as_slice.ensures.value)

@@ -3,10 +3,11 @@ use Rattle.std.specs.Prelude.{insert}
 use Rattle.std.proofs.lemmas.List.Edits.{length-insert}
 use Rattle.paris_program.specs.Program.{Program}
 use Rattle.paris_model.specs.Instructions.{Plan}
-use Rattle.paris_depends.specs.Index.{HasRoom, footprint}
+use Rattle.paris_depends.specs.Index.{footprint}
 use Rattle.paris_book.specs.Entries.{Entry}
 use Rattle.paris_book.specs.Marks.{data_plan}
-use Rattle.paris_book.specs.declared.rows.RowData.{RowData}
+use Rattle.paris_book.specs.Rows.{RowData}
+use Rattle.paris_book.specs.SharedIndexes.{HasOwnRoom}
 use Rattle.paris_book.proofs.Indexing.{put_others, put_plan, standing_put}
 use Rattle.paris_book.proofs.program_rows.Rows.insert_at.Goals as goal
 
@@ -22,6 +23,13 @@ row c = (c.room.new.self.next_id, c.args.row)
 put : (c : goal.After-add_row-arg-in-Ok-1) → c.insert_at.new.self.rows ≡ insert c.self.inside.program.rows c.args.place (row c)
 put c = c.in-Ok.ensures.ok.1 ∙ ap (λ l. insert l c.args.place (row c)) c.in_ok-room.ensures.rows
 
+pub insert_at-requires-clause-place : goal.insert_at-requires-clause-place
+insert_at-requires-clause-place c =
+    let same : length c.self.inside.program.rows ≡ length c.args.self.now.rows = ap (λ (p : Program RowData). length p.rows) c.self.view_is in
+    let more = ap length c.in_ok-room.ensures.rows in
+    let place = c.requires.place in
+    omega (arith, same, more, place)
+
 pub add_row-requires-clause-there : goal.add_row-requires-clause-there
 add_row-requires-clause-there c =
     let place = within c in
@@ -30,11 +38,14 @@ add_row-requires-clause-there c =
 
 pub add_row-requires-clause-others : goal.add_row-requires-clause-others
 add_row-requires-clause-others c =
-    put_others data_plan c.self.inside.program.rows c.insert_at.new.self.rows c.args.place (row c) (within c) (put c) ∙ c.self.invariant.indexed ∙ sym c.in_ok-room-2.ensures.rows
+    put_others data_plan c.self.inside.program.rows c.insert_at.new.self.rows c.args.place (row c) (within c) (put c) ∙ c.self.invariant.indexed ∙ sym (c.in_ok-room-2.ensures.rows ∙ c.in_ok-own.ensures.rows)
+
+pub add_row-requires-clause-plan : goal.add_row-requires-clause-plan
+add_row-requires-clause-plan c = λ e at.
+    sym (put_plan data_plan c.self.inside.program.rows c.insert_at.new.self.rows c.args.place (row c) e (within c) (put c) at) ∙ sym c.in_ok-plan.ensures
 
 pub add_row-requires-clause-room : goal.add_row-requires-clause-room
-add_row-requires-clause-room c = λ e at.
-    subst (λ (p : Plan). HasRoom c.room-2.new.self.room (footprint p)) (put_plan data_plan c.self.inside.program.rows c.insert_at.new.self.rows c.args.place (row c) e (within c) (put c) at) c.in_ok-room-2.ensures.ok
+add_row-requires-clause-room c = subst (λ (p : Plan). HasOwnRoom c.room-2.new.self (footprint p)) c.get.ensures c.in_ok-room-2.ensures.ok
 
 pub invariant_of-self-in-Ok : goal.invariant_of-self-in-Ok
 invariant_of-self-in-Ok c =
@@ -46,8 +57,9 @@ invariant_of-self-in-Ok c =
     let is : c.insert_at.new.self.rows ≡ insert rows c.args.place e = c.in-Ok.ensures.ok.1 ∙ ap (λ l. insert l c.args.place e) c.in_ok-room.ensures.rows in
     let long = ap length is ∙ length-insert rows c.args.place e (omega (arith, same, place)) in
     record {
-      indexed = c.add_row.ensures;
+      indexed = c.add_row.ensures ∙ sym c.share.ensures;
       few = omega (arith, same, fewer, long);
       standing = standing_put rows c.insert_at.new.self.rows c.self.inside.statuses c.args.place e c.self.invariant.standing is
+          ∙ ap (insert c.self.inside.statuses c.args.place) (sym c.status.ensures)
           ∙ sym c.in_ok-insert.ensures.ok;
     }

@@ -1,5 +1,7 @@
 use Rattle.std.proofs.Common.{ap}
-use Rattle.paris_book.specs.declared.rows.RowData.{RowData}
+use Rattle.paris_program.specs.Program.{id_at}
+use Rattle.paris_book.specs.Rows.{RowData}
+use Rattle.paris_book.specs.SharedIndexes.{indexed_in}
 use Rattle.paris_book.proofs.Indexing.{still_indexed}
 use Rattle.paris_book.specs.Marks.{kept_data}
 use Rattle.paris_book.proofs.Entering.{data_changed}
@@ -7,7 +9,10 @@ use Rattle.paris_book.proofs.program_rows.Rows.keep.Goals as goal
 
 pub invariant_of-self : goal.invariant_of-self
 invariant_of-self c =
-    rw c.set.ensures (still_indexed c.self.inside.program.rows c.self.inside.index.rows c.self.inside.statuses c.args.place c.at_mut-row.result.now c.keep.new.self c.self.invariant c.at_mut-row.ensures.value (ap (λ (row : RowData). row.plan) c.keep.ensures))
+    rw (c.set.ensures, c.status.ensures) (still_indexed c.self.inside.program.rows (indexed_in c.self.inside.index) c.self.inside.statuses c.args.place c.at_mut-row.result.now c.keep.new.self c.self.invariant c.at_mut-row.ensures.value (ap (λ (row : RowData). row.plan) c.keep.ensures))
 
 pub returns-clause-rows : goal.returns-clause-rows
 returns-clause-rows c = rw (← c.self.view_is) (λ e at. data_changed (kept_data c.args.done) c.self.inside.program.rows c.args.place c.at_mut-row.result.now c.keep.new.self e c.at_mut-row.ensures.value at c.keep.ensures)
+
+pub keep-requires : goal.keep-requires
+keep-requires c = c.requires.plan (id_at c.self.inside.program.rows c.args.place, c.at_mut-row.result.now) (rw (← c.self.view_is) c.at_mut-row.ensures.value)

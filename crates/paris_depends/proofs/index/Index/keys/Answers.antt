@@ -1,5 +1,4 @@
 use Rattle.std.proofs.Common.{length, arith, ap, sym}
-use Rattle.paris_depends.specs.Index.{Footprint}
 use Rattle.paris_depends.specs.IndexInside.{IsRow}
 use Rattle.paris_depends.proofs.Found.{holds_of_found}
 use Rattle.paris_depends.proofs.index.Index.keys.Goals as goal
@@ -7,5 +6,5 @@ use Rattle.paris_depends.proofs.index.Index.keys.Goals as goal
 pub returns-clause-few : goal.returns-clause-few
 returns-clause-few c =
     let sound = holds_of_found IsRow c.self.inside.rows.entries c.args.id.0 c.in-Some.row.now c.self.invariant.sound (sym c.in-Some.ensures.value) in
-    let same = ap (λ (f : Footprint). length f.written) c.row.view_is in
-    omega (arith, c.len.ensures, same, sound.few)
+    let same = ap length c.written.ensures in
+    omega (arith, same, sound.few)

@@ -20,6 +20,4 @@ invariant_of-self c =
       writers = λ k. c.take_all_out.ensures.ids k ∙ ap (λ (rows : List (ℕ × Footprint)). writers rows k) left;
       readers = λ k. c.take_all_out-2.ensures.ids k ∙ ap (λ (rows : List (ℕ × Footprint)). readers rows k) left;
       sound = subst (λ (rows : List (ℕ × Footprint)). AllByRecursion (λ (r : ℕ × Footprint). IsRow r.1) rows) left (all-remove (λ (r : ℕ × Footprint). IsRow r.1) c.self.inside.rows.entries c.unwrap-place.result c.self.invariant.sound);
-      no_written = c.self.invariant.no_written;
-      no_read = c.self.invariant.no_read;
     }

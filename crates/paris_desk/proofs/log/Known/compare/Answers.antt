@@ -1,0 +1,11 @@
+use Rattle.std.proofs.Common.{ap, subst, List}
+use mathlib.Core.List.{IsPrefix}
+use Rattle.paris_desk.specs.declared.records.Entry.{Entry}
+use Rattle.paris_desk.proofs.Prefixes.{prefix_shorter}
+use Rattle.paris_desk.proofs.log.Known.compare.Goals as goal
+
+pub returns : goal.returns
+returns g c =
+    let both = c.learn.new.self.log in
+    let this : IsPrefix c.self.inside.seen.log both = subst (λ (l : List Entry). IsPrefix l both) (ap (λ s. s.log) c.again-both.ensures) c.learn.ensures.2 in
+    rw (← c.self.view_is, ← c.other.view_is) (prefix_shorter c.self.inside.seen.log c.other.inside.seen.log both this c.learn.ensures.3)

@@ -1,0 +1,7 @@
+use Rattle.std.proofs.Common.{◌≡◌, drop}
+use Rattle.paris_desk.proofs.publishing.publish_pending.Given as goal
+
+abbrev pub invariant-loop : goal.invariant-loop
+invariant-loop g l =
+    (goal.iterator-loop g).can_next l.iterator' × (goal.iterator-loop g).is_finite l.iterator'
+    × (l.writer.desk.shown.value ≡ l.fn.start.desk.shown.value) × (drop l.writer.behind l.writer.log.items ≡ drop l.fn.start.behind l.fn.start.log.items)

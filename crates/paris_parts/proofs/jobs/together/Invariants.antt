@@ -1,0 +1,11 @@
+-- The jobs so far, and those that are left, are all jobs.
+use Rattle.std.proofs.Common.{◌≡◌, ◌++◌, ◌∷◌, Ok, map}
+use Rattle.std.specs.Vec.Iter.{into_iter_items}
+use Rattle.paris_parts.proofs.jobs.together.Given as goal
+
+abbrev pub invariant-loop-job : goal.invariant-loop-job
+invariant-loop-job g l = record {
+  can_next : (goal.iterator-loop-job g).can_next l.job-iterator;
+  is_finite : (goal.iterator-loop-job g).is_finite l.job-iterator;
+  jobs : map Ok l.jobs.items ++ into_iter_items l.job-iterator ≡ Ok l.fn.first ∷ l.fn.others.items;
+}

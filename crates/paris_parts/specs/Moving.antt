@@ -1,0 +1,38 @@
+-- What the player of a part does with its seat.
+use Rattle.std.specs.Prelude.{◌≡◌, ◌<◌, ◌≤◌, ℕ, Bool, true, false, List, length}
+use Rattle.std.specs.List.{All}
+use mathlib.Core.List.{IsPrefix}
+use Rattle.paris_names.specs.declared.faults.Fault.{Fault}
+use Rattle.paris_names.specs.declared.faults.Fault.TheVariants.{StrangeSeat, NoEntry}
+use Rattle.paris_desk.specs.declared.records.Receipt.{Receipt}
+use Rattle.paris_desk.specs.Seats.{Sitting}
+use Rattle.paris_desk.specs.Work.{Gained}
+use Rattle.paris_parts.specs.declared.asked.Asked.{Asked}
+use Rattle.paris_parts.specs.Hands.{Hand, Answers, AnswersAsked, Plays, empty_hand}
+use Rattle.paris_parts.specs.Seeing.{Glimpses, IsInTime}
+
+-- whether a fault says that a seat met no history that it could look at
+abbrev pub is_unmet : Fault → Bool
+is_unmet NoEntry = true
+is_unmet (StrangeSeat f l) = true
+is_unmet _ = false
+
+-- from a seat to the next there are these receipts more, of entries behind those that it was told of, and its past has grown
+pub record Moves (s s' : Sitting) (rs : List Receipt) : Type 0 where
+  pub gained : Gained s s' rs
+  pub begins : IsPrefix s.past s'.past
+  pub front : s.front ≤ s'.front
+  pub late : All (λ (r : Receipt). s.front < r.number) rs
+  pub time : IsInTime s'
+
+-- what is asked for is answered at a seat
+abbrev pub Answered : Sitting → Sitting → Hand → Asked → Hand → List ℕ → Type 0
+Answered s s' h asked h' text = (rs : List Receipt) × Moves s s' rs × AnswersAsked (Glimpses s.past s' s.receipts) h asked rs h' text
+
+-- a line is answered at a seat
+abbrev pub HasAnswered : Sitting → Sitting → Hand → List ℕ → Hand → List ℕ → Type 0
+HasAnswered s s' h line h' text = (rs : List Receipt) × Moves s s' rs × Answers (Glimpses s.past s' s.receipts) h line rs h' text
+
+-- lines are answered at a seat, one after another
+abbrev pub HasPlayed : Sitting → Sitting → List (List ℕ) → Hand → List ℕ → Type 0
+HasPlayed s s' lines h text = (rs : List Receipt) × Moves s s' rs × Plays (Glimpses s.past s') s.receipts empty_hand lines rs h text
