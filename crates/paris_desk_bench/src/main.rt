@@ -1,4 +1,5 @@
-//! Measures what calls of a desk take, beside those of a book, and what seats gain by threads. Without words it says only what it measures.
+//! Measures what calls of a desk take, beside those of a book, what seats gain by threads, and looks with no lock. Without words it says
+//! only what it measures.
 #![tactic(auto)]
 
 ghost use Rattle.std.specs.Prelude.{◌≡◌, ◌≤◌};
@@ -7,6 +8,8 @@ ghost use Rattle.paris_desk.specs.declared.limits.TheConstants.{MAX_HISTORY, MAX
 mod calls;
 mod crowd;
 mod programs;
+mod rows;
+mod sights;
 mod timing;
 mod work;
 
@@ -14,6 +17,8 @@ use calls::Call;
 use crowd::SEATS;
 use paris_desk::{Desk, MAX_HISTORY, MAX_SEATS, Office, Opening, Seat};
 use paris_names::Fault;
+use rows::RowCall;
+use sights::Way;
 use std::alloc::Global;
 use std::env;
 use std::io::{self, Write};
@@ -29,7 +34,10 @@ const HELP: &str = "paris_desk_bench WORD ..: nanoseconds, of what the words nam
   crowd  a call, where eight seats in threads make 10,000 lists and as many edits each
   work   256 maxima of 65,536 numbers of 64 bits, by one seat and by two in threads
   holds  the longest hold of the lock, while a seat works off such rows
-Each line has a name, whether it is of a book or a desk, a count of seats and nanoseconds.
+  rows   a call of a desk whose program has 16, 256 and 4,096 rows
+  looks  a look, where seven seats in threads look, one edits and two work: with no lock and through it
+  wide   a look of one seat with no lock, at a key of 64 processors and of 65,536
+Each line has a name, what it is of, a count of seats and nanoseconds.
 ";
 
 /// What is measured.
@@ -42,6 +50,12 @@ enum Task {
     Crowd,
     Work,
     Holds,
+    /// A call of a desk with so many rows.
+    Rows(RowCall, u64),
+    /// Looks of many seats.
+    Looks(Way),
+    /// Looks of one seat, at a key of so many processors.
+    Wide(u64),
 }
 
 impl Task {
@@ -51,15 +65,32 @@ impl Task {
             Task::Crowd => "crowd",
             Task::Work => "work",
             Task::Holds => "holds",
+            Task::Rows(call, _) => call.name(),
+            Task::Looks(_) => "looks",
+            Task::Wide(_) => "wide",
         }
     }
 
-    /// Where the calls are made.
+    /// What the calls are made of.
     fn place(self) -> &'static str {
         match self {
             Task::Book(_) => "book",
+            Task::Rows(_, rows) => size_name(rows),
+            Task::Wide(vps) => size_name(vps),
+            Task::Looks(way) => way.place(),
             _ => "desk",
         }
+    }
+}
+
+/// A count of rows or of processors.
+fn size_name(size: u64) -> &'static str {
+    match size {
+        16 => "16",
+        64 => "64",
+        256 => "256",
+        4_096 => "4096",
+        _ => "65536",
     }
 }
 
@@ -73,14 +104,18 @@ fn measure_at<L: Office + Send + Sync, R: Clock + Threads + Wait + Sync>(
     seats: &mut Vec<Seat<L>>,
     task: Task,
 ) -> Result<u128, Stop> {
-    if let Task::Crowd = task {
-        return crowd::measure(rt, alloc, desk, seats.as_mut_slice());
+    match task {
+        Task::Crowd => return crowd::measure(rt, alloc, desk, seats.as_mut_slice()),
+        Task::Looks(way) => return sights::measure(rt, alloc, desk, seats, way),
+        _ => {}
     }
     let mut last = seats.pop().ok_or(Stop::Fault(Fault::NoMemory))?;
     match (task, seats.pop()) {
         (Task::Desk(call), _) => calls::measure_desk(rt, alloc, desk, &mut last, call),
         (Task::Work, Some(mut first)) => work::measure_two(rt, alloc, desk, &mut first, &mut last),
         (Task::Holds, _) => work::measure_holds(rt, alloc, desk, &mut last),
+        (Task::Rows(call, rows), _) => rows::measure(rt, alloc, desk, &mut last, rows, call),
+        (Task::Wide(vps), _) => sights::measure_alone(rt, alloc, desk, last, vps),
         _ => work::measure_one(rt, alloc, desk, &mut last),
     }
 }
@@ -139,16 +174,35 @@ fn jobs_of(word: &str) -> &'static [Job] {
         (2, Task::Work),
     ];
     const HOLDS: &[Job] = &[(1, Task::Holds)];
+    const ROWS: &[Job] = &[
+        (1, Task::Rows(RowCall::Show, 16)),
+        (1, Task::Rows(RowCall::Show, 256)),
+        (1, Task::Rows(RowCall::Show, 4_096)),
+        (1, Task::Rows(RowCall::Input, 16)),
+        (1, Task::Rows(RowCall::Input, 256)),
+        (1, Task::Rows(RowCall::Input, 4_096)),
+        (1, Task::Rows(RowCall::Insert, 16)),
+        (1, Task::Rows(RowCall::Insert, 256)),
+        (1, Task::Rows(RowCall::Insert, 4_096)),
+    ];
+    const LOOKS: &[Job] = &[
+        (sights::SEATS, Task::Looks(Way::Free)),
+        (sights::SEATS, Task::Looks(Way::Locked)),
+    ];
+    const WIDE: &[Job] = &[(1, Task::Wide(64)), (1, Task::Wide(65_536))];
     match word {
         "calls" => CALLS,
         "crowd" => CROWD,
         "work" => WORK,
         "holds" => HOLDS,
+        "rows" => ROWS,
+        "looks" => LOOKS,
+        "wide" => WIDE,
         _ => &[],
     }
 }
 
-/// Writes the name and the place of a job, how many seats it has, and the nanoseconds that were measured.
+/// Writes the name of a job and what it is of, how many seats it has, and the nanoseconds that were measured.
 fn tell<R: Wait, W: Write>(
     rt: &R,
     alloc: Global,

@@ -25,7 +25,7 @@ use std::time::Clock;
 const LIMIT: u64 = 100_000;
 
 /// How many runs a test plays.
-const RUNS: u64 = 50;
+const RUNS: u64 = 100;
 
 const LINE_OF_FOUR: Shape = Shape {
     axes: &[4],
@@ -330,21 +330,51 @@ fn plays_runs<R: Abort + Threads + Wait + Clock + Sync>(
 }
 
 #[test]
-fn the_first_fifty_runs_agree(rt: HostRuntime) -> Result<(), Fail> {
+fn the_first_hundred_runs_agree(rt: HostRuntime) -> Result<(), Fail> {
     Ok(plays_runs(&rt, rt.alloc(), 1)?)
 }
 
 #[test]
-fn the_second_fifty_runs_agree(rt: HostRuntime) -> Result<(), Fail> {
-    Ok(plays_runs(&rt, rt.alloc(), 51)?)
-}
-
-#[test]
-fn the_third_fifty_runs_agree(rt: HostRuntime) -> Result<(), Fail> {
+fn the_second_hundred_runs_agree(rt: HostRuntime) -> Result<(), Fail> {
     Ok(plays_runs(&rt, rt.alloc(), 101)?)
 }
 
 #[test]
-fn the_last_fifty_runs_agree(rt: HostRuntime) -> Result<(), Fail> {
-    Ok(plays_runs(&rt, rt.alloc(), 151)?)
+fn the_third_hundred_runs_agree(rt: HostRuntime) -> Result<(), Fail> {
+    Ok(plays_runs(&rt, rt.alloc(), 201)?)
+}
+
+#[test]
+fn the_fourth_hundred_runs_agree(rt: HostRuntime) -> Result<(), Fail> {
+    Ok(plays_runs(&rt, rt.alloc(), 301)?)
+}
+
+#[test]
+fn the_fifth_hundred_runs_agree(rt: HostRuntime) -> Result<(), Fail> {
+    Ok(plays_runs(&rt, rt.alloc(), 401)?)
+}
+
+#[test]
+fn the_sixth_hundred_runs_agree(rt: HostRuntime) -> Result<(), Fail> {
+    Ok(plays_runs(&rt, rt.alloc(), 501)?)
+}
+
+#[test]
+fn the_seventh_hundred_runs_agree(rt: HostRuntime) -> Result<(), Fail> {
+    Ok(plays_runs(&rt, rt.alloc(), 601)?)
+}
+
+#[test]
+fn the_eighth_hundred_runs_agree(rt: HostRuntime) -> Result<(), Fail> {
+    Ok(plays_runs(&rt, rt.alloc(), 701)?)
+}
+
+#[test]
+fn the_ninth_hundred_runs_agree(rt: HostRuntime) -> Result<(), Fail> {
+    Ok(plays_runs(&rt, rt.alloc(), 801)?)
+}
+
+#[test]
+fn the_tenth_hundred_runs_agree(rt: HostRuntime) -> Result<(), Fail> {
+    Ok(plays_runs(&rt, rt.alloc(), 901)?)
 }
