@@ -39,13 +39,16 @@ keeps_all None = tt
 keeps_all (Some xs) = refl
 
 -- words that ask for a desk, and are refused
-pub halts_at_words : (writer errors_old errors_new : Option (List ℕ)) (errors : Marks) (fault : WordsFault) (status : ℕ) → status ≡ refusal_status fault
+pub halts_at_words : (words : List (List ℕ)) (reader writer errors_old errors_new : Option (List ℕ)) (run errors : Marks) (fault : WordsFault) (status : ℕ) → run ≡ no_marks
+    → status ≡ refusal_status fault
     → WritesFront errors_old errors_new (refusal_line fault) → (errors.write_failed ≡ false → Appends errors_old errors_new (refusal_line fault))
-    → Halts writer writer errors_old errors_new errors status
-halts_at_words writer errors_old errors_new errors fault status is said whole = inr (record {
+    → Halts words reader reader writer writer errors_old errors_new run errors status
+halts_at_words words reader writer errors_old errors_new run errors fault status fresh is said whole = inr (record {
   fault = fault;
   status_is = is;
+  unread = keeps_all reader;
   unwritten = keeps_all writer;
   named = said;
   whole = whole;
+  uncalled = fresh;
 })

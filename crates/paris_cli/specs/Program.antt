@@ -9,7 +9,7 @@ use Rattle.paris_session.specs.declared.answers.Summary.{Summary}
 use Rattle.paris_names.specs.declared.faults.Fault.TheVariants.{NoEntry}
 use Rattle.paris_parts.specs.declared.run.DeskRunFault.{DeskRunFault}
 use Rattle.paris_parts.specs.declared.run.DeskRunFault.TheVariants as desk
-use Rattle.paris_parts.specs.Run.{Runs}
+use Rattle.paris_parts.specs.Run.{HasDeskCause, Runs}
 use Rattle.paris_cli.specs.Words.{AskFor, refusal_line, refusal_status}
 use Rattle.paris_cli.specs.declared.words.WordsFault.{WordsFault}
 use Rattle.paris_session.specs.declared.run.RunFault.{RunFault}
@@ -89,25 +89,29 @@ abbrev pub Sits : List (List ℕ) → Option (List ℕ) → Option (List ℕ) �
 Sits words reader_old reader_new writer_old writer_new errors_old errors_new status =
     (workers : ℕ) × ((k : ℕ) → AskFor words k → workers ≡ k) × FinishesAtDesk workers reader_old reader_new writer_old writer_new errors_old errors_new status
 
--- a fault stopped a run at a desk, and the status says which it is: nothing was written, unless the writer has failed, and a front of the
--- line that names the fault was written: all of the line, unless that writer has failed
-pub record StopsAtDesk (writer_old writer_new errors_old errors_new : Option (List ℕ)) (errors : Marks) (status : ℕ) : Type 0 where
+-- a fault stopped a run at a desk with so many workers, it has its cause, and the status says which it is: nothing was written, unless the
+-- writer has failed, and a front of the line that names the fault was written: all of the line, unless that writer has failed
+pub record StopsAtDesk (workers : ℕ) (reader_old reader_new writer_old writer_new errors_old errors_new : Option (List ℕ)) (run errors : Marks) (status : ℕ) : Type 0 where
   pub fault : DeskRunFault
   pub status_is : status ≡ desk_fault_status fault
+  pub cause : HasDeskCause workers reader_old reader_new fault run
   pub unwritten : (fault ≡ desk.Run Write → ⊥) → Keeps writer_old writer_new
   pub named : WritesFront errors_old errors_new (desk_fault_line fault)
   pub whole : errors.write_failed ≡ false → Appends errors_old errors_new (desk_fault_line fault)
 
--- the words were refused, and the status says why: nothing was written, and a front of what is said of them was: all of it, unless that
--- writer has failed
-pub record TellsOfWords (writer_old writer_new errors_old errors_new : Option (List ℕ)) (errors : Marks) (status : ℕ) : Type 0 where
+-- the words were refused, and the status says why: nothing was read and nothing was written, and a front of what is said of them was: all of
+-- it, unless that writer has failed
+pub record TellsOfWords (reader_old reader_new writer_old writer_new errors_old errors_new : Option (List ℕ)) (run errors : Marks) (status : ℕ) : Type 0 where
   pub fault : WordsFault
   pub status_is : status ≡ refusal_status fault
+  pub unread : Keeps reader_old reader_new
   pub unwritten : Keeps writer_old writer_new
   pub named : WritesFront errors_old errors_new (refusal_line fault)
   pub whole : errors.write_failed ≡ false → Appends errors_old errors_new (refusal_line fault)
+  pub uncalled : run ≡ no_marks
 
--- a run at a desk was stopped, or its words were refused
-abbrev pub Halts : Option (List ℕ) → Option (List ℕ) → Option (List ℕ) → Option (List ℕ) → Marks → ℕ → Type 0
-Halts writer_old writer_new errors_old errors_new errors status =
-    StopsAtDesk writer_old writer_new errors_old errors_new errors status ⊎ TellsOfWords writer_old writer_new errors_old errors_new errors status
+-- a run at a desk, with as many workers as the words ask for, was stopped, or its words were refused
+abbrev pub Halts : List (List ℕ) → Option (List ℕ) → Option (List ℕ) → Option (List ℕ) → Option (List ℕ) → Option (List ℕ) → Option (List ℕ) → Marks → Marks → ℕ → Type 0
+Halts words reader_old reader_new writer_old writer_new errors_old errors_new run errors status =
+    ((workers : ℕ) × ((k : ℕ) → AskFor words k → workers ≡ k) × StopsAtDesk workers reader_old reader_new writer_old writer_new errors_old errors_new run errors status)
+    ⊎ TellsOfWords reader_old reader_new writer_old writer_new errors_old errors_new run errors status

@@ -162,8 +162,8 @@ fn run_at_desk<H: Threads + Wait + Sync + AllocGlobal, R: Read, W: Write, E: Wri
     requires fresh { tallies.old.run ≡ no_marks }
     ensures finishes { result ≤ 1 → FinishesAtDesk workers (R.remaining reader.old) (R.remaining reader.new)
         (W.contents writer.old) (W.contents writer.new) (E.contents errors.old) (E.contents errors.new) result }
-    ensures stops { 1 < result → StopsAtDesk (W.contents writer.old) (W.contents writer.new)
-        (E.contents errors.old) (E.contents errors.new) tallies.new.errors result }
+    ensures stops { 1 < result → StopsAtDesk workers (R.remaining reader.old) (R.remaining reader.new) (W.contents writer.old) (W.contents writer.new)
+        (E.contents errors.old) (E.contents errors.new) tallies.new.run tallies.new.errors result }
 {
     let settler = Workers { rt, count: workers };
     let alloc = rt.alloc();
@@ -208,8 +208,8 @@ pub fn run_words<H: Threads + Wait + Sync + AllocGlobal, R: Read, W: Write, E: W
         (W.contents writer.old) (W.contents writer.new) (E.contents errors.old) (E.contents errors.new) tallies.new.run }
     ensures stops { 2 < result → AskForDesk (map string_bytes words.now) false → Stops (R.remaining reader.old) (R.remaining reader.new)
         (W.contents writer.old) (W.contents writer.new) (E.contents errors.old) (E.contents errors.new) tallies.new.run tallies.new.errors result }
-    ensures halts { 1 < result → AskForDesk (map string_bytes words.now) true → Halts (W.contents writer.old) (W.contents writer.new)
-        (E.contents errors.old) (E.contents errors.new) tallies.new.errors result }
+    ensures halts { 1 < result → AskForDesk (map string_bytes words.now) true → Halts (map string_bytes words.now) (R.remaining reader.old) (R.remaining reader.new)
+        (W.contents writer.old) (W.contents writer.new) (E.contents errors.old) (E.contents errors.new) tallies.new.run tallies.new.errors result }
 {
     let Wanted { workers, desk } = match read_words(rt.alloc(), words) {
         Ok(wanted) => wanted,

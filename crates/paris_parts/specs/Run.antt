@@ -1,7 +1,13 @@
 -- What a script in parts does at a desk, and what is written for it.
-use Rattle.std.specs.Prelude.{◌≡◌, ◌<◌, ◌≤◌, ℕ, ◌+◌, true, List, [], ◌∷◌, ◌++◌, length, map}
+use Rattle.std.specs.Prelude.{◌≡◌, ◌<◌, ◌≤◌, ℕ, ◌+◌, true, List, Option, [], ◌∷◌, ◌++◌, length, map}
+use Rattle.std.specs.Io.KnownBytes.{Consumes, IsAtEnd}
 use mathlib.Core.List.{IsPrefix}
 use Rattle.paris_machine.specs.Settling.{all_settled}
+use Rattle.paris_calls.specs.Calls.{Marks}
+use Rattle.paris_session.specs.Run.{HasCause, HasEnded, most_reads}
+use Rattle.paris_session.specs.declared.run.RunFault.TheVariants.{NoMemory}
+use Rattle.paris_parts.specs.declared.run.DeskRunFault.{DeskRunFault}
+use Rattle.paris_parts.specs.declared.run.DeskRunFault.TheVariants.{Run, Parts, Desk}
 use Rattle.paris_session.specs.Transcript.{start, with_book, replies, after_lines}
 use Rattle.paris_session.specs.Transcript.{Sitting as Session}
 use Rattle.paris_session.specs.declared.answers.Summary.{Summary}
@@ -57,6 +63,23 @@ pub record Plays (seats : ℕ) (played : List (List (List ℕ))) (last : List (L
 -- whether there are parts enough, and seats enough for all but the last and for the workers
 abbrev pub Fits : ℕ → ℕ → Type 0
 Fits played workers = (2 ≤ played) × (played + workers ≤ MAX_SEATS)
+
+-- no last part and others before it are the parts of this script, with seats enough
+abbrev pub Unfit : ℕ → List ℕ → Type 0
+Unfit workers script = (played : List (List (List ℕ))) (last : List (List ℕ)) → parts script ≡ played ++ last ∷ [] → Fits (length played) workers → ⊥
+
+-- why a run of a script that was read is stopped: for want of memory, by parts that are wrong, or by what a desk answers
+abbrev pub StoppedBy : ℕ → List ℕ → DeskRunFault → Type 0
+StoppedBy workers script (Run fault) = fault ≡ NoMemory
+StoppedBy workers script Parts = Unfit workers script
+StoppedBy workers script (Desk fault) = Unit {0}
+
+-- each fault of a run has its cause: a reader, a writer or memory has it as in a run without a desk; parts are wrong, and a desk stops a run,
+-- only where the script was read to its end and no call has failed
+abbrev pub HasDeskCause : ℕ → Option (List ℕ) → Option (List ℕ) → DeskRunFault → Marks → Type 0
+HasDeskCause workers reader_old reader_new (Run fault) marks = HasCause fault marks most_reads
+HasDeskCause workers reader_old reader_new Parts marks = HasEnded marks × (script : List ℕ) × Consumes reader_old reader_new script × IsAtEnd reader_new × Unfit workers script
+HasDeskCause workers reader_old reader_new (Desk fault) marks = HasEnded marks
 
 -- what a script comes to at a desk with so many workers
 pub record Runs (workers : ℕ) (script text : List ℕ) (summary : Summary) : Type 0 where

@@ -16,7 +16,7 @@ ghost use Rattle.paris_desk.specs.Receipts.{receipts_in};
 ghost use Rattle.paris_desk.specs.Seats.{fresh};
 ghost use Rattle.paris_parts.specs.Jobs.{AreDone, Doing, IsShort};
 ghost use Rattle.paris_parts.specs.declared.run.DeskRunFault.TheVariants as DeskCase;
-ghost use Rattle.paris_parts.specs.Run.{Concludes, LeftBy, Plays, Runs};
+ghost use Rattle.paris_parts.specs.Run.{Concludes, HasDeskCause, LeftBy, Plays, Runs, StoppedBy};
 ghost use Rattle.paris_parts.specs.Texts.{at_seat, commands_in, refusals_in};
 
 use crate::jobs::{Job, run_all};
@@ -257,6 +257,7 @@ pub fn run_parts<R: Threads + Wait + Sync, S: Settler, G: Gate + Sync>(
     requires settler { S.can_settle settler.now }
     requires few { length script.now ≤ 4096 * most_reads }
     ensures runs { IfOk result (λ t. Runs workers script.now t.text.items t.summary) }
+    ensures cause { IfErr result (λ fault. StoppedBy workers script.now fault) }
 {
     let mut parts = parts_of(alloc, script)?;
     let Some(last) = parts.pop() else {
@@ -298,6 +299,7 @@ pub fn run_sessions<H: Threads + Wait + Sync, S: Settler, R: Read, W: Write, G: 
     requires fresh { tally.old ≡ no_marks }
     ensures ok { IfOk result (λ summary. (script : List ℕ) × (text : List ℕ) × Consumes (R.remaining reader.old) (R.remaining reader.new) script
         × IsAtEnd (R.remaining reader.new) × Appends (W.contents writer.old) (W.contents writer.new) text × Runs workers script text summary) }
+    ensures cause { IfErr result (λ fault. HasDeskCause workers (R.remaining reader.old) (R.remaining reader.new) fault tally.new) }
     ensures unwritten { IfErr result (λ fault. (fault ≡ DeskCase.Run RunCase.Write → ⊥) → Keeps (W.contents writer.old) (W.contents writer.new)) }
 {
     let script = match read_all(alloc, reader, MAX_READS, tally) {
