@@ -153,43 +153,56 @@ fn measure_new<R: Clock + Threads + Wait + Sync>(
     measure_with::<Brand, R>(rt, alloc, Opening::new(seats), seats, MAX_HISTORY, task)
 }
 
+/// Calls of a book, and of a desk.
+const CALLS: &[Job] = &[
+    (1, Task::Book(Call::List)),
+    (1, Task::Desk(Call::List)),
+    (1, Task::Book(Call::Show)),
+    (1, Task::Desk(Call::Show)),
+    (1, Task::Book(Call::Input)),
+    (1, Task::Desk(Call::Input)),
+    (1, Task::Book(Call::Take)),
+    (1, Task::Desk(Call::Take)),
+];
+
+/// Seats in threads.
+const CROWD: &[Job] = &[(SEATS, Task::Crowd)];
+
+/// Rows by one seat and by two. The first time, memory is new to the program.
+const WORK: &[Job] = &[
+    (1, Task::Work),
+    (2, Task::Work),
+    (1, Task::Work),
+    (2, Task::Work),
+];
+
+/// Holds of the lock.
+const HOLDS: &[Job] = &[(1, Task::Holds)];
+
+/// Calls of desks with more and more rows.
+const ROWS: &[Job] = &[
+    (1, Task::Rows(RowCall::Show, 16)),
+    (1, Task::Rows(RowCall::Show, 256)),
+    (1, Task::Rows(RowCall::Show, 4_096)),
+    (1, Task::Rows(RowCall::Input, 16)),
+    (1, Task::Rows(RowCall::Input, 256)),
+    (1, Task::Rows(RowCall::Input, 4_096)),
+    (1, Task::Rows(RowCall::Insert, 16)),
+    (1, Task::Rows(RowCall::Insert, 256)),
+    (1, Task::Rows(RowCall::Insert, 4_096)),
+];
+
+/// Looks of many seats.
+const LOOKS: &[Job] = &[
+    (sights::SEATS, Task::Looks(Way::Free)),
+    (sights::SEATS, Task::Looks(Way::Locked)),
+];
+
+/// Looks at few processors and at many.
+const WIDE: &[Job] = &[(1, Task::Wide(64)), (1, Task::Wide(65_536))];
+
 /// What a word names.
 fn jobs_of(word: &str) -> &'static [Job] {
-    const CALLS: &[Job] = &[
-        (1, Task::Book(Call::List)),
-        (1, Task::Desk(Call::List)),
-        (1, Task::Book(Call::Show)),
-        (1, Task::Desk(Call::Show)),
-        (1, Task::Book(Call::Input)),
-        (1, Task::Desk(Call::Input)),
-        (1, Task::Book(Call::Take)),
-        (1, Task::Desk(Call::Take)),
-    ];
-    const CROWD: &[Job] = &[(SEATS, Task::Crowd)];
-    // The first time, memory is new to the program.
-    const WORK: &[Job] = &[
-        (1, Task::Work),
-        (2, Task::Work),
-        (1, Task::Work),
-        (2, Task::Work),
-    ];
-    const HOLDS: &[Job] = &[(1, Task::Holds)];
-    const ROWS: &[Job] = &[
-        (1, Task::Rows(RowCall::Show, 16)),
-        (1, Task::Rows(RowCall::Show, 256)),
-        (1, Task::Rows(RowCall::Show, 4_096)),
-        (1, Task::Rows(RowCall::Input, 16)),
-        (1, Task::Rows(RowCall::Input, 256)),
-        (1, Task::Rows(RowCall::Input, 4_096)),
-        (1, Task::Rows(RowCall::Insert, 16)),
-        (1, Task::Rows(RowCall::Insert, 256)),
-        (1, Task::Rows(RowCall::Insert, 4_096)),
-    ];
-    const LOOKS: &[Job] = &[
-        (sights::SEATS, Task::Looks(Way::Free)),
-        (sights::SEATS, Task::Looks(Way::Locked)),
-    ];
-    const WIDE: &[Job] = &[(1, Task::Wide(64)), (1, Task::Wide(65_536))];
     match word {
         "calls" => CALLS,
         "crowd" => CROWD,

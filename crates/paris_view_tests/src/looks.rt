@@ -126,6 +126,24 @@ fn works<L: Office>(
     Ok(())
 }
 
+/// What is settled at the end.
+const SUM: Sight = Sight::Settled(&[11, 22, 33, 4]);
+
+/// What a seat sees behind the result, and of how many entries it was told: the result, and nothing where no such key or row is.
+const BEHIND: &[((Text, Spot), Sight, u64)] = &[
+    ((b"c", End), SUM, 9),
+    ((b"zz", End), Sight::Refused(Fault::NoField), 9),
+    ((b"c", After(RowId(9))), Sight::Refused(Fault::NoRow), 9),
+];
+
+fn sees_behind<L: Office>(rt: &impl Abort, desk: &Desk<L>, seat: Seat<L>) -> Seat<L> {
+    let mut seat = seat;
+    for (place, sight, front) in BEHIND {
+        seat = sees(rt, desk, seat, *place, *sight, *front);
+    }
+    seat
+}
+
 /// The first seat begins and looks. The second one learns from it and sees no less, works, and sees the result; and it sees nothing
 /// where no such key, no such row or no such history is.
 fn looks<L: Office>(
@@ -136,56 +154,19 @@ fn looks<L: Office>(
     second: Seat<L>,
 ) -> Result<(Seat<L>, Seat<L>), Fail> {
     let (mut first, mut second) = (first, second);
-    second = sees(
-        rt,
-        desk,
-        second,
-        (b"c", End),
-        Sight::Refused(Fault::NoField),
-        0,
-    );
+    let unknown = Sight::Refused(Fault::NoField);
+    second = sees(rt, desk, second, (b"c", End), unknown, 0);
     begins(rt, alloc, desk, &mut first)?;
     first = sees(rt, desk, first, (b"c", End), Sight::Pending(1), 7);
     second.learn_from(&first);
     assert_eq!(rt; second.front(), Front(7));
     second = sees(rt, desk, second, (b"c", End), Sight::Pending(1), 7);
     works(rt, alloc, desk, &mut second)?;
-    second = sees(
-        rt,
-        desk,
-        second,
-        (b"c", End),
-        Sight::Settled(&[11, 22, 33, 4]),
-        9,
-    );
-    second = sees(
-        rt,
-        desk,
-        second,
-        (b"zz", End),
-        Sight::Refused(Fault::NoField),
-        9,
-    );
-    let nowhere = After(RowId(9));
-    second = sees(
-        rt,
-        desk,
-        second,
-        (b"c", nowhere),
-        Sight::Refused(Fault::NoRow),
-        9,
-    );
+    second = sees_behind(rt, desk, second);
     second.learn(Front(99));
     let short = Sight::Refused(Fault::StrangeSeat(99, 9));
     second = sees(rt, desk, second, (b"c", End), short, 99);
-    first = sees(
-        rt,
-        desk,
-        first,
-        (b"c", End),
-        Sight::Settled(&[11, 22, 33, 4]),
-        9,
-    );
+    first = sees(rt, desk, first, (b"c", End), SUM, 9);
     Ok((first, second))
 }
 
