@@ -1,5 +1,5 @@
 -- Words that are refused stop the program before it reads.
-use Rattle.std.proofs.Common.{◌≡◌, ℕ, ◌<◌, List, [], Option, None, Some, refl, arith, ap, false, inr}
+use Rattle.std.proofs.Common.{◌≡◌, ℕ, ◌<◌, List, [], Option, None, Some, refl, arith, ap, false}
 use Rattle.std.proofs.KnownBytes.{Consumes-nil, Appends-nil}
 use Rattle.paris_session.specs.Transcript.{transcript}
 use Rattle.std.specs.Io.KnownBytes.{Appends, Keeps}
@@ -9,7 +9,7 @@ use Rattle.paris_session.specs.declared.run.RunFault.TheVariants as run_fault
 use Rattle.paris_cli.specs.declared.words.WordsFault.{WordsFault}
 use Rattle.paris_cli.specs.declared.words.WordsFault.TheVariants.{Usage, Untold, NotText, NoMemory}
 use Rattle.paris_cli.specs.Words.{refusal_line, refusal_status}
-use Rattle.paris_cli.specs.Program.{Halts, Stops}
+use Rattle.paris_cli.specs.Program.{Stops, TellsOfWords}
 
 pub stops_at_words : (reader writer errors_old errors_new : Option (List ℕ)) (run errors : Marks) (fault : WordsFault) (status : ℕ) → run ≡ no_marks
     → status ≡ refusal_status fault → WritesFront errors_old errors_new (refusal_line fault)
@@ -39,11 +39,11 @@ keeps_all None = tt
 keeps_all (Some xs) = refl
 
 -- words that ask for a desk, and are refused
-pub halts_at_words : (words : List (List ℕ)) (reader writer errors_old errors_new : Option (List ℕ)) (run errors : Marks) (fault : WordsFault) (status : ℕ) → run ≡ no_marks
+pub tells_of_words : (reader writer errors_old errors_new : Option (List ℕ)) (run errors : Marks) (fault : WordsFault) (status : ℕ) → run ≡ no_marks
     → status ≡ refusal_status fault
     → WritesFront errors_old errors_new (refusal_line fault) → (errors.write_failed ≡ false → Appends errors_old errors_new (refusal_line fault))
-    → Halts words reader reader writer writer errors_old errors_new run errors status
-halts_at_words words reader writer errors_old errors_new run errors fault status fresh is said whole = inr (record {
+    → TellsOfWords reader reader writer writer errors_old errors_new run errors status
+tells_of_words reader writer errors_old errors_new run errors fault status fresh is said whole = record {
   fault = fault;
   status_is = is;
   unread = keeps_all reader;
@@ -51,4 +51,4 @@ halts_at_words words reader writer errors_old errors_new run errors fault status
   named = said;
   whole = whole;
   uncalled = fresh;
-})
+}

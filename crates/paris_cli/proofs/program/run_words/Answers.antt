@@ -1,5 +1,5 @@
-use Rattle.std.proofs.Common.{true, false, inl}
-use Rattle.paris_cli.proofs.RefusedWords.{halts_at_words, stops_at_words}
+use Rattle.std.proofs.Common.{true, false, inl, inr}
+use Rattle.paris_cli.proofs.RefusedWords.{stops_at_words, tells_of_words}
 use Rattle.paris_cli.proofs.TakenWords.{not_both}
 use Rattle.paris_cli.proofs.program.run_words.Goals as goal
 
@@ -7,7 +7,7 @@ pub returns-in-Err-clause-stops : goal.returns-in-Err-clause-stops
 returns-in-Err-clause-stops g c = λ past asks. stops_at_words _ _ _ _ _ _ c.in-Err.fault _ c.requires.fresh c.refuse_words.ensures.status c.refuse_words.ensures.line c.refuse_words.ensures.whole past
 
 pub returns-in-Err-clause-halts : goal.returns-in-Err-clause-halts
-returns-in-Err-clause-halts g c = λ past asks. halts_at_words _ _ _ _ _ _ _ c.in-Err.fault _ c.requires.fresh c.refuse_words.ensures.status c.refuse_words.ensures.line c.refuse_words.ensures.whole
+returns-in-Err-clause-halts g c = λ past asks. inr (tells_of_words _ _ _ _ _ _ c.in-Err.fault _ c.requires.fresh c.refuse_words.ensures.status c.refuse_words.ensures.line c.refuse_words.ensures.whole)
 
 pub returns-then-desk-clause-halts : goal.returns-then-desk-clause-halts
 returns-then-desk-clause-halts g c = λ past asks. inl (c.in-Ok.wanted.workers, c.in-Ok.ensures.number, c.run_at_desk.ensures.stops past)
