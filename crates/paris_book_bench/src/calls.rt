@@ -5,7 +5,7 @@ use crate::timing::{Stop, since, start};
 use paris_book::Book;
 use paris_events::{Edit, EditReply};
 use paris_exec::execute;
-use paris_names::Fault;
+use paris_names::{Fault, RowId};
 use std::alloc::Global;
 use std::time::Clock;
 
@@ -37,21 +37,31 @@ fn add_rows(book: &mut Book, rows: usize) -> Result<(), Fault> {
     Ok(())
 }
 
-/// Eight fields of 64 processors, so many settled rows, and one more, which waits where orders are taken.
-fn prepare(alloc: Global, rows: usize, call: Call) -> Result<Book, Fault> {
-    let mut book = Book::new(alloc);
+fn declare(alloc: Global, book: &mut Book) -> Result<(), Fault> {
     book.edit(add_set(alloc, 64)?)?;
     for number in 0..8usize {
         book.edit(add_field(number, 8)?)?;
     }
-    add_rows(&mut book, rows)?;
+    Ok(())
+}
+
+/// Eight fields of 64 processors, so many settled rows, and one more, which waits where orders are taken.
+fn fill(alloc: Global, book: &mut Book, rows: usize, call: Call) -> Result<(), Fault> {
+    declare(alloc, book)?;
+    add_rows(book, rows)?;
     book.edit(insert_max(5, 3, 4)?)?;
     if book.settle().is_err() {
         return Err(Fault::NoMemory);
     }
     if call == Call::Take {
-        book.edit(input(alloc, 3, 1)?)?;
+        give(alloc, book, 3, 1)?;
     }
+    Ok(())
+}
+
+fn prepare(alloc: Global, rows: usize, call: Call) -> Result<Book, Fault> {
+    let mut book = Book::new(alloc);
+    fill(alloc, &mut book, rows, call)?;
     Ok(book)
 }
 
@@ -68,25 +78,44 @@ fn bring(alloc: Global, book: &mut Book) -> Result<(), Fault> {
     }
 }
 
+fn take(book: &mut Book) -> Result<(), Fault> {
+    drop(book.take()?);
+    book.release();
+    Ok(())
+}
+
+fn give(alloc: Global, book: &mut Book, field: usize, number: u128) -> Result<(), Fault> {
+    book.edit(input(alloc, field, number)?)?;
+    Ok(())
+}
+
+fn put_in(book: &mut Book) -> Result<EditReply, Fault> {
+    book.edit(insert_max(2, 0, 1)?)
+}
+
+fn take_out(book: &mut Book, row: RowId) -> Result<(), Fault> {
+    book.edit(Edit::Delete(row))?;
+    Ok(())
+}
+
+fn put_in_and_out(book: &mut Book) -> Result<(), Fault> {
+    match put_in(book)? {
+        EditReply::Row(id) => take_out(book, id),
+        EditReply::Accepted => Ok(()),
+    }
+}
+
 fn step(alloc: Global, book: &mut Book, call: Call) -> Result<(), Fault> {
     match call {
-        Call::Snapshot => {}
-        Call::Take => {
-            drop(book.take()?);
-            book.release();
-        }
+        Call::Snapshot => Ok(()),
+        Call::Take => take(book),
         Call::Bring => {
-            book.edit(input(alloc, 3, 1)?)?;
-            bring(alloc, book)?;
+            give(alloc, book, 3, 1)?;
+            bring(alloc, book)
         }
-        Call::Input => drop(book.edit(input(alloc, 6, 7)?)?),
-        Call::Insert => {
-            if let EditReply::Row(id) = book.edit(insert_max(2, 0, 1)?)? {
-                drop(book.edit(Edit::Delete(id))?);
-            }
-        }
+        Call::Input => give(alloc, book, 6, 7),
+        Call::Insert => put_in_and_out(book),
     }
-    Ok(())
 }
 
 /// A snapshot of the book, with the call made on it.

@@ -531,15 +531,19 @@ fn spent_edits_are_refused_before_a_row_is_looked_for(rt: HostRuntime) -> Result
     plays_in(&rt, rt.alloc(), &mut book, STEPS)
 }
 
-/// A book with as many rows as it may have.
-fn full_book(rt: &impl Abort, alloc: Global) -> Result<Book, Fail> {
-    const STEPS: &[Step] = &[Accepts(Set(b"s", &[4]))];
-    let mut book = Book::new(alloc);
-    plays_in(rt, alloc, &mut book, STEPS)?;
+/// Plays steps in a book that has as many rows as it may have.
+fn plays_in_full(
+    rt: &impl Abort,
+    alloc: Global,
+    book: &mut Book,
+    steps: &[Step],
+) -> Result<(), Fail> {
+    const BEGINNING: &[Step] = &[Accepts(Set(b"s", &[4]))];
+    plays_in(rt, alloc, book, BEGINNING)?;
     for id in 1..4097 {
-        inserts(rt, &mut book, End, SET_TEST, id)?;
+        inserts(rt, book, End, SET_TEST, id)?;
     }
-    Ok(book)
+    plays_in(rt, alloc, book, steps)
 }
 
 #[test]
@@ -566,8 +570,8 @@ fn a_full_program_has_room_at_no_spot_until_a_row_is_deleted(rt: HostRuntime) ->
         Refuses(Insert(After(RowId(0)), SET_TEST), Fault::NoRow),
         HasUnsettled(4096),
     ];
-    let mut book = full_book(&rt, rt.alloc())?;
-    plays_in(&rt, rt.alloc(), &mut book, STEPS)
+    let mut book = Book::new(rt.alloc());
+    plays_in_full(&rt, rt.alloc(), &mut book, STEPS)
 }
 
 /// A book with fields for a send of `v` to `d`, whose addresses aren't given.
@@ -655,12 +659,14 @@ fn lists_by_event(
 /// A change as an event, its answer, and the rows that are listed after it.
 type Answered = (Change, Result<EditReply, Fault>, &'static [Row]);
 
+/// Plays the beginning with a sum in a book, and then events.
 fn plays_events(
     rt: &impl Abort,
     alloc: Global,
     book: &mut Book,
     events: &[Answered],
 ) -> Result<(), Fail> {
+    plays_in(rt, alloc, book, BOOK_OF_SUM)?;
     for (change, wanted, rows) in events {
         changes_by_event(rt, alloc, book, change, wanted)?;
         lists_by_event(rt, alloc, book, *rows)?;
@@ -686,6 +692,5 @@ fn rows_are_changed_and_listed_by_events(rt: HostRuntime) -> Result<(), Fail> {
         ),
     ];
     let mut book = Book::new(rt.alloc());
-    plays_in(&rt, rt.alloc(), &mut book, BOOK_OF_SUM)?;
     plays_events(&rt, rt.alloc(), &mut book, EVENTS)
 }

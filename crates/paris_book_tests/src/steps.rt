@@ -416,6 +416,20 @@ fn plays_both(
     plays_all(rt, alloc, book, hand, steps)
 }
 
+/// Plays steps in a book, and others in another book.
+fn plays_in_both(
+    rt: &impl Abort,
+    alloc: Global,
+    book: &mut Book,
+    other: &mut Book,
+    hand: &mut Vec<Done>,
+    steps: &[Step],
+    others: &[Step],
+) -> Result<(), Fail> {
+    plays_all(rt, alloc, book, hand, steps)?;
+    plays_all(rt, alloc, other, hand, others)
+}
+
 /// Plays steps in a book, and others in a snapshot of what it is before them, with the same results in hand.
 fn plays_beside(
     rt: &impl Abort,
@@ -426,8 +440,20 @@ fn plays_beside(
     others: &[Step],
 ) -> Result<(), Fail> {
     let mut snapshot = book.snapshot()?;
-    plays_all(rt, alloc, book, hand, steps)?;
-    plays_all(rt, alloc, &mut snapshot, hand, others)
+    plays_in_both(rt, alloc, book, &mut snapshot, hand, steps, others)
+}
+
+fn plays_then_beside(
+    rt: &impl Abort,
+    alloc: Global,
+    book: &mut Book,
+    hand: &mut Vec<Done>,
+    beginning: &[Step],
+    steps: &[Step],
+    others: &[Step],
+) -> Result<(), Fail> {
+    plays_all(rt, alloc, book, hand, beginning)?;
+    plays_beside(rt, alloc, book, hand, steps, others)
 }
 
 /// Plays the steps of a beginning in a new book, and then further steps in it, and others in a snapshot of what it is between.
@@ -440,8 +466,7 @@ pub(crate) fn plays_beside_a_snapshot(
 ) -> Result<(), Fail> {
     let mut hand = Vec::new(alloc);
     let mut book = Book::new(alloc);
-    plays_all(rt, alloc, &mut book, &mut hand, beginning)?;
-    plays_beside(rt, alloc, &mut book, &mut hand, steps, others)
+    plays_then_beside(rt, alloc, &mut book, &mut hand, beginning, steps, others)
 }
 
 fn plays_both_in_new(
@@ -466,6 +491,18 @@ pub(crate) fn plays_after(
     plays_both_in_new(rt, alloc, &mut hand, beginning, steps)
 }
 
+fn plays_behind(
+    rt: &impl Abort,
+    alloc: Global,
+    hand: &mut Vec<Done>,
+    others: &[Step],
+    beginning: &[Step],
+    steps: &[Step],
+) -> Result<(), Fail> {
+    plays_in_new(rt, alloc, hand, others)?;
+    plays_both_in_new(rt, alloc, hand, beginning, steps)
+}
+
 /// Plays steps in another book, whose results are then in hand, and after it those of a beginning and further ones in a new book.
 pub(crate) fn plays_after_another(
     rt: &impl Abort,
@@ -475,6 +512,5 @@ pub(crate) fn plays_after_another(
     steps: &[Step],
 ) -> Result<(), Fail> {
     let mut hand = Vec::new(alloc);
-    plays_in_new(rt, alloc, &mut hand, others)?;
-    plays_both_in_new(rt, alloc, &mut hand, beginning, steps)
+    plays_behind(rt, alloc, &mut hand, others, beginning, steps)
 }

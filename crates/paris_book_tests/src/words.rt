@@ -75,25 +75,64 @@ fn gives(
     Ok(answer.err())
 }
 
-#[test]
-fn words_are_input_data_and_are_refused_as_it_is(rt: HostRuntime) -> Result<(), Fail> {
+/// Plays the same steps in two books.
+fn both_play(
+    rt: &impl Abort,
+    alloc: Global,
+    book: &mut Book,
+    other: &mut Book,
+    steps: &[Step],
+) -> Result<(), Fail> {
+    plays_in(rt, alloc, book, steps)?;
+    plays_in(rt, alloc, other, steps)
+}
+
+/// Each row is answered by both books, and by what they hold then, as it is wanted.
+fn rows_are_given(
+    rt: &impl Abort,
+    alloc: Global,
+    book: &mut Book,
+    other: &mut Book,
+) -> Result<(), Fail> {
     const STEPS: &[Step] = &[Accepts(Set(b"s", &[4])), DeclaresFields(&[b"a"])];
-    let alloc = rt.alloc();
-    let mut book = Book::new(alloc);
-    let mut other = Book::new(alloc);
-    plays_in(&rt, alloc, &mut book, STEPS)?;
-    plays_in(&rt, alloc, &mut other, STEPS)?;
+    both_play(rt, alloc, book, other, STEPS)?;
     for (text, from, words, fault, wanted) in ROWS {
-        let answer = gives(&rt, alloc, &mut book, &mut other, *text, *from, *words)?;
+        let answer = gives(rt, alloc, book, other, *text, *from, *words)?;
         assert_eq!(rt; answer, *fault);
-        shows(&rt, &book, b"a", *wanted)?;
+        shows(rt, book, b"a", *wanted)?;
     }
-    shows(&rt, &book, b"s.context", &[1, 0, 1, 0])?;
+    shows(rt, book, b"s.context", &[1, 0, 1, 0])?;
     Ok(())
 }
 
 #[test]
-fn the_readers_of_words_become_unsettled(rt: HostRuntime) -> Result<(), Fail> {
+fn words_are_input_data_and_are_refused_as_it_is(rt: HostRuntime) -> Result<(), Fail> {
+    let mut book = Book::new(rt.alloc());
+    let mut other = Book::new(rt.alloc());
+    rows_are_given(&rt, rt.alloc(), &mut book, &mut other)
+}
+
+/// Both books answer some words by this fault, or accept them.
+fn are_answered(
+    rt: &impl Abort,
+    alloc: Global,
+    book: &mut Book,
+    other: &mut Book,
+    from: u64,
+    words: &[u64],
+    fault: Option<Fault>,
+) -> Result<(), Fail> {
+    let answer = gives(rt, alloc, book, other, b"a", from, words)?;
+    assert_eq!(rt; answer, fault);
+    Ok(())
+}
+
+fn readers_are_settled_again(
+    rt: &impl Abort,
+    alloc: Global,
+    book: &mut Book,
+    other: &mut Book,
+) -> Result<(), Fail> {
     const STEPS: &[Step] = &[
         Accepts(Set(b"s", &[4])),
         DeclaresFields(&[b"a", b"b", b"c"]),
@@ -102,17 +141,16 @@ fn the_readers_of_words_become_unsettled(rt: HostRuntime) -> Result<(), Fail> {
         Settles(2),
     ];
     const AFTER: &[Step] = &[HasUnsettled(1), Settles(1), Shows(b"b", End, &[0, 7, 8, 0])];
-    let alloc = rt.alloc();
-    let mut book = Book::new(alloc);
-    let mut other = Book::new(alloc);
-    plays_in(&rt, alloc, &mut book, STEPS)?;
-    plays_in(&rt, alloc, &mut other, STEPS)?;
-    assert_eq!(rt;
-        gives(&rt, alloc, &mut book, &mut other, b"a", 1, &[7, 8])?,
-        None
-    );
-    plays_in(&rt, alloc, &mut book, AFTER)?;
-    plays_in(&rt, alloc, &mut other, AFTER)
+    both_play(rt, alloc, book, other, STEPS)?;
+    are_answered(rt, alloc, book, other, 1, &[7, 8], None)?;
+    both_play(rt, alloc, book, other, AFTER)
+}
+
+#[test]
+fn the_readers_of_words_become_unsettled(rt: HostRuntime) -> Result<(), Fail> {
+    let mut book = Book::new(rt.alloc());
+    let mut other = Book::new(rt.alloc());
+    readers_are_settled_again(&rt, rt.alloc(), &mut book, &mut other)
 }
 
 #[test]
@@ -120,9 +158,8 @@ fn words_after_the_last_edit_are_refused(rt: HostRuntime) -> Result<(), Fail> {
     let alloc = rt.alloc();
     let mut book = Book::starting_at(alloc, 9_223_372_036_854_775_807);
     let mut other = Book::starting_at(alloc, 9_223_372_036_854_775_807);
-    let answer = gives(&rt, alloc, &mut book, &mut other, b"a", 0, &[1])?;
-    assert_eq!(rt; answer, Some(Fault::EditionsSpent));
-    Ok(())
+    let spent = Some(Fault::EditionsSpent);
+    are_answered(&rt, alloc, &mut book, &mut other, 0, &[1], spent)
 }
 
 /// A word of 8 bits for each processor from one up to another.
@@ -132,36 +169,57 @@ fn words(alloc: Global, seed: u64, from: u64, to: u64) -> Result<Vec<u64>, Alloc
         .collect(alloc)
 }
 
+/// Gives a field the words of a seed, from a processor up to another.
+fn fills_from(
+    rt: &impl Abort,
+    alloc: Global,
+    book: &mut Book,
+    other: &mut Book,
+    seed: u64,
+    from: u64,
+    to: u64,
+) -> Result<(), Fail> {
+    let words = words(alloc, seed, from, to)?;
+    are_answered(rt, alloc, book, other, from, words.as_slice(), None)
+}
+
+/// What a field holds that was given all words of one seed, and then others between two processors.
+fn filled(alloc: Global) -> Result<Vec<u128>, AllocError> {
+    (0..65_536u128)
+        .map(|v| v.wrapping_mul(if v >= 100 && v < 64_536 { 91 } else { 37 }) % 256)
+        .collect(alloc)
+}
+
+fn both_are_filled(
+    rt: &impl Abort,
+    alloc: Global,
+    book: &Book,
+    other: &Book,
+) -> Result<(), AllocError> {
+    let wanted = filled(alloc)?;
+    shows(rt, book, b"a", wanted.as_slice())?;
+    shows(rt, other, b"a", wanted.as_slice())
+}
+
 /// All words, and then others from a processor up to another, are what a field of 65,536 processors holds.
-fn fills(rt: &impl Abort, alloc: Global, steps: &[Step]) -> Result<(), Fail> {
+fn fills(
+    rt: &impl Abort,
+    alloc: Global,
+    book: &mut Book,
+    other: &mut Book,
+    steps: &[Step],
+) -> Result<(), Fail> {
+    both_play(rt, alloc, book, other, steps)?;
+    fills_from(rt, alloc, book, other, 37, 0, 65_536)?;
+    fills_from(rt, alloc, book, other, 91, 100, 64_536)?;
+    both_are_filled(rt, alloc, book, other)?;
+    Ok(())
+}
+
+fn fills_new(rt: &impl Abort, alloc: Global, steps: &[Step]) -> Result<(), Fail> {
     let mut book = Book::new(alloc);
     let mut other = Book::new(alloc);
-    plays_in(rt, alloc, &mut book, steps)?;
-    plays_in(rt, alloc, &mut other, steps)?;
-    let all = words(alloc, 37, 0, 65_536)?;
-    let others = words(alloc, 91, 100, 64_536)?;
-    assert_eq!(rt;
-        gives(rt, alloc, &mut book, &mut other, b"a", 0, all.as_slice())?,
-        None
-    );
-    assert_eq!(rt;
-        gives(
-            rt,
-            alloc,
-            &mut book,
-            &mut other,
-            b"a",
-            100,
-            others.as_slice()
-        )?,
-        None
-    );
-    let wanted: Vec<u128> = (0..65_536u128)
-        .map(|v| v.wrapping_mul(if v >= 100 && v < 64_536 { 91 } else { 37 }) % 256)
-        .collect(alloc)?;
-    shows(rt, &book, b"a", wanted.as_slice())?;
-    shows(rt, &other, b"a", wanted.as_slice())?;
-    Ok(())
+    fills(rt, alloc, &mut book, &mut other, steps)
 }
 
 #[test]
@@ -171,6 +229,6 @@ fn words_fill_a_field_of_65536_processors(rt: HostRuntime) -> Result<(), Fail> {
         Accepts(Set(b"s", &[256, 256])),
         Accepts(Field(b"a", b"s", 64)),
     ];
-    fills(&rt, rt.alloc(), NARROW)?;
-    fills(&rt, rt.alloc(), WIDE)
+    fills_new(&rt, rt.alloc(), NARROW)?;
+    fills_new(&rt, rt.alloc(), WIDE)
 }

@@ -63,13 +63,22 @@ fn call_book_often(alloc: Global, book: &mut Book, call: Call) -> Result<(), Fau
     Ok(())
 }
 
+fn measure_calls(
+    rt: &impl Clock,
+    alloc: Global,
+    book: &mut Book,
+    call: Call,
+) -> Result<u128, Stop> {
+    prepare_book(alloc, book)?;
+    let begin = start(rt)?;
+    call_book_often(alloc, book, call)?;
+    Ok(since(rt, begin)? / u128::from(CALLS))
+}
+
 /// Nanoseconds that a call of a book takes.
 pub fn measure_book(rt: &impl Clock, alloc: Global, call: Call) -> Result<u128, Stop> {
     let mut book = Book::new(alloc);
-    prepare_book(alloc, &mut book)?;
-    let begin = start(rt)?;
-    call_book_often(alloc, &mut book, call)?;
-    Ok(since(rt, begin)? / u128::from(CALLS))
+    measure_calls(rt, alloc, &mut book, call)
 }
 
 /// The same program on a desk.

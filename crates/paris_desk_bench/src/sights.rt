@@ -68,9 +68,9 @@ fn prepare<L: Office>(
 fn look_free<L: Office>(
     desk: &Desk<L>,
     seat: Seat<L>,
-    name: KeyName,
+    name: &KeyName,
 ) -> (Seat<L>, Result<bool, Fault>) {
-    match View::new(desk).look(seat, name, Spot::End) {
+    match View::new(desk).look(seat, *name, Spot::End) {
         Ok(held) => {
             let is_settled = matches!(held.look(), Look::Settled(_));
             (held.end(), Ok(is_settled))
@@ -83,7 +83,7 @@ fn look_free<L: Office>(
 fn look_often<L: Office>(
     desk: &Desk<L>,
     seat: Seat<L>,
-    name: KeyName,
+    name: &KeyName,
     count: u64,
 ) -> (Seat<L>, Result<bool, Fault>) {
     let (mut seat, mut all_settled) = (seat, true);
@@ -108,9 +108,10 @@ pub fn measure_alone<L: Office>(
 ) -> Result<u128, Stop> {
     let (mut seat, mut least) = (seat, u128::MAX);
     prepare(rt, alloc, desk, &mut seat, vps)?;
+    let name = key(2)?;
     for _ in 0..TURNS {
         let begin = start(rt)?;
-        let (back, looked) = look_often(desk, seat, key(2)?, ALONE);
+        let (back, looked) = look_often(desk, seat, &name, ALONE);
         seat = back;
         if !looked? {
             return Err(Stop::Fault(Fault::NoEntry));
@@ -132,11 +133,11 @@ fn show_often<L: Office>(
     rt: &impl Wait,
     desk: &Desk<L>,
     seat: Seat<L>,
-    name: KeyName,
+    name: &KeyName,
 ) -> (Seat<L>, Result<bool, Fault>) {
     let mut seat = seat;
     for _ in 0..LOOKS {
-        if let Err(fault) = desk.show(rt, &mut seat, name, Spot::End) {
+        if let Err(fault) = desk.show(rt, &mut seat, *name, Spot::End) {
             return (seat, Err(fault));
         }
     }
@@ -153,8 +154,8 @@ fn look_some<L: Office>(
     let name = key(2)?;
     let seat = player.seat.take().ok_or(Fault::NoMemory)?;
     let (seat, looked) = match way {
-        Way::Free => look_often(desk, seat, name, LOOKS),
-        Way::Locked => show_often(rt, desk, seat, name),
+        Way::Free => look_often(desk, seat, &name, LOOKS),
+        Way::Locked => show_often(rt, desk, seat, &name),
     };
     player.seat = Some(seat);
     looked?;

@@ -52,14 +52,13 @@ pub(crate) fn insert(rt: &impl Abort, book: &mut Book, spot: Spot, instr: Instr,
     );
 }
 
-/// A book with a set of four processors and the fields `a`, `b` and `c`.
-pub(crate) fn declared_book(rt: &impl Abort, alloc: Global) -> Result<Book, Fail> {
-    let mut book = Book::new(alloc);
-    accept(rt, &mut book, set(rt, alloc, b"s", &[4])?);
-    accept(rt, &mut book, declare(rt, b"a"));
-    accept(rt, &mut book, declare(rt, b"b"));
-    accept(rt, &mut book, declare(rt, b"c"));
-    Ok(book)
+/// Declares a set of four processors and the fields `a`, `b` and `c`.
+pub(crate) fn declare_all(rt: &impl Abort, alloc: Global, book: &mut Book) -> Result<(), Fail> {
+    accept(rt, book, set(rt, alloc, b"s", &[4])?);
+    accept(rt, book, declare(rt, b"a"));
+    accept(rt, book, declare(rt, b"b"));
+    accept(rt, book, declare(rt, b"c"));
+    Ok(())
 }
 
 /// The result of an order.

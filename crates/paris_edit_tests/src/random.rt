@@ -1,7 +1,7 @@
 //! Random edits, orders and results. After each of them the book is compared with rows that are kept beside it, and with a new
 //! book of the present program that is settled.
 
-use crate::books::{accept, declared_book, insert, refuse, run};
+use crate::books::{accept, declare_all, insert, refuse, run};
 use crate::ledger::{
     Row, first_ready, has_firm_origins, pending, recipes, spot_at, with_row, without_row,
 };
@@ -68,20 +68,31 @@ fn declared_numbers(alloc: Global) -> Result<Vec<Vec<u128>>, AllocError> {
     Ok(numbers)
 }
 
-fn new_game(rt: &impl Abort, alloc: Global, seed: u64) -> Result<Game, Fail> {
-    Ok(Game {
+/// A game that has declared nothing yet.
+fn new_game(alloc: Global, seed: u64) -> Game {
+    Game {
         alloc,
         dice: Dice { state: seed },
-        book: declared_book(rt, alloc)?,
-        once: declared_book(rt, alloc)?,
-        twin: declared_book(rt, alloc)?,
+        book: Book::new(alloc),
+        once: Book::new(alloc),
+        twin: Book::new(alloc),
         rows: Vec::new(alloc),
         next: 1,
-        given: Vec::from_slice(alloc, &[2, 3, 4, 1, 1, 1, 1])?,
-        start: declared_numbers(alloc)?,
+        given: Vec::new(alloc),
+        start: Vec::new(alloc),
         late: Vec::new(alloc),
         met: NOTHING_MET,
-    })
+    }
+}
+
+/// Declares the same in each of the books.
+fn begins(rt: &impl Abort, game: &mut Game) -> Result<(), Fail> {
+    declare_all(rt, game.alloc, &mut game.book)?;
+    declare_all(rt, game.alloc, &mut game.once)?;
+    declare_all(rt, game.alloc, &mut game.twin)?;
+    game.given.extend_from_slice(&[2, 3, 4, 1, 1, 1, 1])?;
+    game.start = declared_numbers(game.alloc)?;
+    Ok(())
 }
 
 /// Marks the rows whose recipes the last edit changed.
@@ -301,27 +312,44 @@ fn takes(rt: &impl Abort, game: &mut Game) -> Result<Option<Order>, AllocError> 
     Ok(order)
 }
 
-/// A new book of the present declarations, input data and rows, which is settled.
-fn run_once(rt: &impl Abort, game: &Game) -> Result<Book, Fail> {
-    let mut book = declared_book(rt, game.alloc)?;
+/// Gives a key of a new book its numbers at the start.
+fn give_start(
+    rt: &impl Abort,
+    alloc: Global,
+    book: &mut Book,
+    key: u64,
+    numbers: &[u128],
+) -> Result<(), AllocError> {
+    let input = Edit::Input {
+        key: key_name(rt, key),
+        from: 0,
+        values: Items::new(Vec::from_slice(alloc, numbers)?),
+    };
+    accept(rt, book, input);
+    Ok(())
+}
+
+fn give_all(rt: &impl Abort, game: &Game, book: &mut Book) -> Result<(), AllocError> {
     for (key, numbers) in game.start.iter().enumerate() {
-        let values = Items::new(Vec::from_slice(game.alloc, numbers.as_slice())?);
-        accept(
-            rt,
-            &mut book,
-            Edit::Input {
-                key: key_name(rt, key as u64),
-                from: 0,
-                values,
-            },
-        );
+        give_start(rt, game.alloc, book, key as u64, numbers.as_slice())?;
     }
+    Ok(())
+}
+
+fn insert_all(rt: &impl Abort, game: &Game, book: &mut Book) {
     for (place, row) in game.rows.iter().enumerate() {
         let id = (place as u64).wrapping_add(1);
-        insert(rt, &mut book, Spot::End, spelled(rt, row.operation), id);
+        insert(rt, book, Spot::End, spelled(rt, row.operation), id);
     }
+}
+
+/// Gives a new book the present declarations, input data and rows, and settles it.
+fn run_once(rt: &impl Abort, game: &Game, book: &mut Book) -> Result<(), Fail> {
+    declare_all(rt, game.alloc, book)?;
+    give_all(rt, game, book)?;
+    insert_all(rt, game, book);
     assert!(rt; book.settle().is_ok());
-    Ok(book)
+    Ok(())
 }
 
 /// The spot of a place in the new book, whose ids are counted from 1.
@@ -486,7 +514,9 @@ fn plays_any_edit(rt: &impl Abort, game: &mut Game) -> Result<(), AllocError> {
 /// Makes an edit, and runs the program once that it leaves.
 fn plays_edit(rt: &impl Abort, game: &mut Game) -> Result<(), Fail> {
     plays_any_edit(rt, game)?;
-    game.once = run_once(rt, game)?;
+    let mut once = Book::new(game.alloc);
+    run_once(rt, game, &mut once)?;
+    game.once = once;
     Ok(())
 }
 
@@ -601,13 +631,18 @@ fn plays_step(rt: &impl Abort, game: &mut Game, step: u64) -> Result<(), Fail> {
     Ok(())
 }
 
-/// Plays a game, and tells which verdicts were met.
-fn plays(rt: &impl Abort, alloc: Global, seed: u64) -> Result<Met, Fail> {
-    let mut game = new_game(rt, alloc, seed)?;
+fn plays_steps(rt: &impl Abort, game: &mut Game) -> Result<Met, Fail> {
+    begins(rt, game)?;
     for step in 0..STEPS {
-        plays_step(rt, &mut game, step)?;
+        plays_step(rt, game, step)?;
     }
     Ok(game.met)
+}
+
+/// Plays a game, and tells which verdicts were met.
+fn plays(rt: &impl Abort, alloc: Global, seed: u64) -> Result<Met, Fail> {
+    let mut game = new_game(alloc, seed);
+    plays_steps(rt, &mut game)
 }
 
 fn both(one: Met, other: Met) -> Met {

@@ -98,12 +98,25 @@ fn independent_rows_are_executed_at_once(rt: HostRuntime) -> Result<(), Fail> {
     Ok(())
 }
 
+/// A history of so many entries is long enough for a script.
+fn fits<R: Abort + Threads + Wait + Sync>(
+    rt: &R,
+    alloc: Global,
+    script: &[u8],
+    limit: u64,
+    written: &[u8],
+) {
+    assert!(rt; script.len() <= 1_000 && limit <= 1_000);
+    match run_parts(rt, &Alone, alloc, script, WORKERS, limit, &OpenGate) {
+        Ok(transcript) => assert_eq!(rt; transcript.text.as_slice(), written),
+        Err(_) => assert!(rt; false),
+    }
+}
+
 /// Looks are no calls: with a call of each worker, which finds nothing to do, the history has six entries.
 #[test]
 fn looks_are_not_recorded(rt: HostRuntime) -> Result<(), Fail> {
-    let transcript = run_parts(&rt, &Alone, rt.alloc(), LOOKS, WORKERS, 6, &OpenGate);
-    let text = transcript.map(|transcript| transcript.text);
-    assert!(&rt; matches!(text, Ok(text) if text.as_slice() == LOOKED));
+    fits(&rt, rt.alloc(), LOOKS, 6, LOOKED);
     let full = DeskRunFault::Desk(Fault::HistoryFull(5));
     stops(&rt, rt.alloc(), LOOKS, 5, full);
     Ok(())
