@@ -1,4 +1,4 @@
-//! Links `libparis.a` of the folder which `PARIS_LIB_DIR` names, else of `lib/out`.
+//! Links `libparis.a` of the folder which `PARIS_LIB_DIR` names, else of `bindings/c/out`.
 
 use std::path::{Path, PathBuf};
 use std::{env, process};
@@ -8,7 +8,7 @@ const VARIABLE: &str = "PARIS_LIB_DIR";
 fn folder() -> PathBuf {
     match env::var_os(VARIABLE) {
         Some(folder) => PathBuf::from(folder),
-        None => Path::new(env!("CARGO_MANIFEST_DIR")).join("../../lib/out"),
+        None => Path::new(env!("CARGO_MANIFEST_DIR")).join("../c/out"),
     }
 }
 
@@ -22,6 +22,6 @@ fn main() {
         return;
     }
     eprintln!("paris: there is no {}", archive.display());
-    eprintln!("paris: lib/build makes it, lib/unpack takes it from dist/lib, and {VARIABLE} names another folder");
+    eprintln!("paris: bindings/c/build makes it, bindings/c/unpack takes it from dist/lib, and {VARIABLE} names another folder");
     process::exit(1);
 }

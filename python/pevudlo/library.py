@@ -1,6 +1,6 @@
 """A session of the library libparis.so, in this process: it answers lines as a running program does, and takes arrays.
 
-`Library` stands in the place of a `Pipe`, behind the same calls. include/paris.h says what each call of the library
+`Library` stands in the place of a `Pipe`, behind the same calls. bindings/c/paris.h says what each call of the library
 does, and what its caller keeps. A handle stays in the thread that opened it, and is in one call at a time.
 """
 

@@ -26,8 +26,8 @@ def library_of_variable(looked: list[str]) -> Path | None:
 
 
 def library_of_repository(looked: list[str]) -> Path | None:
-    """The repository's library: the one in dist/ where it is of the sources there, else the one that lib/build made."""
-    unpack, made = ROOT / "lib" / "unpack", ROOT / "lib" / "out" / LIBRARY
+    """The repository's library: the one in dist/ where it is of the sources there, else the one that bindings/c/build made."""
+    unpack, made = ROOT / "bindings" / "c" / "unpack", ROOT / "bindings" / "c" / "out" / LIBRARY
     trouble = trouble_of(unpack) if is_program(unpack) else f"{ROOT} is no repository of it"
     if trouble and not made.is_file():
         looked.append(trouble)
@@ -37,7 +37,7 @@ def library_of_repository(looked: list[str]) -> Path | None:
 
 @cache
 def trouble_of(unpack: Path) -> str:
-    """What keeps lib/unpack from its work, or nothing. It is run once, since it reads all sources."""
+    """What keeps bindings/c/unpack from its work, or nothing. It is run once, since it reads all sources."""
     ran = subprocess.run(
         [unpack], stdout=subprocess.DEVNULL, stderr=subprocess.PIPE, stdin=subprocess.DEVNULL, text=True
     )

@@ -16,7 +16,7 @@ from random_lines import RandomLines
 from pevudlo.program import find
 
 REPOSITORY = Path(__file__).resolve().parents[2]
-SCRIPTS = sorted(REPOSITORY.glob("examples/*.paris")) + sorted(REPOSITORY.glob("rows/*/*.paris"))
+SCRIPTS = sorted(REPOSITORY.glob("examples/*.paris")) + sorted(REPOSITORY.glob("checks/rows/*/*.paris"))
 AT_LINE = re.compile(r"^([^\s:]+):(\d+): (.*)$")
 
 

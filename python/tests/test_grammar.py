@@ -19,7 +19,7 @@ def column_of(reply: str) -> int | None:
 
 
 def scripts() -> list[Path]:
-    return sorted(REPOSITORY.glob("examples/*.paris")) + sorted(REPOSITORY.glob("rows/*/*.paris"))
+    return sorted(REPOSITORY.glob("examples/*.paris")) + sorted(REPOSITORY.glob("checks/rows/*/*.paris"))
 
 
 def test_lines_of_all_scripts_leave_the_grammar_where_the_program_says() -> None:

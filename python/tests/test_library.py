@@ -24,9 +24,9 @@ from pevudlo.arrays import ValueArray
 from pevudlo.library import CALLS, Outcome, place_number
 from pevudlo.program import ROOT
 
-HEADER = ROOT / "include/paris.h"
+HEADER = ROOT / "bindings/c/paris.h"
 FRONT = ROOT / "crates/paris_front"
-SCRIPTS = sorted([*ROOT.glob("examples/*.paris"), *ROOT.glob("rows/*/*.paris")])
+SCRIPTS = sorted([*ROOT.glob("examples/*.paris"), *ROOT.glob("checks/rows/*/*.paris")])
 
 
 # The header
@@ -78,10 +78,10 @@ def test_by_variable(lost: Path, monkeypatch: pytest.MonkeyPatch) -> None:
 
 
 def unpacks(folder: Path, body: str) -> Path:
-    """A repository's lib/unpack that does this, and the place of the library there."""
-    made = folder / "lib/out/libparis.so"
+    """A repository's bindings/c/unpack that does this, and the place of the library there."""
+    made = folder / "bindings/c/out/libparis.so"
     made.parent.mkdir(parents=True)
-    unpack = folder / "lib/unpack"
+    unpack = folder / "bindings/c/unpack"
     unpack.write_text(f"#!/bin/sh\n{body}\n")
     unpack.chmod(0o755)
     return made

@@ -10,7 +10,7 @@ from pevudlo import END, START, Machine, Pending, Place, Refusal, after
 from pevudlo.arrays import ValueArray
 
 REPOSITORY = Path(__file__).resolve().parents[2]
-SCRIPTS = sorted(REPOSITORY.glob("examples/*.paris")) + sorted(REPOSITORY.glob("rows/*/*.paris"))
+SCRIPTS = sorted(REPOSITORY.glob("examples/*.paris")) + sorted(REPOSITORY.glob("checks/rows/*/*.paris"))
 
 
 def numbers(values: object) -> list[int]:

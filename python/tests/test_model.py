@@ -19,7 +19,7 @@ ROUNDS = 6
 
 
 def transcripts() -> list[Path]:
-    found = sorted([*(ROOT / "examples").glob("*.paris"), *(ROOT / "rows").glob("*/*.paris")])
+    found = sorted([*(ROOT / "examples").glob("*.paris"), *(ROOT / "checks/rows").glob("*/*.paris")])
     return [path for path in found if "refused" not in path.with_suffix(".expected").read_text()]
 
 

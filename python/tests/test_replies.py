@@ -64,7 +64,7 @@ def test_what_is_no_reply(lines: list[str]) -> None:
 
 def test_every_transcript_is_made_of_replies() -> None:
     count = 0
-    for path in sorted(REPOSITORY.glob("examples/*.expected")) + sorted(REPOSITORY.glob("rows/*/*.expected")):
+    for path in sorted(REPOSITORY.glob("examples/*.expected")) + sorted(REPOSITORY.glob("checks/rows/*/*.expected")):
         lines = path.read_text().splitlines()
         while lines:
             word, _, number = lines[0].partition(" ")

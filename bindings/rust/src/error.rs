@@ -44,7 +44,7 @@ impl Error {
         }
     }
 
-    /// The status by which the library says so, as `include/paris.h` names it.
+    /// The status by which the library says so, as `bindings/c/paris.h` names it.
     pub fn status(self) -> u32 {
         match self {
             Error::Fault(fault) => fault.number(),

@@ -1,7 +1,7 @@
 //! Sessions of Paris programs.
 //!
 //! A [`Session`] answers the lines of a script, takes and gives arrays of numbers, and settles the
-//! rows of its program. It calls the library `libparis.a`, which `include/paris.h` declares, and
+//! rows of its program. It calls the library `libparis.a`, which `bindings/c/paris.h` declares, and
 //! computes nothing of its own. What the commands mean is said in `docs/MACHINE.md` of the
 //! repository, and how they are spelled in `docs/SCRIPTS.md`.
 //!
@@ -22,7 +22,7 @@
 //! ```
 //!
 //! The library is that of the folder which the variable `PARIS_LIB_DIR` names as the package is
-//! built, else that of `lib/out`, where `lib/build` or `lib/unpack` of the repository puts it.
+//! built, else that of `bindings/c/out`, where `bindings/c/build` or `bindings/c/unpack` of the repository puts it.
 #![warn(missing_docs, missing_debug_implementations)]
 
 mod error;

@@ -1,6 +1,6 @@
 //! The calls of the library, as safe functions. Nothing else in this package is unsafe.
 //!
-//! What `include/paris.h` wants of its callers is kept here: a handle begins as zeros, stays where
+//! What `bindings/c/paris.h` wants of its callers is kept here: a handle begins as zeros, stays where
 //! it is, and goes to one call at a time in one thread; each pointer is that of a slice, with its
 //! length; and no two arguments of a call overlap.
 #![allow(unsafe_code)]

@@ -3,7 +3,7 @@
 use paris::{Error, Fault};
 use std::collections::BTreeMap;
 
-const HEADER: &str = include_str!("../../../include/paris.h");
+const HEADER: &str = include_str!("../../c/paris.h");
 const FAULTS: &str = include_str!("../../../crates/paris_names/src/faults.rt");
 
 /// The error of each status that is no `PARIS_OK`.
