@@ -1,28 +1,105 @@
-"""The toolchain's own module, for what measures the gate and works over what it has built."""
+"""The toolchain's own module, and the libraries that stand built of the sources here: for what tries, measures and works over them."""
+
 import importlib.machinery
 import importlib.util
 import os
 import shutil
 import sys
+from collections.abc import Callable
+from concurrent.futures import FIRST_COMPLETED, Future, ThreadPoolExecutor, wait
+from pathlib import Path
+from types import ModuleType
+from typing import Any
+
+ROOT = Path(__file__).resolve().parent.parent.parent
+# In a library's folder: the sum of all that it was proved and built from, by the gate or by what stands beside this file.
+MARK = "proved"
+# What the last run of the gate took, crate by crate.
+COSTS = ROOT / "checks" / "gate" / "out" / "costs.json"
 
 
-def load_rt():
+def load_rt() -> ModuleType:
     """Returns rt's module as it is."""
     sys.dont_write_bytecode = True
     found = shutil.which("rt")
     assert found, "there is no rt on the PATH"
     loader = importlib.machinery.SourceFileLoader("rt", os.path.realpath(found))
-    rt = importlib.util.module_from_spec(importlib.util.spec_from_loader("rt", loader))
+    spec = importlib.util.spec_from_loader("rt", loader)
+    assert spec
+    rt = importlib.util.module_from_spec(spec)
     loader.exec_module(rt)
     return rt
 
 
-def load_gate():
+def load_gate() -> ModuleType:
     """Returns rt's module, set up as rt ci sets it up. The repository's top has to be the current folder."""
     gate = load_rt()
     for word in (gate.rtlib.ALLOW_C, gate.rtlib.BACKEND, "RT_SECONDS"):
         os.environ.pop(word, None)
     gate.rtlib.guarded()
     gate.rtlib.Crate = gate.Crate
+    # The crates above a library load its statements and not its proofs, as in the gate.
+    gate.Crate.cuts_libraries = True
     gate.Crate.allowed = gate.handles_of(os.getcwd())
     return gate
+
+
+def crates_here(gate: ModuleType) -> list[Any]:
+    """The crates of the current folder as rt sees them, each behind those that it stands on."""
+    return sorted(gate.rtlib.crates_below(os.getcwd()), key=lambda crate: len(crate.below()))
+
+
+def mark_of(crate: Any) -> Path:
+    return Path(crate.rlib).parent / MARK
+
+
+def stands(crate: Any) -> bool:
+    """Whether the crate's library stands built of the sources as they are."""
+    return os.path.isdir(crate.rlib) and (crate.is_built() or mark_of(crate).is_file() and mark_of(crate).read_text() == crate.stamp())
+
+
+def adopt(crates: list[Any]) -> None:
+    """Marks the libraries that rt ci has left as built of these sources. It has to have ended well, on them."""
+    for crate in crates:
+        if crate.makes_rlib() and os.path.isdir(crate.rlib) and not crate.is_built():
+            mark_of(crate).write_text(crate.stamp())
+
+
+def drop(crates: list[Any]) -> None:
+    """Removes marked libraries, which rt ci would otherwise put back over those that it makes."""
+    for crate in crates:
+        if mark_of(crate).is_file():
+            shutil.rmtree(Path(crate.rlib).parent)
+
+
+Task = tuple[list[Any], int, int, Callable[[int], bool]]
+
+
+def in_lanes(tasks: dict[Any, Task], lanes: int, memory: int) -> dict[Any, bool]:
+    """Runs tasks side by side and says of each whether it went well. A task is: those that it waits for, its weight, its bytes of memory,
+    and a call that gets how many jobs it may use. First come those with the most weight behind them. One that waits for a task that
+    didn't go well isn't run."""
+    behind = {key: 0 for key in tasks}
+    for key in reversed([*tasks]):
+        behind[key] += tasks[key][1]
+        for below in tasks[key][0]:
+            behind[below] = max(behind[below], behind[key])
+    left, ended = sorted(tasks, key=lambda key: -behind[key]), dict[Any, bool]()
+    running: dict[Future[bool], tuple[Any, int, int]] = {}
+    with ThreadPoolExecutor(lanes) as pool:
+        while left or running:
+            for key in [it for it in left if any(ended.get(below) is False for below in tasks[it][0])]:
+                left.remove(key)
+                ended[key] = False
+            ready = [it for it in left if all(below in ended for below in tasks[it][0])]
+            for place, key in enumerate(ready):
+                idle = lanes - sum(jobs for _, _, jobs in running.values())
+                room = memory - sum(needs for _, needs, _ in running.values())
+                needs = tasks[key][2]
+                if idle > 0 and (needs <= room or not running):
+                    jobs = max(1, min(4, idle // (len(ready) - place), 1 + int((room / needs - 1) / 0.6)))
+                    left.remove(key)
+                    running[pool.submit(tasks[key][3], jobs)] = key, int(needs * (1 + 0.6 * (jobs - 1))), jobs
+            for done in wait(running, return_when=FIRST_COMPLETED).done if running else ():
+                ended[running.pop(done)[0]] = done.result()
+    return ended

@@ -1,0 +1,133 @@
+"""What decides the try of a must-fail edit, as a checksum.
+
+A function is proved from its own body and proof files, and from what is stated: of its crate and of all below it the declarations,
+contracts, definitions and lemmas, and no other body. So the key of an edit is the checksum of the toolchain's logic, HANDLES and the edit;
+of the files in src/ that it changes, and of that of the function which wasn't proved, whole, with the proof files of their modules; and
+of what is stated in the crate and in all below it: specs/, the lemmas of proofs/, and src/ without the bodies of functions.
+"""
+
+import hashlib
+import re
+from dataclasses import dataclass
+from pathlib import Path
+from typing import Any
+
+from kit import ROOT
+
+EDITS = ROOT / "checks" / "gate" / "edits"
+# The words before the braces of a clause, which stands before a function's body.
+CLAUSE = re.compile(rb"\b(?:requires|ensures)(?:\s*\*)?(?:\s+\w+)?\s*$|\bghost\s+\w+\s*:\s*$")
+FUNCTION = re.compile(rb"\b(const\s+)?fn\s+\w+")
+COMMENT = re.compile(rb"^\s*//[^\n]*\n", re.M)
+# What stands for a function that isn't named.
+UNNAMED = "-"
+
+
+@dataclass(frozen=True)
+class Edit:
+    """A must-fail edit."""
+
+    crate: str
+    path: Path
+
+    @property
+    def name(self) -> str:
+        return f"{self.crate}/{self.path.stem}"
+
+    def files(self) -> list[str]:
+        """The files that it changes, by their paths in the crate."""
+        return re.findall(r"^file: *(\S+)", self.path.read_text(), re.M)
+
+
+def sum_of(*parts: object) -> str:
+    return hashlib.sha256(repr(parts).encode()).hexdigest()
+
+
+def group_end(code: bytes, at: int) -> int:
+    """The place behind the brace that closes the one at a place."""
+    depth = 0
+    for brace in re.compile(rb"[{}]").finditer(code, at):
+        depth += 1 if brace[0] == b"{" else -1
+        if not depth:
+            return brace.end()
+    return len(code)
+
+
+def body_of(code: bytes, at: int) -> tuple[int, int] | None:
+    """Where the body of the function lies whose name ends at a place, in code without comments and literals; None where it has none."""
+    start = at
+    while found := re.compile(rb"[{;]").search(code, at):
+        if found[0] == b";" and code.count(b"[", start, found.start()) == code.count(b"]", start, found.start()):
+            return None
+        at = found.end()
+        if found[0] == b"{":
+            end = group_end(code, found.start())
+            if not CLAUSE.search(code[start : found.start()]):
+                return found.start(), end
+            start = at = end
+    return None
+
+
+def without_bodies(text: bytes, code: bytes) -> bytes:
+    """A file of src/ without the bodies of its functions, but for those that the compiler may run, and without comments. The code is the
+    text with blanks for comments and literals."""
+    kept, done, at = b"", 0, 0
+    while found := FUNCTION.search(code, at):
+        body = body_of(code, found.end())
+        at = body[1] if body else found.end()
+        if body and not found[1]:
+            kept += text[done : body[0]]
+            done = at
+    return COMMENT.sub(b"", kept + text[done:])
+
+
+class Keys:
+    """The keys of all edits, from the text of the sources alone."""
+
+    def __init__(self, gate: Any, crates: list[Any]) -> None:
+        self.rtlib, self.crates = gate.rtlib, {crate.name: crate for crate in crates}
+        lines = (line.partition("#")[0].strip() for line in (ROOT / "crates.txt").read_text().splitlines())
+        self.lines = {line.partition(":")[0].split()[0]: line for line in lines if ":" in line}
+        # (the kit's line is `KIT logic SUM`; what the kit has beside the logic decides no proof)
+        self.logic = (Path(gate.KIT) / "KIT-ID").read_text().partition("logic ")[2].strip()
+        self.handles = (ROOT / "HANDLES").read_text()
+        self.stated: dict[str, str] = {}
+
+    def of_statements(self, name: str) -> str:
+        """The checksum of what a crate states."""
+        if name not in self.stated:
+            folder = ROOT / "crates" / name
+            parts = [(str(file.relative_to(folder)), file.read_bytes()) for file in sorted((folder / "specs").rglob("*.antt"))]
+            parts += [(str(file.relative_to(folder)), file.read_bytes()) for file in sorted((folder / "proofs").glob("*.antt"))]
+            for file, code in sorted(self.rtlib.blanked(str(folder)).items()):
+                if file.endswith(".rt"):
+                    text = Path(file).read_bytes()
+                    assert len(text) == len(code.encode()), f"{file} is read as another text"
+                    parts.append((str(Path(file).relative_to(folder)), without_bodies(text, code.encode())))
+            self.stated[name] = sum_of(self.lines[name], parts)
+        return self.stated[name]
+
+    def bodies(self, edit: Edit, function: str) -> list[tuple[str, bytes]]:
+        """The files of the crate that count whole: those that the edit changes, that of the function, and their modules' proofs."""
+        folder = ROOT / "crates" / edit.crate
+        modules = {str(file.relative_to(folder / "src").with_suffix("")) for file in (folder / "src").rglob("*.rt")}
+        own = {file.removeprefix("src/").removesuffix(".rt") for file in edit.files() if file.startswith("src/")}
+        words = function.split("::")
+        named = {"/".join(words[:count]) for count in range(1, len(words))} & modules
+        own |= named or ({"lib"} if function != UNNAMED else set())
+        others = {it.partition("/")[0] for it in modules - own} - {it.partition("/")[0] for it in own}
+        files = [folder / "src" / f"{it}.rt" for it in sorted(own)]
+        files += [it for it in sorted((folder / "proofs").glob("*/**/*.antt")) if it.relative_to(folder / "proofs").parts[0] not in others]
+        return [(str(file.relative_to(folder)), file.read_bytes()) for file in files]
+
+    def of_edit(self, edit: Edit, function: str) -> str:
+        below = sorted(self.of_statements(it.name) for it in self.crates[edit.crate].below())
+        own = self.of_statements(edit.crate), self.bodies(edit, function)
+        return sum_of(self.logic, self.handles, own, below, edit.path.read_bytes())[:32]
+
+    def edits(self, names: list[str]) -> list[Edit]:
+        """All edits, or those of some crates and of some names."""
+        every = [Edit(path.parent.name, path) for path in sorted(EDITS.glob("*/*.edit"))]
+        unknown = {*names} - {edit.crate for edit in every} - {edit.name for edit in every}
+        assert not unknown, f"there is no crate with edits, and no edit, of the name {', '.join(sorted(unknown))}"
+        return [edit for edit in every if not names or edit.crate in names or edit.name in names]
