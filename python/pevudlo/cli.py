@@ -5,7 +5,12 @@ from __future__ import annotations
 import importlib
 import sys
 
-COMMANDS = ("explain", "prompt", "page", "live")
+COMMANDS = {
+    "explain": "pevudlo.explain",
+    "prompt": "pevudlo.prompt.prompt",
+    "page": "pevudlo.page.page",
+    "live": "pevudlo.live.command",
+}
 USAGE = "usage: python3 -m pevudlo explain|prompt|page|live .."
 
 
@@ -17,6 +22,6 @@ def main(words: list[str]) -> int:
     if not words or words[0] not in COMMANDS:
         print(USAGE, file=sys.stderr)
         return 2
-    command = importlib.import_module(f"pevudlo.{words[0]}")
+    command = importlib.import_module(COMMANDS[words[0]])
     status = command.main(words[1:])
     return int(status)

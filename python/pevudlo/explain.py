@@ -7,13 +7,13 @@ from contextlib import nullcontext
 from dataclasses import dataclass
 from typing import BinaryIO, ContextManager, Iterator
 
-from pevudlo.board import Board
-from pevudlo.grids import Grid, text_of
-from pevudlo.pipe import Pipe, PipeError
-from pevudlo.program import NotFound, find
-from pevudlo.replies import Cause, Faults, OrderTaken, PendingReply, Refused, RowFault, Values, Verdict, Word
+from pevudlo.draw.grids import Grid, text_of
+from pevudlo.draw.visible import visible
+from pevudlo.lang.board import Board
+from pevudlo.lang.replies import Cause, Faults, OrderTaken, PendingReply, Refused, RowFault, Values, Verdict, Word
 from pevudlo.talk import Answer, Talk
-from pevudlo.visible import visible
+from pevudlo.wire.pipe import Pipe, PipeError
+from pevudlo.wire.program import NotFound, find
 
 USAGE = "usage: paris explain [--workers 1-16] FILE [--stop]"
 HELP = f"""{USAGE}

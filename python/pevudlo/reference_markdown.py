@@ -4,9 +4,9 @@ from __future__ import annotations
 
 from collections.abc import Iterator
 
-from pevudlo.reference import FAMILIES, LETTERS, WORDS
-from pevudlo.reference_entry import Entry, Kind
-from pevudlo.reference_text import script_lines
+from pevudlo.reference.entry import Entry, Kind
+from pevudlo.reference.table import FAMILIES, LETTERS, WORDS
+from pevudlo.reference.text import script_lines
 
 HEAD = (
     "# Instructions, each with an example",

@@ -4,8 +4,8 @@ from __future__ import annotations
 
 from collections.abc import Iterable
 
-from pevudlo.grammar import COMMANDS
-from pevudlo.instructions import FLAGS, INSTRUCTIONS
+from pevudlo.lang.grammar import COMMANDS
+from pevudlo.lang.instructions import FLAGS, INSTRUCTIONS
 
 NOTE = "\" Made by python/make-docs: don't edit."
 

@@ -13,7 +13,7 @@ from pathlib import Path
 import pytest
 from random_lines import RandomLines
 
-from pevudlo.program import find
+from pevudlo.wire.program import find
 
 REPOSITORY = Path(__file__).resolve().parents[2]
 SCRIPTS = sorted(REPOSITORY.glob("examples/*.paris")) + sorted(REPOSITORY.glob("checks/rows/*/*.paris"))

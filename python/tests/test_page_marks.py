@@ -10,8 +10,8 @@ from page_checks import looked, rows_at, sections, tree_for, tree_of
 from pages import GALLERY, REPOSITORY, answers, marked, script_of
 from test_grids import indices_of
 
-from pevudlo import page
-from pevudlo.pictures import STEPS
+from pevudlo.page import page
+from pevudlo.draw.pictures import STEPS
 
 
 def test_history_has_a_cell_for_each_row_and_moment() -> None:

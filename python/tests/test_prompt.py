@@ -12,13 +12,13 @@ from random import Random
 import pytest
 from random_lines import RandomLines
 
-from pevudlo.grammar import COMMANDS
-from pevudlo.program import ROOT, find
-from pevudlo.prompt import Prompt, talk
-from pevudlo.prompt_files import read_lines, write_lines
-from pevudlo.prompt_help import OWN, help_for
-from pevudlo.prompt_lines import Reader
-from pevudlo.prompt_session import Session
+from pevudlo.files import read_lines, write_lines
+from pevudlo.lang.grammar import COMMANDS
+from pevudlo.prompt.help import OWN, help_for
+from pevudlo.prompt.lines import Reader
+from pevudlo.prompt.prompt import Prompt, talk
+from pevudlo.prompt.session import Session
+from pevudlo.wire.program import ROOT, find
 
 BASE = ["set S 4", "field a S 8", "input a 0 1 200 3 16"]
 

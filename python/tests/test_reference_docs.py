@@ -8,11 +8,11 @@ import sys
 from pathlib import Path
 
 import pytest
-from pevudlo.pipe import Pipe
-from pevudlo.program import ROOT, find as find_program
-from pevudlo.reference import ENTRIES, find
+from pevudlo.reference.table import ENTRIES, find
+from pevudlo.reference.text import help_lines, is_whole, script_lines
 from pevudlo.reference_markdown import document
-from pevudlo.reference_text import help_lines, is_whole, script_lines
+from pevudlo.wire.pipe import Pipe
+from pevudlo.wire.program import ROOT, find as find_program
 
 DOCUMENT = ROOT / "docs" / "INSTRUCTIONS.md"
 MAKER = ROOT / "python" / "make-docs"

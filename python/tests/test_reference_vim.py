@@ -8,11 +8,11 @@ from pathlib import Path
 
 import pytest
 
-from pevudlo.instructions import INSTRUCTIONS
-from pevudlo.program import ROOT
-from pevudlo.reference import ENTRIES, of_kind
-from pevudlo.reference_entry import Kind
+from pevudlo.lang.instructions import INSTRUCTIONS
+from pevudlo.reference.entry import Kind
+from pevudlo.reference.table import ENTRIES, of_kind
 from pevudlo.reference_vim import COLOURS, files
+from pevudlo.wire.program import ROOT
 
 LETTERS = {"Error": "E", "Comment": "#", "Command": "C", "Place": "P", "Instruction": "I", "Flag": "F", "Word": "W"}
 LETTERS["Number"] = "N"

@@ -1,4 +1,4 @@
-"""All instructions as functions, by the rule of names in pevudlo.instructions."""
+"""All instructions as functions, by the rule of names in pevudlo.lang.instructions."""
 
 # Made by python/make-modules: don't edit.
 

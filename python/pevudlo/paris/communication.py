@@ -4,7 +4,7 @@
 
 from typing import Literal
 
-from pevudlo.instructions import NONE, spell
+from pevudlo.lang.instructions import NONE, spell
 
 Direction = Literal["upward", "downward"]
 Inclusion = Literal["inclusive", "exclusive"]

@@ -2,7 +2,7 @@
 
 # Made by python/make-modules: don't edit.
 
-from pevudlo.instructions import spell
+from pevudlo.lang.instructions import spell
 
 
 def u_add(destination: str, left: str, right: str, length: int) -> str:
