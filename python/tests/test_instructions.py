@@ -143,7 +143,7 @@ def test_read() -> None:
 )
 def test_modules_are_what_is_made(name: str) -> None:
     made = subprocess.run(
-        [sys.executable, REPOSITORY / "python/make-modules", "--print", name],
+        [sys.executable, REPOSITORY / "python/tools/make-modules", "--print", name],
         capture_output=True,
         text=True,
         timeout=60,

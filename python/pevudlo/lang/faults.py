@@ -1,6 +1,6 @@
 """The faults, by number, with the names and texts that the program's sources give them."""
 
-# Made by python/make-modules: don't edit.
+# Made by python/tools/make-modules: don't edit.
 
 from __future__ import annotations
 

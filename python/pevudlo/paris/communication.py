@@ -1,6 +1,6 @@
 """Instructions as functions: what goes between processors. Each gives the text of its instruction."""
 
-# Made by python/make-modules: don't edit.
+# Made by python/tools/make-modules: don't edit.
 
 from typing import Literal
 

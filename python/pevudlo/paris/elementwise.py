@@ -1,6 +1,6 @@
 """Instructions as functions: what each processor does by itself. Each gives the text of its instruction."""
 
-# Made by python/make-modules: don't edit.
+# Made by python/tools/make-modules: don't edit.
 
 from pevudlo.lang.instructions import spell
 

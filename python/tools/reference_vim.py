@@ -1,4 +1,4 @@
-"""Syntax files for the editor Vim, which python/make-docs writes from the tables of commands and instructions."""
+"""Syntax files for the editor Vim, which python/tools/make-docs writes from the tables of commands and instructions."""
 
 from __future__ import annotations
 
@@ -7,7 +7,7 @@ from collections.abc import Iterable
 from pevudlo.lang.grammar import COMMANDS
 from pevudlo.lang.instructions import FLAGS, INSTRUCTIONS
 
-NOTE = "\" Made by python/make-docs: don't edit."
+NOTE = "\" Made by python/tools/make-docs: don't edit."
 
 FTDETECT = f"""{NOTE}
 autocmd BufRead,BufNewFile *.paris setfiletype paris

@@ -1,4 +1,4 @@
-"""The reference as a document: docs/INSTRUCTIONS.md, which python/make-docs writes."""
+"""The reference as a document: docs/INSTRUCTIONS.md, which python/tools/make-docs writes."""
 
 from __future__ import annotations
 
@@ -11,7 +11,7 @@ from pevudlo.reference.text import script_lines
 HEAD = (
     "# Instructions, each with an example",
     "",
-    "<!-- Made by python/make-docs: don't edit. -->",
+    "<!-- Made by python/tools/make-docs: don't edit. -->",
     "",
     "An example of each instruction to paste: into a file for `./paris FILE`, or into `./paris prompt`. Examples of "
     "each command and of each fault are here too. Behind a line stands as a comment what is answered to it, where "
