@@ -1,4 +1,4 @@
-"""Scripts that the prompt loads and saves, and the history of its lines."""
+"""Scripts that are read and written, and the history of the prompt's lines."""
 
 from __future__ import annotations
 
@@ -15,14 +15,18 @@ def path_of(name: str) -> Path:
     return Path(os.path.expanduser(name))
 
 
-def read_lines(path: Path) -> list[str]:
-    """The lines of a script, without line feeds. Bytes that aren't UTF-8 are surrogates.
+def lines_in(data: bytes) -> list[str]:
+    """The lines of a script, cut at line feeds alone. A last one without one is a line too.
 
-    Raises OSError, or ValueError where no file can have such a name.
+    Bytes that aren't UTF-8 are surrogates.
     """
-    text = path.read_bytes().decode("utf-8", "surrogateescape")
-    lines = text.split("\n")
+    lines = data.decode("utf-8", "surrogateescape").split("\n")
     return lines[:-1] if lines[-1] == "" else lines
+
+
+def read_lines(path: Path) -> list[str]:
+    """The lines of a script in a file. Raises OSError, or ValueError where no file can have such a name."""
+    return lines_in(path.read_bytes())
 
 
 def write_lines(path: Path, lines: list[str]) -> None:

@@ -19,8 +19,8 @@ import pytest
 from random_lines import RandomLines
 
 from pevudlo import END, START, Ended, Library, Machine, NotFound, Pending, Pipe, after, find, find_library
-from pevudlo.wire import library_places
 from pevudlo.values.arrays import ValueArray
+from pevudlo.wire import library_places
 from pevudlo.wire.library import CALLS, Outcome, place_number
 from pevudlo.wire.program import ROOT
 

@@ -19,6 +19,7 @@ from pages import REPOSITORY, answers, script_of
 from selenium.webdriver.common.by import By
 from selenium.webdriver.common.keys import Keys
 from selenium.webdriver.remote.webdriver import WebDriver
+from usages import is_usage_of
 
 from pevudlo.live import command
 from pevudlo.live.server import Server
@@ -310,10 +311,13 @@ def until_gone(process: int) -> None:
     raise AssertionError(f"process {process} lives")
 
 
-@pytest.mark.parametrize("words", [["a", "b"], ["--port", "x"], ["--port=70000"], ["--workers", "0"], ["-o", "x"]])
+@pytest.mark.parametrize(
+    "words", [["a", "b"], ["--port", "x"], ["--port=70000"], ["--workers", "0"], ["-o", "x"], ["-"]]
+)
 def test_wrong_words_have_status_2(words: list[str], capsys: pytest.CaptureFixture[str]) -> None:
-    assert command.main(words) == 2
-    assert capsys.readouterr().err == command.USAGE + "\n"
+    with pytest.raises(SystemExit) as ended:
+        command.main(words)
+    assert ended.value.code == 2 and is_usage_of("live", capsys.readouterr().err)
 
 
 def test_a_port_that_is_taken(capsys: pytest.CaptureFixture[str]) -> None:

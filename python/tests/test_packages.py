@@ -23,14 +23,15 @@ LOW = {
     "record": "draw hints lang wire",
     "reference": "lang",
 }
-TALKING = " ".join(LOW) + " machine data talk explain files"
+TALKING = " ".join(LOW) + " machine data talk explain files arguments"
 STANDS_ON = {
     **LOW,
     "files": "",
+    "arguments": "draw",
     "talk": "hints lang",
     "data": "lang talk values wire",
     "machine": "data draw lang talk values wire",
-    "explain": "draw lang talk wire",
+    "explain": "arguments draw lang talk wire",
     "page": TALKING,
     "prompt": TALKING,
     "live": TALKING + " page",

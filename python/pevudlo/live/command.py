@@ -4,43 +4,38 @@ from __future__ import annotations
 
 import signal
 import sys
+from argparse import ArgumentTypeError
 from pathlib import Path
 from types import FrameType
 
+from pevudlo.arguments import Arguments, file_name
 from pevudlo.draw.visible import visible
-from pevudlo.files import why
+from pevudlo.files import read_lines, why
 from pevudlo.live.server import Server
 from pevudlo.live.session import Session, Stopped
-from pevudlo.page.page import lines_of
 from pevudlo.wire.pipe import PipeError
 from pevudlo.wire.program import NotFound, find
 
-USAGE = "usage: paris live [--workers 1-16] [--port 0-65535] [FILE]"
-HELP = f"""{USAGE}
+DOES = (
+    "Serves a page on which a program is edited: rows, input data, orders. It is for browsers on this machine alone, "
+    "at the address that is written first. Ctrl-C ends it."
+)
 
-Serves a page on which a program is edited: rows, input data, orders. It is for browsers on this machine alone, at the
-address that is written first. Ctrl-C ends it."""
+
+def port(word: str) -> int:
+    """A port's number, 0 for any that is free."""
+    if not (word.isascii() and word.isdigit()) or len(word) > 5 or int(word) > 65535:
+        raise ArgumentTypeError(f"`{word}` is no number from 0 to 65535")
+    return int(word)
 
 
-def words_of(words: list[str]) -> tuple[Path | None, int, int] | None:
-    """The script, how many workers, and the port, 0 for any; none where the words are wrong."""
-    files: list[str] = []
-    numbers = {"--workers": "2", "--port": "0"}
-    rest = iter(words)
-    for word in rest:
-        name, equals, value = word.partition("=")
-        if name in numbers:
-            numbers[name] = value if equals else next(rest, "")
-        elif word.startswith("-"):
-            return None
-        else:
-            files.append(word)
-    if len(files) > 1 or numbers["--workers"] not in map(str, range(1, 17)):
-        return None
-    port = numbers["--port"]
-    if not (port.isascii() and port.isdigit()) or len(port) > 5 or int(port) > 65535:
-        return None
-    return Path(files[0]) if files else None, int(numbers["--workers"]), int(port)
+def arguments() -> Arguments:
+    """The reader of the command's words."""
+    parser = Arguments("live", DOES)
+    parser.add_argument("file", nargs="?", type=file_name, metavar="FILE", help="a script that the program begins with")
+    said = "the port; 0 is any that is free (default: %(default)s)"
+    parser.add_argument("--port", type=port, default=0, metavar="0-65535", help=said)
+    return parser
 
 
 def interrupt(number: int, frame: FrameType | None) -> None:
@@ -61,27 +56,21 @@ def serve(session: Session, title: str, port: int) -> None:
 
 def main(words: list[str]) -> int:
     """Serves a page. The exit status is 0 after Ctrl-C, and 2 where the words are wrong or nothing can be served."""
-    if words in (["--help"], ["-h"]):
-        print(HELP)
-        return 0
-    meant = words_of(words)
-    if meant is None:
-        print(USAGE, file=sys.stderr)
-        return 2
-    path, workers, port = meant
+    said = arguments().parse_args(words)
+    path = Path(said.file) if said.file is not None else None
     signal.signal(signal.SIGTERM, interrupt)
     session = None
     try:
-        lines = lines_of(path) if path is not None else []
+        lines = read_lines(path) if path is not None else []
     except (OSError, ValueError) as error:
         print(f"paris live: can't read {visible(str(path))}: {why(error)}", file=sys.stderr)
         return 2
     try:
-        session = Session(find(), workers)
+        session = Session(find(), said.workers)
         refused = session.load(lines)
         if refused:
             print(f"paris live: {len(refused)} of the script's lines were refused; the page says why", file=sys.stderr)
-        serve(session, path.name if path is not None else "a new program", port)
+        serve(session, path.name if path is not None else "a new program", said.port)
     except KeyboardInterrupt:
         print()
     except (OSError, NotFound, PipeError, Stopped) as error:

@@ -1,18 +1,14 @@
-"""`paris page FILE [-o OUT.html]`: a script as one HTML file that needs no network.
+"""A script as one HTML file that needs no network.
 
 Each number on it is from a reply of the program.
 """
 
 from __future__ import annotations
 
-import sys
 from collections.abc import Iterable
 from dataclasses import dataclass, field, replace
-from pathlib import Path
 
 from pevudlo.draw.grids import read_static
-from pevudlo.draw.visible import visible
-from pevudlo.files import why
 from pevudlo.page.blocks import Block, Kind, blocks_of
 from pevudlo.page.blocks_html import body_of, heading_of
 from pevudlo.page.end import end_section
@@ -20,15 +16,7 @@ from pevudlo.page.frame import document
 from pevudlo.page.history import MOST_COLUMNS, Moment, history_table, moment_of
 from pevudlo.page.parts import plural, prose, sign
 from pevudlo.record.recorder import Recorder, Step
-from pevudlo.wire.pipe import Pipe, PipeError
-from pevudlo.wire.program import NotFound, find
-
-USAGE = "usage: paris page [--workers 1-16] FILE [-o OUT.html]"
-HELP = f"""{USAGE}
-
-Makes a page of a script, one HTML file that needs no network: NAME.html in the folder where you are, for a script
-NAME.paris, or OUT.html. FILE may be `-`, for standard input. With `-o -`, and where FILE is `-`, the page goes to
-standard output. The exit status is the program's."""
+from pevudlo.wire.pipe import Pipe
 
 
 @dataclass
@@ -128,91 +116,3 @@ def page_of(title: str, lines: Iterable[str], pipe: Pipe) -> Page:
     page = Page(title, Recorder(pipe))
     page.fill(lines)
     return page
-
-
-def lines_of(path: Path) -> list[str]:
-    """The lines of a script, cut at line feeds alone; `-` is standard input. A last one without one is a line too."""
-    data = sys.stdin.buffer.read() if str(path) == "-" else path.read_bytes()
-    text = data.decode("utf-8", "surrogateescape")
-    lines = text.split("\n")
-    return lines[:-1] if lines[-1] == "" else lines
-
-
-def words_of(words: list[str]) -> tuple[Path, str, int] | None:
-    """The script, where the page goes, and how many workers; none where the words are wrong."""
-    files: list[str] = []
-    out, workers = "", "2"
-    rest = iter(words)
-    for word in rest:
-        if word == "-o":
-            out = next(rest, "")
-            if not out:
-                return None
-        elif word == "--workers":
-            workers = next(rest, "")
-        elif word.startswith("--workers="):
-            workers = word.partition("=")[2]
-        elif word.startswith("-") and word != "-":
-            return None
-        else:
-            files.append(word)
-    if len(files) != 1 or workers not in map(str, range(1, 17)):
-        return None
-    return Path(files[0]), out or ("-" if files[0] == "-" else Path(files[0]).stem + ".html"), int(workers)
-
-
-def main(words: list[str]) -> int:
-    """Makes a page. The exit status is the program's, or 2 where the words are wrong or a file can't be had."""
-    if words in (["--help"], ["-h"]):
-        print(HELP)
-        return 0
-    meant = words_of(words)
-    if meant is None:
-        print(USAGE, file=sys.stderr)
-        return 2
-    path, out, workers = meant
-    try:
-        lines = lines_of(path)
-    except (OSError, ValueError) as error:
-        return ends_badly(f"can't read {visible(str(path))}: {why(error)}")
-    if is_same_file(path, out):
-        return ends_badly(f"the page would stand in the place of its script: -o says another than {visible(out)}")
-    try:
-        with Pipe(find(), workers) as pipe:
-            html = page_of("standard input" if str(path) == "-" else path.name, lines, pipe).html()
-            status = pipe.close()
-    except (OSError, NotFound) as error:
-        return ends_badly(str(error))
-    except PipeError as error:
-        return ends_badly(str(error), error.status if error.status > 0 else 128 - error.status)
-    return write(html, out, status)
-
-
-def write(html: str, out: str, status: int) -> int:
-    """Writes the page, and gives the exit status: the program's, or 2 where the file can't be had."""
-    try:
-        if out == "-":
-            sys.stdout.write(html)
-            sys.stdout.flush()
-        else:
-            Path(out).write_text(html, encoding="utf-8")
-            print(visible(out))
-    except BrokenPipeError:
-        raise
-    except (OSError, ValueError) as error:
-        return ends_badly(f"can't write {visible(out)}: {why(error)}")
-    return status
-
-
-def is_same_file(script: Path, out: str) -> bool:
-    """Whether the page would be written over the script."""
-    try:
-        return out != "-" and str(script) != "-" and script.is_file() and script.samefile(out)
-    except (OSError, ValueError):
-        return False
-
-
-def ends_badly(said: str, status: int = 2) -> int:
-    """Says why there is no page, and gives the exit status."""
-    print(f"paris page: {said}", file=sys.stderr)
-    return status

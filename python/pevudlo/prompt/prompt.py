@@ -1,21 +1,17 @@
-"""`prompt [FILE]`: lines are told to a program one by one, with history, completion and help."""
+"""What the prompt answers to a line."""
 
 from __future__ import annotations
 
-import sys
 from collections.abc import Callable
 from pathlib import Path
 
 from pevudlo.draw.visible import visible
 from pevudlo.explain import ending
 from pevudlo.files import path_of, read_lines, why, write_lines
-from pevudlo.prompt.help import OWN, OWN_WORDS, help_for, own_word_for
-from pevudlo.prompt.lines import Reader, Terminal, Piped, is_terminal
+from pevudlo.prompt.help import OWN, help_for, own_word_for
+from pevudlo.prompt.lines import Reader
 from pevudlo.prompt.session import Session, Stopped
 from pevudlo.prompt.show import WAYS, View, answer_lines, is_told
-from pevudlo.wire.program import NotFound, find
-
-USAGE = "usage: paris prompt [--workers 1-16] [FILE]"
 
 
 class Prompt:
@@ -158,68 +154,3 @@ def talk(prompt: Prompt, reader: Reader) -> None:
             prompt.say("", "no program runs: it was interrupted", prompt.kept_words())
         if not prompt.session.is_running:
             reader.drop()
-
-
-def run(session: Session, file: str | None) -> None:
-    """The prompt, from the file's lines on where one is named. Raises Stopped where no program can be started."""
-    reader: Reader = Terminal(lambda: session.board) if is_terminal() else Piped()
-    prompt = Prompt(session, lambda line: print(line, flush=True), is_terminal())
-    try:
-        session.begin()
-        prompt.say(*reader.welcome())
-        if file is not None:
-            try:
-                prompt.load(path_of(file))
-            except Stopped as stopped:
-                prompt.say(f"no program runs: {stopped}", prompt.kept_words())
-        talk(prompt, reader)
-    finally:
-        session.close()
-
-
-def meant_by(words: list[str]) -> tuple[str | None, int] | None:
-    """The file, if one is named, and how many workers. None where the words are wrong."""
-    names, workers, rest = list[str](), "2", iter(words)
-    for word in rest:
-        if word == "--workers":
-            workers = next(rest, "")
-        elif word.startswith("--workers="):
-            workers = word.partition("=")[2]
-        else:
-            names.append(word)
-    if len(names) > 1 or names and names[0].startswith("-") or workers not in map(str, range(1, 17)):
-        return None
-    return (names[0] if names else None), int(workers)
-
-
-def main(words: list[str]) -> int:
-    """Runs the command. The exit status is 2 where the words are wrong, the file can't be read, or no program is "
-    "there."""
-    if words in (["--help"], ["-h"]):
-        print(USAGE)
-        for word in OWN_WORDS:
-            print(f"  {word.spelling}: {word.does}")
-        return 0
-    meant = meant_by(words)
-    if meant is None:
-        print(USAGE, file=sys.stderr)
-        return 2
-    file, workers = meant
-    try:
-        if file is not None:
-            read_lines(path_of(file))
-    except (OSError, ValueError) as error:
-        return ends_badly(f"can't read {visible(file or '')}: {why(error)}")
-    try:
-        run(Session(find(), workers), file)
-    except NotFound as error:
-        return ends_badly(str(error))
-    except Stopped as stopped:
-        return ends_badly(f"no program runs: {stopped}")
-    return 0
-
-
-def ends_badly(said: str) -> int:
-    """Says why there is no prompt, and gives the exit status."""
-    print(f"paris prompt: {said}", file=sys.stderr)
-    return 2
