@@ -60,6 +60,7 @@ def named_by(node: ast.AST) -> Iterator[str]:
     """The package's modules that a statement imports."""
     if isinstance(node, ast.Import):
         yield from (each.name for each in node.names if each.name in NAMES)
+    assert not isinstance(node, ast.ImportFrom) or node.level == 0, "modules are imported by their whole names"
     if isinstance(node, ast.ImportFrom) and node.module in NAMES:
         modules = {f"{node.module}.{each.name}" for each in node.names}
         yield from (modules & NAMES) or {node.module}
