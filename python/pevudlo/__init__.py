@@ -1,15 +1,15 @@
 """Talks with paris_front, the front end for Paris programs, and shows no number that isn't one of its replies."""
 
 from pevudlo import paris
-from pevudlo.hints import Explanation, Refusal
-from pevudlo.library import Library
-from pevudlo.library_places import find_library
+from pevudlo.hints.explanation import Explanation, Refusal
+from pevudlo.lang.places import END, START, Place, after
+from pevudlo.lang.replies import Cause, OrderTaken, Row, RowFault, Status, Verdict, Word
 from pevudlo.machine import Machine, RowList
-from pevudlo.pipe import Ended, OutOfTurn, Pipe, PipeError
-from pevudlo.places import END, START, Place, after
-from pevudlo.program import NotFound, find
-from pevudlo.replies import Cause, OrderTaken, Row, RowFault, Status, Verdict, Word
-from pevudlo.values import Pending, ValueList, WrongShape, signed, unsigned
+from pevudlo.values.shaped import Pending, ValueList, WrongShape, signed, unsigned
+from pevudlo.wire.library import Library
+from pevudlo.wire.library_places import find_library
+from pevudlo.wire.pipe import Ended, OutOfTurn, Pipe, PipeError
+from pevudlo.wire.program import NotFound, find
 
 __all__ = [
     "END",

@@ -4,11 +4,11 @@ from __future__ import annotations
 
 from collections.abc import Sequence
 
-from pevudlo.library import END_NUMBER, Library, place_number
-from pevudlo.replies import Ok, PendingReply, Values
+from pevudlo.lang.replies import Ok, PendingReply, Values
 from pevudlo.talk import Talk, of_kind
-from pevudlo.values import Pending, input_lines
-from pevudlo.words import words_of
+from pevudlo.values.shaped import Pending, input_lines
+from pevudlo.values.words import words_of
+from pevudlo.wire.library import END_NUMBER, Library, place_number
 
 
 class LineData:

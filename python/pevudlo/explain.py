@@ -4,22 +4,21 @@ from __future__ import annotations
 
 import sys
 from contextlib import nullcontext
-from dataclasses import dataclass
 from typing import BinaryIO, ContextManager, Iterator
 
-from pevudlo.board import Board
-from pevudlo.grids import Grid, text_of
-from pevudlo.pipe import Pipe, PipeError
-from pevudlo.program import NotFound, find
-from pevudlo.replies import Cause, Faults, OrderTaken, PendingReply, Refused, RowFault, Values, Verdict, Word
+from pevudlo.arguments import Arguments
+from pevudlo.draw.grids import Grid, text_of
+from pevudlo.draw.visible import visible
+from pevudlo.lang.board import Board
+from pevudlo.lang.replies import Cause, Faults, OrderTaken, PendingReply, Refused, RowFault, Values, Verdict, Word
 from pevudlo.talk import Answer, Talk
-from pevudlo.visible import visible
+from pevudlo.wire.pipe import Pipe, PipeError
+from pevudlo.wire.program import NotFound, find
 
-USAGE = "usage: paris explain [--workers 1-16] FILE [--stop]"
-HELP = f"""{USAGE}
-
-Runs a script, and says of each line what came of it: values as grids, and refusals in words with what there is instead.
-FILE may be `-`, for standard input. --stop ends at the first refusal. The exit status is the program's."""
+DOES = (
+    "Runs a script, and says of each line what came of it: values as grids, and refusals in words with what there is "
+    "instead. The exit status is the program's."
+)
 INDENT = "    "
 VERDICTS = {
     Word.KEPT: "the result is the present row's, and settles it",
@@ -107,34 +106,12 @@ def explain(name: str, script: BinaryIO, pipe: Pipe, stop: bool = False) -> None
     print(f"{name}: {ending(commands, refused, stopped)}")
 
 
-@dataclass(frozen=True)
-class Meant:
-    """What the words of a command line ask for."""
-
-    name: str
-    stop: bool
-    workers: int
-
-
-def meant_by(words: list[str]) -> Meant | None:
-    """What the words ask for, or None where they are wrong."""
-    names: list[str] = []
-    stops, workers = 0, "2"
-    rest = iter(words)
-    for word in rest:
-        if word == "--stop":
-            stops += 1
-        elif word == "--workers":
-            workers = next(rest, "")
-        elif word.startswith("--workers="):
-            workers = word.partition("=")[2]
-        elif word == "-" or not word.startswith("-"):
-            names.append(word)
-        else:
-            return None
-    if len(names) != 1 or stops > 1 or workers not in map(str, range(1, 17)):
-        return None
-    return Meant(names[0], stops == 1, int(workers))
+def arguments() -> Arguments:
+    """The reader of the command's words."""
+    parser = Arguments("explain", DOES)
+    parser.add_argument("file", metavar="FILE", help="a script, or `-` for standard input")
+    parser.add_argument("--stop", action="count", default=0, help="end at the first refusal")
+    return parser
 
 
 def opened(name: str) -> ContextManager[BinaryIO]:
@@ -146,17 +123,14 @@ def opened(name: str) -> ContextManager[BinaryIO]:
 
 def main(words: list[str]) -> int:
     """Runs the command. The exit status is the program's, or 2 where the words are wrong or the file can't be read."""
-    if words in (["--help"], ["-h"]):
-        print(HELP)
-        return 0
-    meant = meant_by(words)
-    if meant is None:
-        print(USAGE, file=sys.stderr)
-        return 2
-    name = visible(meant.name)
+    parser = arguments()
+    said = parser.parse_args(words)
+    if said.stop > 1:
+        parser.error("--stop is said twice")
+    name = visible(said.file)
     try:
-        with opened(meant.name) as script, Pipe(find(), meant.workers) as pipe:
-            explain(name, script, pipe, meant.stop)
+        with opened(said.file) as script, Pipe(find(), said.workers) as pipe:
+            explain(name, script, pipe, said.stop == 1)
             return pipe.close()
     except BrokenPipeError:
         raise

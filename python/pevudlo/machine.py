@@ -7,16 +7,11 @@ from collections.abc import Mapping
 from pathlib import Path
 from types import MappingProxyType, TracebackType
 
-from pevudlo.board import Board, Declared
 from pevudlo.data import ArrayData, LineData
-from pevudlo.grids import Grid
-from pevudlo.library import Library
-from pevudlo.library_places import find_library
-from pevudlo.notebook import rows_html
-from pevudlo.pipe import Pipe
-from pevudlo.places import END, Place, spelled
-from pevudlo.program import find
-from pevudlo.replies import (
+from pevudlo.draw.grids import Grid
+from pevudlo.lang.board import Board, Declared
+from pevudlo.lang.places import END, Place, spelled
+from pevudlo.lang.replies import (
     Faults,
     NoReply,
     Nothing,
@@ -30,7 +25,12 @@ from pevudlo.replies import (
     Verdict,
 )
 from pevudlo.talk import Talk, of_kind
-from pevudlo.values import Pending, Shown, check_shape, flat, shaped
+from pevudlo.values.notebook import rows_html
+from pevudlo.values.shaped import Pending, Shown, check_shape, flat, shaped
+from pevudlo.wire.library import Library
+from pevudlo.wire.library_places import find_library
+from pevudlo.wire.pipe import Pipe
+from pevudlo.wire.program import find
 
 
 class RowList(tuple[Row, ...]):

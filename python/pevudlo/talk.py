@@ -5,9 +5,9 @@ from __future__ import annotations
 from dataclasses import dataclass
 from typing import Protocol, TypeVar
 
-from pevudlo.board import Board
-from pevudlo.hints import Explanation, Refusal, explained
-from pevudlo.replies import NoReply, Refused, Reply, parse
+from pevudlo.hints.explanation import Explanation, Refusal, explained
+from pevudlo.lang.board import Board
+from pevudlo.lang.replies import NoReply, Refused, Reply, parse
 
 Kind = TypeVar("Kind", bound=Reply)
 

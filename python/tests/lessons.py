@@ -6,7 +6,7 @@ import re
 from collections.abc import Iterator
 from dataclasses import dataclass, field
 
-from pevudlo.program import ROOT
+from pevudlo.wire.program import ROOT
 
 TOLD = ("show", "list", "faults", "take", "bring", "settle")
 """The commands behind which a comment says what is answered."""

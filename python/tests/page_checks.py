@@ -6,9 +6,9 @@ from functools import cache
 
 from pages import Node, Tree, answers, marked, numbers_of, script_of
 
-from pevudlo.page import page_of
-from pevudlo.pipe import Pipe
-from pevudlo.program import find
+from pevudlo.page.page import page_of
+from pevudlo.wire.pipe import Pipe
+from pevudlo.wire.program import find
 
 
 def tree_of(lines: list[str], title: str = "a script") -> Node:

@@ -11,7 +11,9 @@ from pathlib import Path
 
 REPOSITORY = Path(__file__).resolve().parents[2]
 GALLERY = sorted(path.stem for path in (REPOSITORY / "examples").glob("*.paris"))
-ROWS = sorted(str(path.relative_to(REPOSITORY).with_suffix("")) for path in (REPOSITORY / "checks/rows").glob("*/*.paris"))
+ROWS = sorted(
+    str(path.relative_to(REPOSITORY).with_suffix("")) for path in (REPOSITORY / "checks/rows").glob("*/*.paris")
+)
 VOID = {"meta", "link", "img", "input", "br"}
 
 

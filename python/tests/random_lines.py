@@ -4,7 +4,7 @@ from __future__ import annotations
 
 from random import Random
 
-from pevudlo.instructions import FLAGS, INSTRUCTIONS, Operand
+from pevudlo.lang.instructions import FLAGS, INSTRUCTIONS, Operand
 
 SETS = ("S", "T", "Grid")
 FIELDS = ("a", "b", "c", "t", "u", "f", "g", "n")

@@ -15,7 +15,7 @@ import time
 from pathlib import Path
 from types import TracebackType
 
-from pevudlo.program import ROOT, find
+from pevudlo.wire.program import ROOT, find
 
 PATIENCE = 20.0
 PROMPT = "paris> "

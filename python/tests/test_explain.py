@@ -12,8 +12,9 @@ from pathlib import Path
 
 import pytest
 from random_lines import RandomLines
+from usages import is_usage_of
 
-from pevudlo.program import find
+from pevudlo.wire.program import find
 
 REPOSITORY = Path(__file__).resolve().parents[2]
 SCRIPTS = sorted(REPOSITORY.glob("examples/*.paris")) + sorted(REPOSITORY.glob("checks/rows/*/*.paris"))
@@ -152,8 +153,7 @@ def test_a_refusal_with_caret_and_hint(tmp_path: Path) -> None:
 def test_words(tmp_path: Path) -> None:
     for words in ("", "a b", "--stop", "--stop --stop a", "--nope a", "--workers 17 a", "a --workers"):
         ran = run(*words.split())
-        assert (ran.returncode, ran.stdout) == (2, "")
-        assert ran.stderr.startswith("usage: ")
+        assert (ran.returncode, ran.stdout) == (2, "") and is_usage_of("explain", ran.stderr)
     ran = run(tmp_path / "none")
     assert ran.returncode == 2 and "can't read" in ran.stderr
     assert run(tmp_path).returncode == 2

@@ -5,7 +5,7 @@ from __future__ import annotations
 import re
 from pathlib import Path
 
-from pevudlo.faults import FAULTS
+from pevudlo.lang.faults import FAULTS
 
 REPOSITORY = Path(__file__).resolve().parents[2]
 SOURCE = REPOSITORY / "crates/paris_names/src/faults.rt"

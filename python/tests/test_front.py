@@ -8,6 +8,7 @@ import subprocess
 from pathlib import Path
 
 import pytest
+from usages import is_usage_of
 
 REPOSITORY = Path(__file__).resolve().parents[2]
 PARIS = REPOSITORY / "paris"
@@ -45,12 +46,18 @@ def test_a_terminal_is_told_what_is_waited_for() -> None:
 
 @pytest.mark.parametrize(
     "words",
-    ["--nope", "a b", "--workers", "explain --nope x", "explain", "--workers 2 explain x", "--where explain x", "page"],
+    ["--nope", "a b", "--workers", "--workers 2 explain x", "--where explain x"],
 )
 def test_wrong_words(words: str) -> None:
     ran = paris(*words.split())
     assert (ran.returncode, ran.stdout) == (2, "")
     assert "usage: " in ran.stderr and ran.stderr.count("\n") == 1
+
+
+@pytest.mark.parametrize("words", ["explain --nope x", "explain", "prompt a b", "page", "live --port"])
+def test_wrong_words_behind_a_command(words: str) -> None:
+    ran = paris(*words.split())
+    assert (ran.returncode, ran.stdout) == (2, "") and is_usage_of(words.split()[0], ran.stderr)
 
 
 def test_help_and_where() -> None:

@@ -4,11 +4,11 @@ from __future__ import annotations
 
 from pathlib import Path
 
-from pevudlo.board import Board, Declared
-from pevudlo.grammar import COMMANDS, Kind, may_end, next_slots, words_before, wrong_column
-from pevudlo.instructions import INSTRUCTIONS
-from pevudlo.pipe import Pipe
-from pevudlo.program import find
+from pevudlo.lang.board import Board, Declared
+from pevudlo.lang.grammar import COMMANDS, Kind, may_end, next_slots, words_before, wrong_column
+from pevudlo.lang.instructions import INSTRUCTIONS
+from pevudlo.wire.pipe import Pipe
+from pevudlo.wire.program import find
 
 REPOSITORY = Path(__file__).resolve().parents[2]
 

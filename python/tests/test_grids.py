@@ -10,10 +10,10 @@ from html.parser import HTMLParser
 
 import pytest
 
-from pevudlo.grids import Grid, differing, html_of, style, summary_of, text_of
-from pevudlo.pictures import GAP, STEPS, picture_of
-from pevudlo.shapes import sheets_of
-from pevudlo.units import Unit, spelled
+from pevudlo.draw.grids import Grid, differing, html_of, style, summary_of, text_of
+from pevudlo.draw.pictures import GAP, STEPS, picture_of
+from pevudlo.draw.shapes import sheets_of
+from pevudlo.draw.units import Unit, spelled
 
 
 def indices_of(address: str) -> list[list[int]]:

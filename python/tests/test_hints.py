@@ -4,12 +4,12 @@ from __future__ import annotations
 
 import pytest
 
-from pevudlo.board import Board
-from pevudlo.faults import FAULTS
-from pevudlo.hints import Explanation, Refusal, explained
-from pevudlo.pipe import Pipe
-from pevudlo.program import find
-from pevudlo.replies import Refused, parse
+from pevudlo.hints.explanation import Explanation, Refusal, explained
+from pevudlo.lang.board import Board
+from pevudlo.lang.faults import FAULTS
+from pevudlo.lang.replies import Refused, parse
+from pevudlo.wire.pipe import Pipe
+from pevudlo.wire.program import find
 
 DECLARED = [
     "set S 4x4",

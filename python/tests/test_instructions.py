@@ -10,9 +10,9 @@ from pathlib import Path
 import pytest
 
 from pevudlo import paris
-from pevudlo.instructions import BY_FUNCTION, COMBINERS, INSTRUCTIONS, Instruction, Operand, read
-from pevudlo.pipe import Pipe
-from pevudlo.program import find
+from pevudlo.lang.instructions import BY_FUNCTION, COMBINERS, INSTRUCTIONS, Instruction, Operand, read
+from pevudlo.wire.pipe import Pipe
+from pevudlo.wire.program import find
 
 REPOSITORY = Path(__file__).resolve().parents[2]
 WORDS = {
@@ -138,10 +138,12 @@ def test_read() -> None:
             read(wrong)
 
 
-@pytest.mark.parametrize("name", ["faults.py", "paris/__init__.py", "paris/elementwise.py", "paris/communication.py"])
+@pytest.mark.parametrize(
+    "name", ["lang/faults.py", "paris/__init__.py", "paris/elementwise.py", "paris/communication.py"]
+)
 def test_modules_are_what_is_made(name: str) -> None:
     made = subprocess.run(
-        [sys.executable, REPOSITORY / "python/make-modules", "--print", name],
+        [sys.executable, REPOSITORY / "python/tools/make-modules", "--print", name],
         capture_output=True,
         text=True,
         timeout=60,

@@ -11,8 +11,8 @@ from collections.abc import Callable
 import pytest
 from lessons import Block, expected, parts, scripts
 from paris_model_book import Book
-from pevudlo.pipe import Pipe
-from pevudlo.program import ROOT, find
+from pevudlo.wire.pipe import Pipe
+from pevudlo.wire.program import ROOT, find
 
 SCRIPTS = list(scripts())
 NAMES = [f"{block.part.split('.')[0]}-{block.lines[0].replace(' ', '-')}-{at}" for at, (block, _) in enumerate(SCRIPTS)]

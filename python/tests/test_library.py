@@ -19,10 +19,10 @@ import pytest
 from random_lines import RandomLines
 
 from pevudlo import END, START, Ended, Library, Machine, NotFound, Pending, Pipe, after, find, find_library
-from pevudlo import library_places
-from pevudlo.arrays import ValueArray
-from pevudlo.library import CALLS, Outcome, place_number
-from pevudlo.program import ROOT
+from pevudlo.values.arrays import ValueArray
+from pevudlo.wire import library_places
+from pevudlo.wire.library import CALLS, Outcome, place_number
+from pevudlo.wire.program import ROOT
 
 HEADER = ROOT / "bindings/c/paris.h"
 FRONT = ROOT / "crates/paris_front"

@@ -19,11 +19,12 @@ from pages import REPOSITORY, answers, script_of
 from selenium.webdriver.common.by import By
 from selenium.webdriver.common.keys import Keys
 from selenium.webdriver.remote.webdriver import WebDriver
+from usages import is_usage_of
 
-from pevudlo import live
-from pevudlo.live_http import Server
-from pevudlo.live_session import Session
-from pevudlo.program import find
+from pevudlo.live import command
+from pevudlo.live.server import Server
+from pevudlo.live.session import Session
+from pevudlo.wire.program import find
 
 
 @pytest.fixture
@@ -310,14 +311,17 @@ def until_gone(process: int) -> None:
     raise AssertionError(f"process {process} lives")
 
 
-@pytest.mark.parametrize("words", [["a", "b"], ["--port", "x"], ["--port=70000"], ["--workers", "0"], ["-o", "x"]])
+@pytest.mark.parametrize(
+    "words", [["a", "b"], ["--port", "x"], ["--port=70000"], ["--workers", "0"], ["-o", "x"], ["-"]]
+)
 def test_wrong_words_have_status_2(words: list[str], capsys: pytest.CaptureFixture[str]) -> None:
-    assert live.main(words) == 2
-    assert capsys.readouterr().err == live.USAGE + "\n"
+    with pytest.raises(SystemExit) as ended:
+        command.main(words)
+    assert ended.value.code == 2 and is_usage_of("live", capsys.readouterr().err)
 
 
 def test_a_port_that_is_taken(capsys: pytest.CaptureFixture[str]) -> None:
     with socket.create_server(("127.0.0.1", 0)) as taken:
         port = taken.getsockname()[1]
-        assert live.main(["--port", str(port)]) == 2
+        assert command.main(["--port", str(port)]) == 2
     assert capsys.readouterr().err == f"paris live: can't listen at port {port}: Address already in use\n"

@@ -13,9 +13,9 @@ from collections.abc import Iterator
 import pytest
 from pages import Tree, answers, numbers_of, script_of
 
-from pevudlo.live_http import HOST, MOST_BYTES, Server
-from pevudlo.live_session import Session
-from pevudlo.program import find
+from pevudlo.live.server import HOST, MOST_BYTES, Server
+from pevudlo.live.session import Session
+from pevudlo.wire.program import find
 
 TEN_MEGABYTES = 10_000_000
 
@@ -166,7 +166,7 @@ def test_bodies_that_are_no_command(server: Server, body: bytes, headers: dict[s
     assert asked(server, "POST", page(server, "command"), body, **headers)[0] == status
 
 
-@pytest.mark.parametrize("name", ["nothing", "static/page.js", "../live_http.py", "%2e%2e/%2e%2e/etc/passwd"])
+@pytest.mark.parametrize("name", ["nothing", "static/page.js", "../live/server.py", "%2e%2e/%2e%2e/etc/passwd"])
 def test_no_file_is_served(server: Server, name: str) -> None:
     assert asked(server, "GET", page(server, name))[0] == 404
 

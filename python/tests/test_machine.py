@@ -13,10 +13,10 @@ import numpy
 import pytest
 
 from pevudlo import START, Ended, Machine, Pending, Refusal, Row, Status, WrongShape, after, signed, unsigned
-from pevudlo.arrays import ValueArray
-from pevudlo.grids import Grid
-from pevudlo.replies import Cause, OrderTaken, RowFault, Verdict, Word
-from pevudlo.values import input_lines
+from pevudlo.draw.grids import Grid
+from pevudlo.lang.replies import Cause, OrderTaken, RowFault, Verdict, Word
+from pevudlo.values.arrays import ValueArray
+from pevudlo.values.shaped import input_lines
 
 REPOSITORY = Path(__file__).resolve().parents[2]
 
@@ -310,8 +310,8 @@ class Without:
         if name.split(".")[0] == "numpy":
             raise ModuleNotFoundError(name)
 sys.meta_path.insert(0, Without())
-import pevudlo, pevudlo.values
-pevudlo.values.find_spec = lambda name: None
+import pevudlo, pevudlo.values.shaped
+pevudlo.values.shaped.find_spec = lambda name: None
 with pevudlo.Machine(library=sys.argv[2] == "True") as machine:
     machine.set("S", 2, 2)
     machine.field("a", "S", 8)

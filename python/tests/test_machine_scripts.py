@@ -7,7 +7,7 @@ from pathlib import Path
 import pytest
 
 from pevudlo import END, START, Machine, Pending, Place, Refusal, after
-from pevudlo.arrays import ValueArray
+from pevudlo.values.arrays import ValueArray
 
 REPOSITORY = Path(__file__).resolve().parents[2]
 SCRIPTS = sorted(REPOSITORY.glob("examples/*.paris")) + sorted(REPOSITORY.glob("checks/rows/*/*.paris"))

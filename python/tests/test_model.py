@@ -9,9 +9,9 @@ import pytest
 from paris_model import Board, RefusedAtRun, World
 from paris_model_book import Book, FLAGS, keys_of
 from paris_model_run import run
-from pevudlo.instructions import INSTRUCTIONS, Instruction, Operand
-from pevudlo.pipe import Pipe
-from pevudlo.program import ROOT, find
+from pevudlo.lang.instructions import INSTRUCTIONS, Instruction, Operand
+from pevudlo.wire.pipe import Pipe
+from pevudlo.wire.program import ROOT, find
 
 WIDTHS = {"b1": 1, "b2": 1, "b3": 1, "n4": 4, "n8": 8, "m8": 8, "n13": 13, "n64": 64, "m64": 64, "ad": 5}
 GEOMETRIES = ([8], [4, 2], [2, 4, 2], [1])

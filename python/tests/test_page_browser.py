@@ -10,9 +10,9 @@ from browsers import cells, complaints, evaluated, one, until
 from pages import answers, script_of
 from selenium.webdriver.remote.webdriver import WebDriver
 
-from pevudlo.page import page_of
-from pevudlo.pipe import Pipe
-from pevudlo.program import find
+from pevudlo.page.page import page_of
+from pevudlo.wire.pipe import Pipe
+from pevudlo.wire.program import find
 
 LINES = script_of("first-sum")
 LINES += ["insert end u-subtract-3-1L c a b 8", "insert end u-move-1L b b 8", "settle", "show c end"]

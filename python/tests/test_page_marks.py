@@ -9,9 +9,10 @@ import pytest
 from page_checks import looked, rows_at, sections, tree_for, tree_of
 from pages import GALLERY, REPOSITORY, answers, marked, script_of
 from test_grids import indices_of
+from usages import is_usage_of
 
-from pevudlo import page
-from pevudlo.pictures import STEPS
+from pevudlo.draw.pictures import STEPS
+from pevudlo.page import command
 
 
 def test_history_has_a_cell_for_each_row_and_moment() -> None:
@@ -147,22 +148,25 @@ def test_tables_have_captions_and_heads() -> None:
 
 def test_main_writes_the_file_and_gives_the_programs_status(tmp_path: Path, capsys: pytest.CaptureFixture[str]) -> None:
     out = tmp_path / "out.html"
-    assert page.main([str(REPOSITORY / "examples/life.paris"), "-o", str(out)]) == 0
+    assert command.main([str(REPOSITORY / "examples/life.paris"), "-o", str(out)]) == 0
     assert out.read_text().startswith("<!doctype html>") and capsys.readouterr().out == f"{out}\n"
     script = tmp_path / "wrong.paris"
     script.write_text("shw a end\n")
-    assert page.main([str(script), "-o", "-"]) == 1
+    assert command.main([str(script), "-o", "-"]) == 1
     assert "Line 1" in capsys.readouterr().out
 
 
-@pytest.mark.parametrize("words", [[], ["a", "b"], ["--stop", "a"], ["a", "-o"], ["--workers", "17", "a"], ["-x"]])
+@pytest.mark.parametrize(
+    "words", [[], ["a", "b"], ["--stop", "a"], ["a", "-o"], ["--workers", "17", "a"], ["a", "-o", ""], ["-x"]]
+)
 def test_wrong_words_have_status_2(words: list[str], capsys: pytest.CaptureFixture[str]) -> None:
-    assert page.main(words) == 2
-    assert capsys.readouterr().err == page.USAGE + "\n"
+    with pytest.raises(SystemExit) as ended:
+        command.main(words)
+    assert ended.value.code == 2 and is_usage_of("page", capsys.readouterr().err)
 
 
 def test_a_file_that_isnt_there_has_status_2(capsys: pytest.CaptureFixture[str]) -> None:
-    assert page.main(["/nowhere/a.paris"]) == 2
+    assert command.main(["/nowhere/a.paris"]) == 2
     assert "/nowhere/a.paris" in capsys.readouterr().err
 
 

@@ -12,8 +12,8 @@ from pathlib import Path
 
 import pytest
 
-from pevudlo.pipe import Ended, OutOfTurn, Pipe
-from pevudlo.program import find
+from pevudlo.wire.pipe import Ended, OutOfTurn, Pipe
+from pevudlo.wire.program import find
 
 REPOSITORY = Path(__file__).resolve().parents[2]
 
@@ -183,9 +183,8 @@ def test_more_than_a_reply_is_out_of_turn_at_once(tmp_path: Path) -> None:
 
 def test_ctrl_c_at_a_terminal_reaches_who_holds_the_pipe_alone(program: Path) -> None:
     """A terminal sends it to a whole group of processes. Between two lines it can be caught, and the child lives on."""
-    held = (
-        "import sys, time; sys.path.insert(0, sys.argv[1]); from pevudlo.pipe import Pipe; from pathlib import Path\n"
-    )
+    held = "import sys, time; sys.path.insert(0, sys.argv[1])\n"
+    held += "from pevudlo.wire.pipe import Pipe; from pathlib import Path\n"
     held += "with Pipe(Path(sys.argv[2])) as pipe:\n    print(pipe.ask('set S 4'), flush=True)\n"
     held += "    try: time.sleep(20)\n    except KeyboardInterrupt: print(pipe.ask('field a S 8'), pipe.close())\n"
     words = [sys.executable, "-c", held, str(REPOSITORY / "python"), str(program)]
@@ -198,7 +197,7 @@ def test_ctrl_c_at_a_terminal_reaches_who_holds_the_pipe_alone(program: Path) ->
 
 
 def test_ctrl_c_leaves_no_process(program: Path) -> None:
-    held = "import sys; sys.path.insert(0, sys.argv[1]); from pevudlo.pipe import Pipe; from pathlib import Path\n"
+    held = "import sys; sys.path.insert(0, sys.argv[1]); from pevudlo.wire.pipe import Pipe; from pathlib import Path\n"
     held += "with Pipe(Path(sys.argv[2])) as pipe:\n    pipe.ask('set S 65536'); pipe.ask('field a S 64')\n"
     held += "    [pipe.ask('insert end u-truncate-3-1L a a a 64') for _ in range(4000)]\n"
     held += "    print(pipe.process, flush=True); pipe.ask('settle'); print('settled')\n"
@@ -219,7 +218,7 @@ def test_ctrl_c_leaves_no_process(program: Path) -> None:
 
 
 def test_a_pipe_that_nobody_closes_leaves_no_process(program: Path) -> None:
-    held = "import sys; sys.path.insert(0, sys.argv[1]); from pevudlo.pipe import Pipe; from pathlib import Path\n"
+    held = "import sys; sys.path.insert(0, sys.argv[1]); from pevudlo.wire.pipe import Pipe; from pathlib import Path\n"
     held += "pipe = Pipe(Path(sys.argv[2])); print(pipe.process, pipe.ask('settle'))"
     words = [sys.executable, "-c", held, str(REPOSITORY / "python"), str(program)]
     ran = subprocess.run(words, capture_output=True, text=True, timeout=20)

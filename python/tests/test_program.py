@@ -8,8 +8,8 @@ from pathlib import Path
 
 import pytest
 
-from pevudlo import program
-from pevudlo.program import NotFound, find
+from pevudlo.wire import program
+from pevudlo.wire.program import NotFound, find
 
 REPOSITORY = Path(__file__).resolve().parents[2]
 

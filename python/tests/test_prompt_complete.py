@@ -7,11 +7,11 @@ from pathlib import Path
 import pytest
 from random_lines import RandomLines
 
-from pevudlo.board import Board, Declared
-from pevudlo.grammar import COMMANDS, next_slots, wrong_column
-from pevudlo.prompt_complete import offers
-from pevudlo.prompt_help import OWN
-from pevudlo.reference import ENTRIES
+from pevudlo.lang.board import Board, Declared
+from pevudlo.lang.grammar import COMMANDS, next_slots, wrong_column
+from pevudlo.prompt.complete import offers
+from pevudlo.prompt.help import OWN
+from pevudlo.reference.table import ENTRIES
 
 
 def board() -> Board:

@@ -12,12 +12,12 @@ from pathlib import Path
 import pytest
 from terminals import PROMPT, Terminal, children_of
 
-from pevudlo.pipe import Pipe
-from pevudlo.program import ROOT, find
-from pevudlo.prompt_help import OWN_WORDS
-from pevudlo.prompt_lines import tidy
-from pevudlo.reference import ENTRIES
-from pevudlo.reference_text import help_lines
+from pevudlo.prompt.help import OWN_WORDS
+from pevudlo.prompt.lines import tidy
+from pevudlo.reference.table import ENTRIES
+from pevudlo.reference.text import help_lines
+from pevudlo.wire.pipe import Pipe
+from pevudlo.wire.program import ROOT, find
 
 TAB, UP, CTRL_C, CTRL_D, CTRL_U = "\t", "\x1b[A", "\x03", "\x04", "\x15"
 DECLARED = ("set S 4", "field alpha S 8", "field beta S 8", "field bit S 1", "set G 4x2", "field other G 16")

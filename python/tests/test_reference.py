@@ -6,12 +6,12 @@ import re
 from collections.abc import Iterator
 import pytest
 from paris_model_book import Book, flags_written, keys_of
-from pevudlo.faults import FAULTS
-from pevudlo.instructions import INSTRUCTIONS
-from pevudlo.pipe import Pipe
-from pevudlo.program import ROOT, find as find_program
-from pevudlo.reference import ENTRIES, LETTERS, explained_words, find, of_kind
-from pevudlo.reference_entry import Entry, Example, Kind, Step, steps
+from pevudlo.lang.faults import FAULTS
+from pevudlo.lang.instructions import INSTRUCTIONS
+from pevudlo.reference.entry import Entry, Example, Kind, Step, steps
+from pevudlo.reference.table import ENTRIES, LETTERS, explained_words, find, of_kind
+from pevudlo.wire.pipe import Pipe
+from pevudlo.wire.program import ROOT, find as find_program
 
 PROGRAM = find_program()
 SCRIPTS = (ROOT / "docs" / "SCRIPTS.md").read_text()

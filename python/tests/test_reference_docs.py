@@ -3,19 +3,21 @@
 from __future__ import annotations
 
 import re
+import shutil
 import subprocess
 import sys
 from pathlib import Path
 
 import pytest
-from pevudlo.pipe import Pipe
-from pevudlo.program import ROOT, find as find_program
-from pevudlo.reference import ENTRIES, find
-from pevudlo.reference_markdown import document
-from pevudlo.reference_text import help_lines, is_whole, script_lines
+from reference_markdown import document
+
+from pevudlo.reference.table import ENTRIES, find
+from pevudlo.reference.text import help_lines, is_whole, script_lines
+from pevudlo.wire.pipe import Pipe
+from pevudlo.wire.program import ROOT, find as find_program
 
 DOCUMENT = ROOT / "docs" / "INSTRUCTIONS.md"
-MAKER = ROOT / "python" / "make-docs"
+MAKER = ROOT / "python/tools/make-docs"
 
 
 def blocks() -> dict[str, list[str]]:
@@ -29,7 +31,7 @@ WHOLE = {entry.name for entry in ENTRIES if entry.example is not None and is_who
 
 
 def test_the_document_is_what_the_table_says() -> None:
-    assert DOCUMENT.read_text() == document(), "run python/make-docs"
+    assert DOCUMENT.read_text() == document(), "run python/tools/make-docs"
 
 
 def test_the_document_has_an_example_of_each_entry() -> None:
@@ -77,10 +79,9 @@ def test_the_maker_says_what_is_old_and_refuses_other_words() -> None:
 
 
 def test_the_maker_finds_a_document_that_was_changed(tmp_path: Path) -> None:
-    (tmp_path / "python").mkdir()
-    (tmp_path / "python" / "make-docs").write_text(MAKER.read_text())
-    (tmp_path / "python" / "pevudlo").symlink_to(ROOT / "python" / "pevudlo")
-    maker = tmp_path / "python" / "make-docs"
+    shutil.copytree(MAKER.parent, tmp_path / "python/tools")
+    (tmp_path / "python/pevudlo").symlink_to(ROOT / "python/pevudlo")
+    maker = tmp_path / "python/tools/make-docs"
     assert run_maker(maker, "--check").returncode == 1
     assert run_maker(maker).returncode == 0
     made = tmp_path / "docs" / "INSTRUCTIONS.md"

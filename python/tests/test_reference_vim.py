@@ -7,12 +7,12 @@ import subprocess
 from pathlib import Path
 
 import pytest
+from reference_vim import COLOURS, files
 
-from pevudlo.instructions import INSTRUCTIONS
-from pevudlo.program import ROOT
-from pevudlo.reference import ENTRIES, of_kind
-from pevudlo.reference_entry import Kind
-from pevudlo.reference_vim import COLOURS, files
+from pevudlo.lang.instructions import INSTRUCTIONS
+from pevudlo.reference.entry import Kind
+from pevudlo.reference.table import ENTRIES, of_kind
+from pevudlo.wire.program import ROOT
 
 LETTERS = {"Error": "E", "Comment": "#", "Command": "C", "Place": "P", "Instruction": "I", "Flag": "F", "Word": "W"}
 LETTERS["Number"] = "N"
@@ -62,7 +62,7 @@ def signs(lines: list[str], folder: Path) -> list[str]:
 
 @pytest.mark.parametrize("name", sorted(files()))
 def test_a_file_is_what_the_tables_say(name: str) -> None:
-    assert (ROOT / name).read_text() == files()[name], "run python/make-docs"
+    assert (ROOT / name).read_text() == files()[name], "run python/tools/make-docs"
 
 
 def test_vim_colours_lines_by_their_words(tmp_path: Path) -> None:

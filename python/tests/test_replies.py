@@ -6,8 +6,8 @@ from pathlib import Path
 
 import pytest
 
-from pevudlo import replies
-from pevudlo.replies import Cause, RowFault, Status, Word
+from pevudlo.lang import replies
+from pevudlo.lang.replies import Cause, RowFault, Status, Word
 
 REPOSITORY = Path(__file__).resolve().parents[2]
 

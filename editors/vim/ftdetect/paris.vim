@@ -1,2 +1,2 @@
-" Made by python/make-docs: don't edit.
+" Made by python/tools/make-docs: don't edit.
 autocmd BufRead,BufNewFile *.paris setfiletype paris

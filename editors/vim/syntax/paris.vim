@@ -1,5 +1,5 @@
 " Scripts of Paris instructions: lines of commands and comments.
-" Made by python/make-docs: don't edit.
+" Made by python/tools/make-docs: don't edit.
 if exists("b:current_syntax")
   finish
 endif

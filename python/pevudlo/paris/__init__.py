@@ -1,6 +1,6 @@
-"""All instructions as functions, by the rule of names in pevudlo.instructions."""
+"""All instructions as functions, by the rule of names in pevudlo.lang.instructions."""
 
-# Made by python/make-modules: don't edit.
+# Made by python/tools/make-modules: don't edit.
 
 from pevudlo.paris.communication import (
     get,

@@ -1,10 +1,10 @@
 """Instructions as functions: what goes between processors. Each gives the text of its instruction."""
 
-# Made by python/make-modules: don't edit.
+# Made by python/tools/make-modules: don't edit.
 
 from typing import Literal
 
-from pevudlo.instructions import NONE, spell
+from pevudlo.lang.instructions import NONE, spell
 
 Direction = Literal["upward", "downward"]
 Inclusion = Literal["inclusive", "exclusive"]

@@ -1,8 +1,8 @@
 """Instructions as functions: what each processor does by itself. Each gives the text of its instruction."""
 
-# Made by python/make-modules: don't edit.
+# Made by python/tools/make-modules: don't edit.
 
-from pevudlo.instructions import spell
+from pevudlo.lang.instructions import spell
 
 
 def u_add(destination: str, left: str, right: str, length: int) -> str:

@@ -1,0 +1,52 @@
+"""The words of the commands for people: what their readers share."""
+
+from __future__ import annotations
+
+import argparse
+from typing import NoReturn
+
+from pevudlo.draw.visible import visible
+
+MOST_WORKERS = 16
+
+
+class Arguments(argparse.ArgumentParser):
+    """Reads the words of `paris COMMAND`. Of wrong ones it says why, with each sign shown, and ends with status 2."""
+
+    def __init__(
+        self,
+        command: str,
+        does: str,
+        more: str | None = None,
+        formatter: type[argparse.HelpFormatter] = argparse.HelpFormatter,
+    ) -> None:
+        super().__init__(
+            prog=f"paris {command}", description=does, epilog=more, formatter_class=formatter, allow_abbrev=False
+        )
+        said = "how many threads settle rows (default: %(default)s)"
+        self.add_argument("--workers", type=workers, default=2, metavar=f"1-{MOST_WORKERS}", help=said)
+
+    def error(self, message: str) -> NoReturn:
+        """Says what is wrong, below the usage."""
+        super().error(visible(message))
+
+
+def workers(word: str) -> int:
+    """A number of workers, in its one spelling."""
+    if word not in map(str, range(1, MOST_WORKERS + 1)):
+        raise argparse.ArgumentTypeError(f"`{word}` is no number from 1 to {MOST_WORKERS}")
+    return int(word)
+
+
+def file_name(word: str) -> str:
+    """The name of a file, which is no standard input."""
+    if word == "-":
+        raise argparse.ArgumentTypeError("`-` is no file here")
+    return word
+
+
+def output_name(word: str) -> str:
+    """The name of a file that is written, or `-`."""
+    if not word:
+        raise argparse.ArgumentTypeError("it has no name")
+    return word

@@ -1,0 +1,1 @@
+"""Refusals in words, with a hint at what there is instead."""

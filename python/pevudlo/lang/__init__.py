@@ -1,0 +1,1 @@
+"""The language of scripts: commands, instructions, places, replies, faults, and what is declared."""

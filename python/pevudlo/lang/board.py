@@ -1,0 +1,97 @@
+"""What a run has declared, as its accepted commands say: sets, fields, rows and orders."""
+
+from __future__ import annotations
+
+from dataclasses import dataclass, field
+from math import prod
+
+from pevudlo.lang.instructions import FIELDS, FLAGS, Operand, read
+
+
+@dataclass(frozen=True)
+class Declared:
+    """A field: its set's name and its width in bits."""
+
+    set: str
+    width: int
+
+
+@dataclass
+class Board:
+    """The sets with the lengths of their axes, the fields, the rows' ids in program order, their texts, and how many
+    orders were taken.
+    """
+
+    sets: dict[str, tuple[int, ...]] = field(default_factory=dict)
+    fields: dict[str, Declared] = field(default_factory=dict)
+    rows: list[int] = field(default_factory=list)
+    texts: dict[int, str] = field(default_factory=dict)
+    orders: int = 0
+
+    def note(self, line: str, reply: str) -> None:
+        """Takes in a command and the first line of its reply. A command that was refused changes nothing."""
+        command = line.split(" ", 1)[0]
+        if reply.startswith("refused"):
+            return
+        if command == "set":
+            _, name, axes = line.split(" ")
+            self.sets[name] = tuple(map(int, axes.split("x")))
+        elif command == "field":
+            _, name, of, width = line.split(" ")
+            self.fields[name] = Declared(of, int(width))
+        elif command == "insert":
+            self._insert(line, int(reply.split(" ")[1]))
+        elif command == "replace":
+            _, row, text = line.split(" ", 2)
+            self.texts[int(row)] = text
+        elif command == "delete":
+            row_id = int(line.split(" ")[1])
+            self.rows.remove(row_id)
+            del self.texts[row_id]
+        elif command == "take" and reply != "nothing":
+            self.orders = int(reply.split(" ")[1])
+
+    def _insert(self, line: str, row: int) -> None:
+        """Puts a new row in its place."""
+        _, place, rest = line.split(" ", 2)
+        at = 0 if place == "start" else len(self.rows)
+        if place == "after":
+            other, rest = rest.split(" ", 1)
+            at = self.rows.index(int(other)) + 1
+        self.rows.insert(at, row)
+        self.texts[row] = rest
+
+    def keys(self) -> list[str]:
+        """All keys: the fields, then the flags of each set."""
+        return [*self.fields, *(f"{name}.{flag}" for name in self.sets for flag in FLAGS)]
+
+    def set_of(self, key: str) -> str | None:
+        """The name of the set that a key belongs to, or None where it is no key."""
+        name, dot, flag = key.partition(".")
+        if dot:
+            return name if name in self.sets and flag in FLAGS else None
+        return self.fields[name].set if name in self.fields else None
+
+    def axes_of(self, key: str) -> tuple[int, ...] | None:
+        """The lengths of the axes of a key's set, axis 0 first, or None where it is no key."""
+        name = self.set_of(key)
+        return None if name is None else self.sets[name]
+
+    def width_of(self, key: str) -> int | None:
+        """The width of a key in bits, or None where it is no key. A flag has one bit."""
+        if self.set_of(key) is None:
+            return None
+        return 1 if "." in key else self.fields[key].width
+
+    def processors(self, name: str) -> int:
+        """How many processors a declared set has."""
+        return prod(self.sets[name])
+
+    def keys_written(self, text: str) -> tuple[str, ...]:
+        """The keys that an accepted instruction writes: fields, then flags. Raises ValueError for another text."""
+        instruction, named = read(text)
+        fields = instruction.fields_written(text.split(" "))
+        known = (operand for operand in (Operand.SET, *FIELDS) if operand in named)
+        name = named[next(known)]
+        of = name if name in self.sets else self.fields[name].set
+        return fields + tuple(f"{of}.{flag}" for flag in instruction.flags)

@@ -1,0 +1,1 @@
+"""`paris live`: a page on which a program is edited and run."""

@@ -1,0 +1,228 @@
+"""Serves a session on the loopback address: one page, its news, and what is asked of it. No files.
+
+A request is refused where it doesn't name this host, where it comes from another page, or where the token isn't in
+its address. A body above the limit isn't read.
+"""
+
+from __future__ import annotations
+
+import json
+import secrets
+import socket
+import sys
+from http import HTTPStatus
+from http.server import BaseHTTPRequestHandler, ThreadingHTTPServer
+from typing import Any
+from urllib.parse import parse_qs, urlsplit
+
+from pevudlo.live.document import live_document
+from pevudlo.live.session import Session, Stopped
+from pevudlo.live.view import View, told
+
+HOST = "127.0.0.1"
+MOST_BYTES = 65_536 + 1_024
+"""A line of 65,536 bytes in its wrapping."""
+
+MOST_LISTENERS = 32
+HEARTBEAT = 10.0
+"""Seconds between two signs of life to a tab that waits for news."""
+
+
+class Unwelcome(Exception):
+    """A request that is refused, with the status of the answer."""
+
+    def __init__(self, status: HTTPStatus) -> None:
+        super().__init__(status.phrase)
+        self.status = status
+
+
+class Server(ThreadingHTTPServer):
+    """A server of one session. `address` is where its page is."""
+
+    daemon_threads = True
+    block_on_close = False
+    allow_reuse_address = False
+
+    def __init__(self, session: Session, title: str, port: int = 0) -> None:
+        super().__init__((HOST, port), Handler)
+        self.session = session
+        self.view = View(session)
+        self.title = title
+        self.token = secrets.token_urlsafe(24)
+        self.listeners = 0
+        self.host = f"{HOST}:{self.server_address[1]}"
+
+    @property
+    def origin(self) -> str:
+        """What a browser says that requests of our page come from."""
+        return f"http://{self.host}"
+
+    @property
+    def address(self) -> str:
+        """The page's address."""
+        return f"{self.origin}/{self.token}/"
+
+    def handle_error(self, request: Any, client_address: Any) -> None:
+        """Says what went wrong on standard error; a tab that goes while it is answered is no error."""
+        if not isinstance(sys.exc_info()[1], OSError):
+            super().handle_error(request, client_address)
+
+
+class Handler(BaseHTTPRequestHandler):
+    """Answers one connection."""
+
+    server: Server
+    protocol_version = "HTTP/1.1"
+    server_version = "paris"
+    sys_version = ""
+    timeout = 30.0
+
+    def log_message(self, format: str, *words: Any) -> None:
+        """Says nothing: the token is in addresses."""
+
+    def do_GET(self) -> None:
+        """The page, its news, and what is new since a version."""
+        try:
+            self._get(self._allowed(False))
+        except Unwelcome as error:
+            self._refuse(error.status)
+
+    def do_POST(self) -> None:
+        """A command, an order, a place for the caret, or a new start."""
+        try:
+            name = self._allowed(True)
+            self._send_json(self._act(name, self._body()))
+        except Unwelcome as error:
+            self._refuse(error.status)
+        except Stopped as error:
+            self._send_json({"stopped": str(error)}, HTTPStatus.CONFLICT)
+        except (KeyError, ValueError) as error:
+            self._send_json({"wrong": str(error)}, HTTPStatus.BAD_REQUEST)
+
+    def _get(self, name: str) -> None:
+        """Answers with what has this name."""
+        session = self.server.session
+        if name == "":
+            self._send(HTTPStatus.OK, live_document(self.server.title).encode("utf-8"), "text/html; charset=utf-8")
+        elif name == "news":
+            self._news()
+        elif name == "state":
+            self._send_json(self.server.view.since(self._seen()))
+        elif name == "script":
+            with session.lock:
+                text = "".join(line + "\n" for line in session.taken)
+            self._send(HTTPStatus.OK, text.encode("utf-8", "surrogateescape"), "text/plain; charset=utf-8")
+        else:
+            raise Unwelcome(HTTPStatus.NOT_FOUND)
+
+    def _act(self, name: str, asked: dict[str, str]) -> dict[str, object]:
+        """Does what is asked, and says what came of it. Raises KeyError and ValueError where nobody can do it."""
+        session = self.server.session
+        if name == "command":
+            step = session.run(asked["line"])
+            return {"reply": list(step.lines[:1]), "refused": told(step) if step.is_refused else ""}
+        if name == "order":
+            return {"reply": [step.lines[0] for step in session.run_order()], "refused": ""}
+        if name == "caret":
+            session.move(asked["place"])
+        elif name == "restart":
+            session.restart()
+        else:
+            raise ValueError("nothing is done at this address")
+        return {"reply": [], "refused": ""}
+
+    def _allowed(self, is_post: bool) -> str:
+        """The part of the address behind the token. Raises Unwelcome where the request may not be answered."""
+        origin = self.headers.get("Origin")
+        hosts = self.headers.get_all("Host") or []
+        strange = origin is not None and origin != self.server.origin
+        if hosts != [self.server.host] or strange or (is_post and origin is None):
+            raise Unwelcome(HTTPStatus.FORBIDDEN)
+        if self.headers.get("Sec-Fetch-Site", "none") not in ("none", "same-origin"):
+            raise Unwelcome(HTTPStatus.FORBIDDEN)
+        path = urlsplit(self.path).path
+        token, slash, name = path.removeprefix("/").partition("/")
+        if not slash or not secrets.compare_digest(token.encode(), self.server.token.encode()):
+            raise Unwelcome(HTTPStatus.FORBIDDEN)
+        return name
+
+    def _body(self) -> dict[str, str]:
+        """What a request brings: texts by name. Raises Unwelcome for another body, and reads none that is too long."""
+        length = self.headers.get("Content-Length", "")
+        if not (length.isascii() and length.isdigit()) or "Transfer-Encoding" in self.headers:
+            raise Unwelcome(HTTPStatus.LENGTH_REQUIRED)
+        if len(length) > 9 or int(length) > MOST_BYTES:
+            raise Unwelcome(HTTPStatus.REQUEST_ENTITY_TOO_LARGE)
+        if self.headers.get("Content-Type", "").split(";")[0].strip() != "application/json":
+            raise Unwelcome(HTTPStatus.UNSUPPORTED_MEDIA_TYPE)
+        try:
+            asked = json.loads(self.rfile.read(int(length)))
+        except (ValueError, RecursionError) as error:
+            raise Unwelcome(HTTPStatus.BAD_REQUEST) from error
+        if not isinstance(asked, dict) or not all(isinstance(text, str) for text in asked.values()):
+            raise Unwelcome(HTTPStatus.BAD_REQUEST)
+        return asked
+
+    def _seen(self) -> int:
+        """The version that a tab has seen, 0 where it has seen none."""
+        words = parse_qs(urlsplit(self.path).query).get("seen", ["0"])
+        return int(words[0]) if words[0].isascii() and words[0].isdigit() and len(words[0]) < 19 else 0
+
+    def _news(self) -> None:
+        """Server-sent events: the version, each time that it is another."""
+        server = self.server
+        if server.listeners >= MOST_LISTENERS:
+            raise Unwelcome(HTTPStatus.SERVICE_UNAVAILABLE)
+        server.listeners += 1
+        try:
+            self.send_response(HTTPStatus.OK)
+            self._say_rules("text/event-stream")
+            self.send_header("Connection", "close")
+            self.end_headers()
+            self.close_connection = True
+            seen = 0
+            while not server.session.is_closed:
+                version = server.session.wait(seen, HEARTBEAT)
+                self.wfile.write(b": alive\n\n" if version == seen else f"data: {version}\n\n".encode("ascii"))
+                seen = version
+        except OSError:
+            pass
+        finally:
+            server.listeners -= 1
+
+    def _send_json(self, value: dict[str, object], status: HTTPStatus = HTTPStatus.OK) -> None:
+        """Answers with JSON."""
+        self._send(status, json.dumps(value).encode("ascii"), "application/json")
+
+    def _send(self, status: HTTPStatus, data: bytes, kind: str) -> None:
+        """Answers, and keeps the connection."""
+        self.send_response(status)
+        self._say_rules(kind)
+        self.send_header("Content-Length", str(len(data)))
+        self.end_headers()
+        self.wfile.write(data)
+
+    def _say_rules(self, kind: str) -> None:
+        """Headers that keep what is sent to this page alone."""
+        for name, value in (
+            ("Content-Type", kind),
+            ("Cache-Control", "no-store"),
+            ("X-Content-Type-Options", "nosniff"),
+            ("X-Frame-Options", "DENY"),
+            ("Referrer-Policy", "no-referrer"),
+            ("Cross-Origin-Resource-Policy", "same-origin"),
+        ):
+            self.send_header(name, value)
+
+    def _refuse(self, status: HTTPStatus) -> None:
+        """Answers with a status and its words, and ends the connection. What the request brings isn't read."""
+        self.close_connection = True
+        data = f"{status.value} {status.phrase}\n".encode("ascii")
+        self.send_response(status)
+        self._say_rules("text/plain; charset=utf-8")
+        self.send_header("Connection", "close")
+        self.send_header("Content-Length", str(len(data)))
+        self.end_headers()
+        self.wfile.write(data)
+        self.wfile.flush()
+        self.connection.shutdown(socket.SHUT_WR)

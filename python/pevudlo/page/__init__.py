@@ -1,0 +1,1 @@
+"""`paris page`: a script as one page of HTML."""

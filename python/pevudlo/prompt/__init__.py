@@ -1,0 +1,1 @@
+"""`paris prompt`: commands that are told one by one."""

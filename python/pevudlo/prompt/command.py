@@ -1,0 +1,65 @@
+"""`paris prompt [FILE]`: lines are told to a program one by one, with history, completion and help."""
+
+from __future__ import annotations
+
+import sys
+from argparse import RawDescriptionHelpFormatter
+
+from pevudlo.arguments import Arguments, file_name
+from pevudlo.draw.visible import visible
+from pevudlo.files import path_of, read_lines, why
+from pevudlo.prompt.help import OWN_WORDS
+from pevudlo.prompt.lines import Piped, Reader, Terminal, is_terminal
+from pevudlo.prompt.prompt import Prompt, talk
+from pevudlo.prompt.session import Session, Stopped
+from pevudlo.wire.program import NotFound, find
+
+DOES = "Takes commands one by one, with history, completion and help."
+
+
+def arguments() -> Arguments:
+    """The reader of the command's words."""
+    own = "\n".join(f"  {word.spelling}: {word.does}" for word in OWN_WORDS)
+    parser = Arguments("prompt", DOES, f"words of the prompt's own:\n{own}", RawDescriptionHelpFormatter)
+    parser.add_argument("file", nargs="?", type=file_name, metavar="FILE", help="a script that is told first")
+    return parser
+
+
+def run(session: Session, file: str | None) -> None:
+    """The prompt, from the file's lines on where one is named. Raises Stopped where no program can be started."""
+    reader: Reader = Terminal(lambda: session.board) if is_terminal() else Piped()
+    prompt = Prompt(session, lambda line: print(line, flush=True), is_terminal())
+    try:
+        session.begin()
+        prompt.say(*reader.welcome())
+        if file is not None:
+            try:
+                prompt.load(path_of(file))
+            except Stopped as stopped:
+                prompt.say(f"no program runs: {stopped}", prompt.kept_words())
+        talk(prompt, reader)
+    finally:
+        session.close()
+
+
+def main(words: list[str]) -> int:
+    """Runs the command. The exit status is 2 where the words are wrong, the file can't be read, or no program runs."""
+    said = arguments().parse_args(words)
+    try:
+        if said.file is not None:
+            read_lines(path_of(said.file))
+    except (OSError, ValueError) as error:
+        return ends_badly(f"can't read {visible(said.file)}: {why(error)}")
+    try:
+        run(Session(find(), said.workers), said.file)
+    except NotFound as error:
+        return ends_badly(str(error))
+    except Stopped as stopped:
+        return ends_badly(f"no program runs: {stopped}")
+    return 0
+
+
+def ends_badly(said: str) -> int:
+    """Says why there is no prompt, and gives the exit status."""
+    print(f"paris prompt: {said}", file=sys.stderr)
+    return 2

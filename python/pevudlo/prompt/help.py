@@ -1,0 +1,110 @@
+"""The prompt's help: its own words, and every command, instruction and fault from the reference."""
+
+from __future__ import annotations
+
+from collections.abc import Iterable
+from dataclasses import dataclass
+
+from pevudlo.draw.visible import visible
+from pevudlo.hints.grammar import nearest
+from pevudlo.lang.grammar import COMMANDS
+from pevudlo.reference.table import ENTRIES, FAMILIES, find
+from pevudlo.reference.text import help_lines, wrapped
+
+
+@dataclass(frozen=True)
+class OwnWord:
+    """A word that the prompt itself answers, and the program isn't told."""
+
+    name: str
+    spelling: str
+    does: str
+
+
+def way(name: str, words: str) -> OwnWord:
+    """A way to show values."""
+    return OwnWord(
+        name,
+        f"{name} [KEY [start | after ROW | end]]",
+        f"Shows values {words}. With a key it shows that one so, once: at the end, or where is said.",
+    )
+
+
+OWN_WORDS = (
+    OwnWord(
+        "help",
+        "help [WORD]",
+        "Says what there is; or all of a command, an instruction or a fault, with an example: `help show`, "
+        "`help u-add-3-1L`, `help BadLength`, `help 12`. A part of a name lists the names that have it: `help scan`.",
+    ),
+    way("grid", "in the shape of their set, axis 0 across and axis 1 down"),
+    way("line", "in the line of the reply"),
+    way("unsigned", "as the program answers them, unsigned"),
+    way("signed", "as signed numbers, in two's complement of the key's width"),
+    way("hex", "in hex"),
+    way("bits", "as bits"),
+    OwnWord(
+        "load",
+        "load FILE",
+        "Tells the lines of a script as if they were typed. Refused lines are explained, and the others go on.",
+    ),
+    OwnWord(
+        "save",
+        "save FILE",
+        "Saves the accepted commands as a script that gives the same state. What the file held before stays as FILE~.",
+    ),
+    OwnWord("new", "new", "Begins anew, with nothing declared."),
+    OwnWord(
+        "again",
+        "again",
+        "Starts the program again and tells it the accepted commands: after it has ended, or was interrupted by "
+        "Ctrl-C.",
+    ),
+    OwnWord("quit", "quit", "Ends the prompt, as Ctrl-D does. Where commands aren't saved, it asks for a second one."),
+)
+OWN = {word.name: word for word in OWN_WORDS}
+
+
+def overview() -> list[str]:
+    """What there is."""
+    lines = ["Lines are told to the program, but for these words:"]
+    wide = max(len(word.name) for word in OWN_WORDS)
+    for word in OWN_WORDS:
+        lines.append(f"  {word.name.ljust(wide)}  {word.does.split('. ')[0].split(': ')[0].rstrip('.;')}")
+    for family in FAMILIES:
+        names = " ".join(entry.name for entry in family.entries)
+        lines += [f"{family.title}:", *(f"  {line}" for line in wrapped(names))]
+    return [*lines, "`help WORD` says more of each. The key Tab completes words."]
+
+
+def known_names() -> list[str]:
+    """All that `help` knows by name."""
+    return [*OWN, *(entry.name for entry in ENTRIES)]
+
+
+def named(names: Iterable[str]) -> list[str]:
+    """Names in lines."""
+    return [f"  {line}" for line in wrapped(" ".join(names))]
+
+
+def help_for(word: str) -> list[str]:
+    """What there is to say of a word, in lines."""
+    if not word:
+        return overview()
+    if word in OWN:
+        return [OWN[word].spelling, *(f"  {line}" for line in wrapped(OWN[word].does))]
+    found = find(word)
+    if found:
+        return [line for entry in found for line in help_lines(entry)]
+    parts = [name for name in known_names() if word.lower() in name.lower()]
+    if parts:
+        return [f"these have `{visible(word)}` in their names:", *named(parts)]
+    near = nearest(word, known_names())
+    more = f"did you mean `{near}`?" if near else "`help` alone lists what there is"
+    return [f"there is no help for `{visible(word)}`: {more}"]
+
+
+def own_word_for(word: str) -> str | None:
+    """The word of the prompt's own that was perhaps meant by one that begins no command, or None."""
+    near = nearest(word, [*COMMANDS, *OWN])
+    return near if near in OWN else None

@@ -1,0 +1,156 @@
+"""What the prompt answers to a line."""
+
+from __future__ import annotations
+
+from collections.abc import Callable
+from pathlib import Path
+
+from pevudlo.draw.visible import visible
+from pevudlo.explain import ending
+from pevudlo.files import path_of, read_lines, why, write_lines
+from pevudlo.prompt.help import OWN, help_for, own_word_for
+from pevudlo.prompt.lines import Reader
+from pevudlo.prompt.session import Session, Stopped
+from pevudlo.prompt.show import WAYS, View, answer_lines, is_told
+
+
+class Prompt:
+    """Answers lines. `show` gets each line of text that is answered."""
+
+    def __init__(self, session: Session, show: Callable[[str], None], may_warn: bool) -> None:
+        self.session = session
+        self.view = View()
+        self._show = show
+        self._may_warn = may_warn
+        self._asked = ""
+
+    def say(self, *lines: str) -> None:
+        """Shows lines of text."""
+        for line in lines:
+            self._show(line)
+
+    def handle(self, line: str) -> bool:
+        """Answers one line. Whether the prompt goes on."""
+        word, _, rest = line.partition(" ")
+        if line in ("quit", "exit"):
+            return not self.may_drop("ends the prompt")
+        if line != "new":
+            self._asked = ""
+        try:
+            if word in WAYS:
+                self.show_by(word, rest)
+            elif word in OWN:
+                self.own(word, rest)
+            else:
+                self.tell(line)
+        except Stopped as stopped:
+            self.say(f"no program runs: {stopped}", self.kept_words())
+        return True
+
+    def may_drop(self, what: str) -> bool:
+        """Whether the accepted commands may be dropped: at once where all are saved, else when it is asked twice."""
+        if self.session.is_saved or self._asked == what or not self._may_warn:
+            return True
+        self._asked = what
+        self.say(f"{self.count_words()} not saved: `save FILE` saves them, and the same once more {what}")
+        return False
+
+    def count_words(self) -> str:
+        """How many commands were accepted."""
+        count = self.session.commands
+        return "1 accepted command is" if count == 1 else f"{count} accepted commands are"
+
+    def kept_words(self) -> str:
+        """What can be done after the program has ended."""
+        return f"{self.count_words()} kept: `again` starts the program with them, `save FILE` saves them"
+
+    def own(self, word: str, rest: str) -> None:
+        """Answers a word of the prompt's own, but for ways to show and `quit`."""
+        if word == "help":
+            self.say(*help_for(rest.strip()))
+        elif word in ("load", "save") and rest:
+            (self.load if word == "load" else self.save)(path_of(rest))
+        elif word == "again" and not rest:
+            self.session.start()
+            self.say(f"the program is started again, and {self.count_words()} told")
+        elif word == "new" and not rest:
+            if self.may_drop("begins anew"):
+                self._asked = ""
+                self.session.begin()
+                self.say("nothing is declared")
+        else:
+            self.say(f"it is written `{OWN[word].spelling}`")
+
+    def tell(self, line: str) -> None:
+        """Tells the program a line, and shows its reply."""
+        answer = self.session.tell(line)
+        if answer is None:
+            return
+        self.say(*answer_lines(answer, self.session.board, self.view))
+        near = own_word_for(line.split(" ")[0])
+        if answer.explanation is not None and answer.explanation.column == 1 and near is not None:
+            self.say(f"  did you mean the prompt's own word `{near}`? It is written `{OWN[near].spelling}`")
+
+    def show_by(self, way: str, rest: str) -> None:
+        """Shows values in a way from now on, or one key once."""
+        view = self.view.by(way)
+        if not rest:
+            self.view = view
+            self.say(view.words())
+            return
+        line = f"show {rest}" if " " in rest else f"show {rest} end"
+        answer = self.session.tell(line)
+        if answer is not None:
+            self.say(*answer_lines(answer, self.session.board, view))
+
+    def load(self, path: Path) -> None:
+        """Tells the lines of a file. Says what was refused, and what the file shows."""
+        name = visible(str(path))
+        try:
+            lines = read_lines(path)
+        except (OSError, ValueError) as error:
+            self.say(f"can't read {name}: {why(error)}")
+            return
+        was_empty = not self.session.accepted
+        commands, refused = 0, []
+        try:
+            for number, answer in self.session.tell_all(lines):
+                commands += 1
+                if answer.explanation is not None:
+                    refused.append(number)
+                if is_told(answer):
+                    head, *more = answer_lines(answer, self.session.board, self.view)
+                    self.say(f"{name}:{number}: {head}", *more)
+        finally:
+            self.say(f"{name}: {ending(commands, refused, False)}")
+        if was_empty:
+            self.session.saved = list(self.session.accepted)
+
+    def save(self, path: Path) -> None:
+        """Saves the accepted commands."""
+        try:
+            write_lines(path, self.session.accepted)
+        except (OSError, ValueError) as error:
+            self.say(f"can't write {visible(str(path))}: {why(error)}")
+            return
+        self.session.saved = list(self.session.accepted)
+        self.say(f"{visible(str(path))}: {self.count_words()} saved")
+
+
+def talk(prompt: Prompt, reader: Reader) -> None:
+    """Reads lines and answers them until their end, or until `quit`."""
+    goes_on = True
+    while goes_on:
+        try:
+            line = reader.read()
+        except KeyboardInterrupt:
+            # The line is dropped, and a new one begins.
+            prompt.say("")
+            continue
+        try:
+            goes_on = prompt.handle("quit" if line is None else line)
+        except KeyboardInterrupt:
+            prompt.session.interrupt()
+            prompt.say("", "no program runs: it was interrupted", prompt.kept_words())
+        if not prompt.session.is_running:
+            reader.drop()

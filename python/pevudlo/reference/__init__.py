@@ -1,0 +1,1 @@
+"""The reference: an entry for each command, each instruction and each fault."""

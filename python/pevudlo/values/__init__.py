@@ -1,0 +1,1 @@
+"""Values between Python and the program: arrays or lists, and what a notebook shows of them."""

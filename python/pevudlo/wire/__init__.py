@@ -1,0 +1,1 @@
+"""The program and the library: where they are, and how they are asked."""

@@ -1,0 +1,62 @@
+"""Finds the library libparis.so."""
+
+from __future__ import annotations
+
+import os
+import subprocess
+from collections.abc import Callable
+from functools import cache
+from pathlib import Path
+
+from pevudlo.wire.program import ROOT, NotFound, is_program
+
+LIBRARY_VARIABLE = "PARIS_LIBRARY"
+LIBRARY = "libparis.so"
+
+
+def library_of_variable(looked: list[str]) -> Path | None:
+    """The library that the variable names. A variable that is wrong is an error and not passed over."""
+    named = os.environ.get(LIBRARY_VARIABLE, "")
+    if not named:
+        looked.append(f"the variable {LIBRARY_VARIABLE} isn't set")
+        return None
+    if not Path(named).is_file():
+        raise NotFound([f"{LIBRARY_VARIABLE} names {named}, which is no file"], LIBRARY)
+    return Path(named)
+
+
+def library_of_repository(looked: list[str]) -> Path | None:
+    """The repository's library: that of dist/ where it is of the sources there, else what bindings/c/build made."""
+    unpack, made = ROOT / "bindings" / "c" / "unpack", ROOT / "bindings" / "c" / "out" / LIBRARY
+    trouble = trouble_of(unpack) if is_program(unpack) else f"{ROOT} is no repository of it"
+    if trouble and not made.is_file():
+        looked.append(trouble)
+        return None
+    return made
+
+
+@cache
+def trouble_of(unpack: Path) -> str:
+    """What keeps bindings/c/unpack from its work, or nothing. It is run once, since it reads all sources."""
+    ran = subprocess.run(
+        [unpack], stdout=subprocess.DEVNULL, stderr=subprocess.PIPE, stdin=subprocess.DEVNULL, text=True
+    )
+    return ran.stderr.strip() or f"{unpack} failed" if ran.returncode else ""
+
+
+def find_library(library: str | os.PathLike[str] | None = None) -> Path:
+    """The library that is named, or that of the variable PARIS_LIBRARY, or of the repository.
+
+    Raises NotFound where none of these is there, or where the one that is named isn't.
+    """
+    if library is not None:
+        if not Path(library).is_file():
+            raise NotFound([f"{os.fspath(library)} is no file"], LIBRARY)
+        return Path(library)
+    places: tuple[Callable[[list[str]], Path | None], ...] = (library_of_variable, library_of_repository)
+    looked: list[str] = []
+    for place in places:
+        found = place(looked)
+        if found is not None:
+            return found
+    raise NotFound(looked, LIBRARY)
