@@ -1,14 +1,16 @@
 // Refuses allocations of a program, as if there were no more memory. It is loaded before the C library, by LD_PRELOAD.
-// REFUSE=N refuses the Nth allocation, counted from 1, and REFUSE=N.. that one and all behind it. LEAST=BYTES counts and refuses
-// those alone that ask for so many bytes or more.
-// Where one was refused, the file that REFUSED names is made.
+// REFUSE=N refuses the Nth allocation, counted from 1, and REFUSE=N.. that one and all behind it, to the end of the program.
+// LEAST=BYTES counts and refuses those alone that ask for so many bytes or more.
+// The file that REFUSED names holds how many were refused so far, in eight bytes, however the program ends.
 #include <errno.h>
 #include <fcntl.h>
+#include <limits.h>
 #include <stdatomic.h>
 #include <stddef.h>
 #include <stdint.h>
 #include <stdlib.h>
 #include <string.h>
+#include <sys/mman.h>
 #include <unistd.h>
 
 extern void *__libc_malloc(size_t size);
@@ -20,7 +22,20 @@ static atomic_long asked;
 static long first;
 static long last;
 static size_t least;
-static const char *mark;
+static _Atomic uint64_t *refused;
+
+// The count in the file of this name. Without it nothing could be seen, so the program doesn't begin.
+static _Atomic uint64_t *count_in(const char *name)
+{
+    int file = name == NULL ? -1 : open(name, O_RDWR | O_CREAT | O_TRUNC | O_CLOEXEC, 0600);
+    if (file < 0 || ftruncate(file, sizeof *refused) != 0)
+        abort();
+    void *found = mmap(NULL, sizeof *refused, PROT_READ | PROT_WRITE, MAP_SHARED, file, 0);
+    if (found == MAP_FAILED)
+        abort();
+    close(file);
+    return found;
+}
 
 __attribute__((constructor)) static void read_words(void)
 {
@@ -28,11 +43,11 @@ __attribute__((constructor)) static void read_words(void)
     if (word == NULL)
         return;
     char *end;
+    refused = count_in(getenv("REFUSED"));
     first = strtol(word, &end, 10);
-    last = strcmp(end, "..") == 0 ? 0x7fffffff : first;
+    last = strcmp(end, "..") == 0 ? LONG_MAX : first;
     const char *bytes = getenv("LEAST");
     least = bytes == NULL ? 0 : strtoul(bytes, NULL, 10);
-    mark = getenv("REFUSED");
     atomic_store(&asked, 0);
 }
 
@@ -43,8 +58,7 @@ static int is_refused(size_t size)
     long number = atomic_fetch_add(&asked, 1) + 1;
     if (number < first || number > last)
         return 0;
-    if (number == first && mark != NULL)
-        close(open(mark, O_CREAT | O_WRONLY | O_CLOEXEC, 0600));
+    atomic_fetch_add(refused, 1);
     errno = ENOMEM;
     return 1;
 }

@@ -1,6 +1,6 @@
 //! The first script, cut after each of its bytes.
 
-use crate::scripts::assert_run_by;
+use crate::tests::assert_run;
 use std::alloc::{AllocError, Global};
 use std::process::Abort;
 use std::sync::Wait;
@@ -149,7 +149,8 @@ fn assert_cut<H: Abort + Threads + Wait + Sync + AllocGlobal>(
     let script = SCRIPT
         .get(..bytes)
         .expect(rt, "it is a front of the script");
-    assert_run_by(rt, "2", script, written.as_slice(), status)
+    assert_run(rt, script, status, written.as_slice());
+    Ok(())
 }
 
 #[test]

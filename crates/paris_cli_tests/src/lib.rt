@@ -4,14 +4,4 @@
 #[cfg(test)]
 mod cuts;
 #[cfg(test)]
-mod desks;
-#[cfg(test)]
-mod gallery;
-#[cfg(test)]
-mod limits;
-#[cfg(test)]
-mod rows;
-#[cfg(test)]
-mod scripts;
-#[cfg(test)]
 mod tests;

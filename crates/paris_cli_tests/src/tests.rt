@@ -87,7 +87,7 @@ fn slow_reader(bytes: &[u8], step: usize) -> Slow<'_> {
 }
 
 /// Runs a script, and asserts the status and what is written. Nothing is written for a fault.
-fn assert_run<H: Abort + Threads + Wait + Sync + AllocGlobal>(
+pub(crate) fn assert_run<H: Abort + Threads + Wait + Sync + AllocGlobal>(
     rt: &H,
     script: &[u8],
     status: u8,
@@ -156,7 +156,7 @@ fn edits_rows_by_id(rt: HostRuntime) {
 }
 
 /// The words of a command line that is cut at spaces.
-pub(crate) fn words_in(alloc: Global, line: &str) -> Result<Vec<String>, Fail> {
+fn words_in(alloc: Global, line: &str) -> Result<Vec<String>, Fail> {
     let mut words = Vec::new(alloc);
     for word in line.split(' ') {
         words.push(String::from_str(alloc, word)?)?;
