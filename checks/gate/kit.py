@@ -41,7 +41,21 @@ def load_gate() -> ModuleType:
     # The crates above a library load its statements and not its proofs, as in the gate.
     gate.Crate.cuts_libraries = True
     gate.Crate.allowed = gate.handles_of(os.getcwd())
+    # (rt makes the sum of a crate's sources anew along each path that leads down to it, and there are thousands)
+    gate.Crate.stamp = remembered(gate.Crate.stamp)
     return gate
+
+
+def remembered(stamp: Callable[[Any], str]) -> Callable[[Any], str]:
+    """A crate's stamp, made once for each crate of a process: no source changes while it is judged."""
+    sums: dict[str, str] = {}
+
+    def stamp_once(crate: Any) -> str:
+        if crate.folder not in sums:
+            sums[crate.folder] = stamp(crate)
+        return sums[crate.folder]
+
+    return stamp_once
 
 
 def crates_here(gate: ModuleType) -> list[Any]:
