@@ -1,23 +1,14 @@
-//! Tests of declarations, input data, orders and results, by calls and by events.
+//! Tests of declarations, input data, orders and results.
 
-use crate::spellings::{Text, key};
+use crate::spellings::Text;
 use crate::steps::Change::{Delete, Field, Input, Insert, Set};
 use crate::steps::Step::*;
-use crate::steps::{
-    Change, Step, answer, edit_of, plays_after, plays_after_another, plays_beside_a_snapshot,
-    plays_in, run,
-};
+use crate::steps::{Step, plays_after, plays_after_another, plays_beside_a_snapshot, plays_in};
 use paris_book::Book;
-use paris_events::Verdict;
 use paris_events::Verdict::{Foreign, Gone, Kept, Repeated, Stale};
-use paris_exec::{Done, Order};
-use paris_field::SharedValue;
-use paris_machine::{Event, Reply, Shown};
 use paris_names::Spot::{End, Start};
-use paris_names::{Edition, Fault, RowId};
-use std::alloc::{AllocError, Global};
-use std::process::Abort;
-use std::test::*;
+use paris_names::{Edition, Fault};
+use std::alloc::AllocError;
 
 const SUM: Text = b"u-add-3-1L c a b 8";
 
@@ -65,7 +56,7 @@ const SETTLED_SUM: &[Step] = &[
 ];
 
 #[test]
-fn a_sum_is_pending_until_its_result_is_brought(rt: HostRuntime) -> Result<(), Fail> {
+fn a_sum_is_pending_until_its_result_is_brought(rt: HostRuntime) -> Result<(), AllocError> {
     const STEPS: &[Step] = &[
         HasEdits(7),
         HasUnsettled(1),
@@ -81,7 +72,7 @@ fn a_sum_is_pending_until_its_result_is_brought(rt: HostRuntime) -> Result<(), F
 }
 
 #[test]
-fn a_copy_of_a_kept_result_is_repeated(rt: HostRuntime) -> Result<(), Fail> {
+fn a_copy_of_a_kept_result_is_repeated(rt: HostRuntime) -> Result<(), AllocError> {
     const STEPS: &[Step] = &[
         Brings(0, Kept),
         Brings(0, Repeated),
@@ -91,7 +82,7 @@ fn a_copy_of_a_kept_result_is_repeated(rt: HostRuntime) -> Result<(), Fail> {
 }
 
 #[test]
-fn a_snapshot_takes_the_result_of_an_order_that_was_out(rt: HostRuntime) -> Result<(), Fail> {
+fn a_snapshot_takes_the_result_of_an_order_that_was_out(rt: HostRuntime) -> Result<(), AllocError> {
     const STEPS: &[Step] = &[
         Accepts(Input(b"a", 0, &[9])),
         Brings(0, Stale(Edition(8))),
@@ -108,7 +99,7 @@ fn a_snapshot_takes_the_result_of_an_order_that_was_out(rt: HostRuntime) -> Resu
 }
 
 #[test]
-fn a_snapshot_and_its_book_go_on_apart(rt: HostRuntime) -> Result<(), Fail> {
+fn a_snapshot_and_its_book_go_on_apart(rt: HostRuntime) -> Result<(), AllocError> {
     const STEPS: &[Step] = &[
         Accepts(Delete(1)),
         Inserts(End, b"u-move-constant-1L c 7 8", 2),
@@ -141,7 +132,7 @@ const OTHER_SUM_OUT: &[Step] = &[
 ];
 
 #[test]
-fn a_result_of_another_book_is_foreign(rt: HostRuntime) -> Result<(), Fail> {
+fn a_result_of_another_book_is_foreign(rt: HostRuntime) -> Result<(), AllocError> {
     const STEPS: &[Step] = &[
         Brings(0, Foreign),
         HasUnsettled(1),
@@ -153,13 +144,13 @@ fn a_result_of_another_book_is_foreign(rt: HostRuntime) -> Result<(), Fail> {
 }
 
 #[test]
-fn a_result_of_no_row_is_gone(rt: HostRuntime) -> Result<(), Fail> {
+fn a_result_of_no_row_is_gone(rt: HostRuntime) -> Result<(), AllocError> {
     const STEPS: &[Step] = &[Brings(0, Gone)];
     plays_after_another(&rt, rt.alloc(), SUM_OUT, DECLARED_BOOK, STEPS)
 }
 
 #[test]
-fn the_same_input_again_makes_a_result_stale(rt: HostRuntime) -> Result<(), Fail> {
+fn the_same_input_again_makes_a_result_stale(rt: HostRuntime) -> Result<(), AllocError> {
     const STEPS: &[Step] = &[
         Accepts(Input(b"a", 0, &[1, 2, 3, 4])),
         Brings(0, Stale(Edition(8))),
@@ -172,7 +163,7 @@ fn the_same_input_again_makes_a_result_stale(rt: HostRuntime) -> Result<(), Fail
 }
 
 #[test]
-fn a_peek_before_each_take_answers_the_same(rt: HostRuntime) -> Result<(), Fail> {
+fn a_peek_before_each_take_answers_the_same(rt: HostRuntime) -> Result<(), AllocError> {
     const STEPS: &[Step] = &[
         Peeks(1, 7),
         Takes(1, 7),
@@ -191,7 +182,7 @@ fn a_peek_before_each_take_answers_the_same(rt: HostRuntime) -> Result<(), Fail>
 }
 
 #[test]
-fn an_input_touches_only_the_rows_that_read_it(rt: HostRuntime) -> Result<(), Fail> {
+fn an_input_touches_only_the_rows_that_read_it(rt: HostRuntime) -> Result<(), AllocError> {
     const STEPS: &[Step] = &[
         Inserts(Start, b"u-move-constant-1L a 7 8", 2),
         Takes(2, 8),
@@ -209,7 +200,7 @@ fn an_input_touches_only_the_rows_that_read_it(rt: HostRuntime) -> Result<(), Fa
 }
 
 #[test]
-fn the_last_edit_is_followed_by_refusals(rt: HostRuntime) -> Result<(), Fail> {
+fn the_last_edit_is_followed_by_refusals(rt: HostRuntime) -> Result<(), AllocError> {
     const STEPS: &[Step] = &[
         Accepts(Set(b"s", &[4])),
         HasEdits(9_223_372_036_854_775_807),
@@ -221,7 +212,7 @@ fn the_last_edit_is_followed_by_refusals(rt: HostRuntime) -> Result<(), Fail> {
 }
 
 #[test]
-fn an_input_is_refused_by_its_first_fault(rt: HostRuntime) -> Result<(), Fail> {
+fn an_input_is_refused_by_its_first_fault(rt: HostRuntime) -> Result<(), AllocError> {
     const STEPS: &[Step] = &[
         Refuses(Input(b"d", 0, &[1]), Fault::NoField),
         Refuses(Input(b"a", 0, &[]), Fault::WrongCount),
@@ -230,126 +221,6 @@ fn an_input_is_refused_by_its_first_fault(rt: HostRuntime) -> Result<(), Fail> {
         Refuses(Input(b"a", u64::MAX, &[1]), Fault::WrongCount),
     ];
     plays_after(&rt, rt.alloc(), DECLARED_BOOK, STEPS)
-}
-
-/// The edits of a first script: declarations, input data and a sum.
-const FIRST_EDITS: &[Change] = &[
-    Set(b"s", &[4]),
-    Field(b"a", b"s", 8),
-    Field(b"b", b"s", 8),
-    Field(b"c", b"s", 8),
-    Input(b"a", 0, &[1, 2, 3, 4]),
-    Input(b"b", 0, &[10, 20, 30, 0]),
-    Insert(End, SUM),
-];
-
-/// The events of a first script: its edits, an order, and a look.
-fn first_events(rt: &impl Abort, alloc: Global) -> Result<Vec<Event>, AllocError> {
-    let mut events = Vec::new(alloc);
-    for change in FIRST_EDITS {
-        events.push(Event::Edit(edit_of(rt, alloc, change)?))?;
-    }
-    events.push(Event::Take)?;
-    events.push(Event::Show(key(rt, b"c"), End))?;
-    Ok(events)
-}
-
-/// The replies to events that are answered one by one.
-fn answers(
-    rt: &impl Abort,
-    alloc: Global,
-    book: &mut Book,
-    events: Vec<Event>,
-) -> Result<Vec<Reply>, AllocError> {
-    let mut replies = Vec::new(alloc);
-    for event in events {
-        replies.push(answer(rt, book, event))?;
-    }
-    Ok(replies)
-}
-
-/// A reply to a first event before a result is brought, and the order that it holds.
-fn order_of(rt: &impl Abort, reply: Reply) -> Option<Order> {
-    match reply {
-        Reply::Take(taken) => return taken,
-        Reply::Show(Ok(Shown::Pending(id))) => assert_eq!(rt; id, RowId(1)),
-        Reply::Edit(answer) => assert!(rt; answer.is_ok()),
-        _ => assert!(rt; false),
-    }
-    None
-}
-
-/// The order that the replies to the first events hold.
-fn order_among(rt: &impl Abort, replies: Vec<Reply>) -> Option<Order> {
-    let mut order = None;
-    for reply in replies {
-        if let Some(taken) = order_of(rt, reply) {
-            order = Some(taken);
-        }
-    }
-    order
-}
-
-/// The value that is shown as settled in a reply.
-fn settled_in(reply: Reply) -> Option<SharedValue> {
-    let Reply::Show(Ok(shown)) = reply else {
-        return None;
-    };
-    match shown {
-        Shown::Settled(value) => Some(value),
-        Shown::Pending(_) => None,
-    }
-}
-
-/// Brings the result of an order as an event.
-fn bring_as_event(rt: &impl Abort, book: &mut Book, done: Done) {
-    match answer(rt, book, Event::Bring(done)) {
-        Reply::Bring(verdict) => assert_eq!(rt; verdict, Verdict::Kept),
-        _ => assert!(rt; false),
-    }
-}
-
-/// Looks at the sum as an event.
-fn look_as_event(rt: &impl Abort, book: &mut Book) -> Result<(), Fail> {
-    let reply = answer(rt, book, Event::Show(key(rt, b"c"), End));
-    let value = settled_in(reply).expect(rt, "it is settled");
-    assert_eq!(rt;
-        value.get().numbers()?.as_slice(),
-        [11, 22, 33, 4].as_slice()
-    );
-    Ok(())
-}
-
-/// The replies to the first events hold an order, whose result is brought as an event and settles the sum.
-fn ends(rt: &impl Abort, alloc: Global, book: &mut Book, replies: Vec<Reply>) -> Result<(), Fail> {
-    assert!(rt; replies.len() == 9 && book.edits() == 7);
-    let order = order_among(rt, replies).expect(rt, "an order was taken");
-    bring_as_event(rt, book, run(rt, alloc, order)?);
-    look_as_event(rt, book)
-}
-
-fn answers_together(rt: &impl Abort, alloc: Global, book: &mut Book) -> Result<(), Fail> {
-    let events = first_events(rt, alloc)?;
-    let replies = book.run_events(events).ok().expect(rt, "there is memory");
-    ends(rt, alloc, book, replies.into_vec())
-}
-
-#[test]
-fn events_are_answered_together(rt: HostRuntime) -> Result<(), Fail> {
-    let mut book = Book::new(rt.alloc());
-    answers_together(&rt, rt.alloc(), &mut book)
-}
-
-fn answers_one_by_one(rt: &impl Abort, alloc: Global, book: &mut Book) -> Result<(), Fail> {
-    let events = first_events(rt, alloc)?;
-    let replies = answers(rt, alloc, book, events)?;
-    ends(rt, alloc, book, replies)
-}
-
-#[test]
-fn events_are_answered_one_by_one(rt: HostRuntime) -> Result<(), Fail> {
-    let mut book = Book::new(rt.alloc());
-    answers_one_by_one(&rt, rt.alloc(), &mut book)
 }
 
 /// A book of three rows, none of them settled: the sum of `a` and `b` in `c`, the sum of `c` and `c` in `a`, and a constant in `b`.
@@ -366,7 +237,7 @@ const BOOK_OF_THREE: &[Step] = &[
 ];
 
 #[test]
-fn a_book_is_settled_although_orders_are_lost(rt: HostRuntime) -> Result<(), Fail> {
+fn a_book_is_settled_although_orders_are_lost(rt: HostRuntime) -> Result<(), AllocError> {
     const STEPS: &[Step] = &[
         Loses(1, 7),
         Loses(3, 9),
@@ -381,7 +252,7 @@ fn a_book_is_settled_although_orders_are_lost(rt: HostRuntime) -> Result<(), Fai
 }
 
 #[test]
-fn a_result_is_kept_after_a_release(rt: HostRuntime) -> Result<(), Fail> {
+fn a_result_is_kept_after_a_release(rt: HostRuntime) -> Result<(), AllocError> {
     const STEPS: &[Step] = &[
         Takes(1, 7),
         Releases,
@@ -396,7 +267,7 @@ fn a_result_is_kept_after_a_release(rt: HostRuntime) -> Result<(), Fail> {
 }
 
 #[test]
-fn a_release_is_an_event(rt: HostRuntime) -> Result<(), Fail> {
+fn a_release_is_an_event(rt: HostRuntime) -> Result<(), AllocError> {
     const STEPS: &[Step] = &[Loses(1, 7), TakesNothing, ReleasesByEvent, Loses(1, 7)];
     plays_after(&rt, rt.alloc(), BOOK_OF_SUM, STEPS)
 }
@@ -411,7 +282,7 @@ const BOOK_OF_TWO_SETS: &[Step] = &[
 ];
 
 #[test]
-fn inserts_are_refused_by_their_faults(rt: HostRuntime) -> Result<(), Fail> {
+fn inserts_are_refused_by_their_faults(rt: HostRuntime) -> Result<(), AllocError> {
     const STEPS: &[Step] = &[
         Refuses(Insert(End, b"u-move-1L a zz 8"), Fault::NoField),
         Refuses(Insert(End, b"u-move-1L a t 8"), Fault::WrongSet),

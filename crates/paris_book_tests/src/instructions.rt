@@ -1,17 +1,14 @@
-//! Worked rows on single instructions, through the book. The set is `s`, and its flags are keys as its fields are.
+//! Worked rows on instructions within each processor, through the book. The set is `s`, and its flags are keys as its fields are.
 
 use crate::programs::{Given, Row, hold};
-use paris_events::RowFault;
-use paris_model::Refusal;
-use paris_names::RowId;
-use std::test::*;
+use std::alloc::AllocError;
 
-const FOUR: &[u64] = &[4];
+pub(crate) const FOUR: &[u64] = &[4];
 
-const ZEROS: &[u128] = &[0, 0, 0, 0];
+pub(crate) const ZEROS: &[u128] = &[0, 0, 0, 0];
 
 #[test]
-fn a_signed_sum_sets_carry_and_overflow_apart(rt: HostRuntime) -> Result<(), Fail> {
+fn a_signed_sum_sets_carry_and_overflow_apart(rt: HostRuntime) -> Result<(), AllocError> {
     const ROWS: &[Row] = &[Row {
         axes: FOUR,
         fields: &[
@@ -32,7 +29,7 @@ fn a_signed_sum_sets_carry_and_overflow_apart(rt: HostRuntime) -> Result<(), Fai
 }
 
 #[test]
-fn unselected_processors_keep_number_and_flags(rt: HostRuntime) -> Result<(), Fail> {
+fn unselected_processors_keep_number_and_flags(rt: HostRuntime) -> Result<(), AllocError> {
     const ROWS: &[Row] = &[Row {
         axes: FOUR,
         fields: &[
@@ -57,7 +54,7 @@ fn unselected_processors_keep_number_and_flags(rt: HostRuntime) -> Result<(), Fa
 }
 
 #[test]
-fn a_sum_of_64_bits_carries(rt: HostRuntime) -> Result<(), Fail> {
+fn a_sum_of_64_bits_carries(rt: HostRuntime) -> Result<(), AllocError> {
     const ROWS: &[Row] = &[Row {
         axes: &[1],
         fields: &[
@@ -74,7 +71,7 @@ fn a_sum_of_64_bits_carries(rt: HostRuntime) -> Result<(), Fail> {
 }
 
 #[test]
-fn a_difference_borrows(rt: HostRuntime) -> Result<(), Fail> {
+fn a_difference_borrows(rt: HostRuntime) -> Result<(), AllocError> {
     const ROWS: &[Row] = &[
         Row {
             axes: FOUR,
@@ -113,7 +110,7 @@ fn a_difference_borrows(rt: HostRuntime) -> Result<(), Fail> {
 }
 
 #[test]
-fn the_old_carry_is_added(rt: HostRuntime) -> Result<(), Fail> {
+fn the_old_carry_is_added(rt: HostRuntime) -> Result<(), AllocError> {
     const ROWS: &[Row] = &[Row {
         axes: FOUR,
         fields: &[
@@ -137,7 +134,7 @@ const FACTORS: &[Given<'static>] = &[
 ];
 
 #[test]
-fn products_overflow_by_their_sign(rt: HostRuntime) -> Result<(), Fail> {
+fn products_overflow_by_their_sign(rt: HostRuntime) -> Result<(), AllocError> {
     const ROWS: &[Row] = &[
         Row {
             axes: FOUR,
@@ -167,7 +164,7 @@ const GREAT_FACTORS: &[Given<'static>] = &[
 ];
 
 #[test]
-fn products_of_64_bits_overflow_over_the_whole_product(rt: HostRuntime) -> Result<(), Fail> {
+fn products_of_64_bits_overflow_over_the_whole_product(rt: HostRuntime) -> Result<(), AllocError> {
     const ROWS: &[Row] = &[
         Row {
             axes: &[1],
@@ -197,7 +194,7 @@ const DIVIDED: &[Given<'static>] = &[
 ];
 
 #[test]
-fn division_by_0_keeps_the_destination(rt: HostRuntime) -> Result<(), Fail> {
+fn division_by_0_keeps_the_destination(rt: HostRuntime) -> Result<(), AllocError> {
     const ROWS: &[Row] = &[
         Row {
             axes: FOUR,
@@ -227,7 +224,7 @@ const COMPARED: &[Given<'static>] = &[
 ];
 
 #[test]
-fn maximum_and_minimum_go_by_the_sign(rt: HostRuntime) -> Result<(), Fail> {
+fn maximum_and_minimum_go_by_the_sign(rt: HostRuntime) -> Result<(), AllocError> {
     const ROWS: &[Row] = &[
         Row {
             axes: FOUR,
@@ -266,7 +263,7 @@ fn maximum_and_minimum_go_by_the_sign(rt: HostRuntime) -> Result<(), Fail> {
 }
 
 #[test]
-fn the_least_number_has_no_opposite(rt: HostRuntime) -> Result<(), Fail> {
+fn the_least_number_has_no_opposite(rt: HostRuntime) -> Result<(), AllocError> {
     const ROWS: &[Row] = &[Row {
         axes: FOUR,
         fields: &[(b"a", 8, &[128, 1, 0, 255]), (b"c", 8, ZEROS)],
@@ -279,7 +276,7 @@ fn the_least_number_has_no_opposite(rt: HostRuntime) -> Result<(), Fail> {
 }
 
 #[test]
-fn a_short_move_keeps_the_upper_bits(rt: HostRuntime) -> Result<(), Fail> {
+fn a_short_move_keeps_the_upper_bits(rt: HostRuntime) -> Result<(), AllocError> {
     const ROWS: &[Row] = &[Row {
         axes: FOUR,
         fields: &[
@@ -298,7 +295,7 @@ fn a_short_move_keeps_the_upper_bits(rt: HostRuntime) -> Result<(), Fail> {
 const RESIZED: &[Given<'static>] = &[(b"a", 8, &[7, 8, 15, 16]), (b"c", 8, ZEROS)];
 
 #[test]
-fn moves_widen_by_the_sign_and_narrow(rt: HostRuntime) -> Result<(), Fail> {
+fn moves_widen_by_the_sign_and_narrow(rt: HostRuntime) -> Result<(), AllocError> {
     const ROWS: &[Row] = &[
         Row {
             axes: FOUR,
@@ -321,7 +318,7 @@ fn moves_widen_by_the_sign_and_narrow(rt: HostRuntime) -> Result<(), Fail> {
 }
 
 #[test]
-fn a_comparison_sets_the_test_flag(rt: HostRuntime) -> Result<(), Fail> {
+fn a_comparison_sets_the_test_flag(rt: HostRuntime) -> Result<(), AllocError> {
     const ROWS: &[Row] = &[
         Row {
             axes: FOUR,
@@ -344,7 +341,7 @@ fn a_comparison_sets_the_test_flag(rt: HostRuntime) -> Result<(), Fail> {
 }
 
 #[test]
-fn a_processor_knows_its_coordinates_and_its_address(rt: HostRuntime) -> Result<(), Fail> {
+fn a_processor_knows_its_coordinates_and_its_address(rt: HostRuntime) -> Result<(), AllocError> {
     const ROWS: &[Row] = &[Row {
         axes: &[2, 2],
         fields: &[(b"c", 8, ZEROS), (b"d", 8, ZEROS), (b"e", 8, ZEROS)],
@@ -365,7 +362,7 @@ fn a_processor_knows_its_coordinates_and_its_address(rt: HostRuntime) -> Result<
 }
 
 #[test]
-fn the_context_is_loaded_inverted_and_stored(rt: HostRuntime) -> Result<(), Fail> {
+fn the_context_is_loaded_inverted_and_stored(rt: HostRuntime) -> Result<(), AllocError> {
     const ROWS: &[Row] = &[Row {
         axes: FOUR,
         fields: &[(b"f", 1, &[1, 0, 1, 0]), (b"g", 1, ZEROS), (b"c", 8, ZEROS)],
@@ -389,7 +386,7 @@ fn the_context_is_loaded_inverted_and_stored(rt: HostRuntime) -> Result<(), Fail
 }
 
 #[test]
-fn the_context_is_cut_by_the_test_flag(rt: HostRuntime) -> Result<(), Fail> {
+fn the_context_is_cut_by_the_test_flag(rt: HostRuntime) -> Result<(), AllocError> {
     const ROWS: &[Row] = &[Row {
         axes: FOUR,
         fields: &[(b"a", 8, &[1, 5, 3, 4]), (b"b", 8, &[4, 4, 4, 4])],
@@ -400,288 +397,6 @@ fn the_context_is_cut_by_the_test_flag(rt: HostRuntime) -> Result<(), Fail> {
             b"set-test s",
         ],
         wanted: &[(b"s.context", &[1, 0, 1, 0]), (b"s.test", &[1, 0, 1, 0])],
-        refused: &[],
-    }];
-    hold(&rt, rt.alloc(), ROWS)
-}
-
-#[test]
-fn a_get_from_the_neighbour_wraps_round(rt: HostRuntime) -> Result<(), Fail> {
-    const ROWS: &[Row] = &[
-        Row {
-            axes: FOUR,
-            fields: &[(b"v", 8, &[1, 2, 3, 4]), (b"d", 8, &[1, 2, 3, 4])],
-            flags: &[],
-            program: &[b"get-from-news-1L d v 0 upward 8"],
-            wanted: &[(b"d", &[2, 3, 4, 1])],
-            refused: &[],
-        },
-        Row {
-            axes: &[1],
-            fields: &[(b"v", 8, &[7]), (b"d", 8, &[7])],
-            flags: &[],
-            program: &[b"get-from-news-1L d v 0 upward 8"],
-            wanted: &[(b"d", &[7])],
-            refused: &[],
-        },
-        Row {
-            axes: &[2, 2],
-            fields: &[(b"v", 8, &[1, 2, 3, 4]), (b"d", 8, &[1, 2, 3, 4])],
-            flags: &[],
-            program: &[b"get-from-news-1L d v 1 upward 8"],
-            wanted: &[(b"d", &[3, 4, 1, 2])],
-            refused: &[],
-        },
-    ];
-    hold(&rt, rt.alloc(), ROWS)
-}
-
-#[test]
-fn the_context_of_the_sender_decides(rt: HostRuntime) -> Result<(), Fail> {
-    const ROWS: &[Row] = &[Row {
-        axes: FOUR,
-        fields: &[(b"v", 8, &[1, 2, 3, 4]), (b"d", 8, ZEROS)],
-        flags: &[(b"s.context", &[1, 0, 1, 1])],
-        program: &[b"send-to-news-1L d v 0 upward 8"],
-        wanted: &[(b"d", &[4, 1, 0, 3])],
-        refused: &[],
-    }];
-    hold(&rt, rt.alloc(), ROWS)
-}
-
-/// A source, a destination, and segments that begin nowhere.
-const UNCUT: &[Given<'static>] = &[(b"v", 8, &[1, 2, 3, 4]), (b"d", 8, ZEROS), (b"g", 1, ZEROS)];
-
-#[test]
-fn a_scan_leaves_unselected_processors_out(rt: HostRuntime) -> Result<(), Fail> {
-    const ROWS: &[Row] = &[Row {
-        axes: FOUR,
-        fields: UNCUT,
-        flags: &[(b"s.context", &[1, 0, 1, 1])],
-        program: &[b"scan-with-u-add-1L d v 0 8 upward inclusive none"],
-        wanted: &[(b"d", &[1, 0, 4, 8])],
-        refused: &[],
-    }];
-    hold(&rt, rt.alloc(), ROWS)
-}
-
-/// A source, a destination, and segments of which one begins in the third processor.
-const CUT: &[Given<'static>] = &[
-    (b"v", 8, &[1, 2, 3, 4]),
-    (b"d", 8, ZEROS),
-    (b"g", 1, &[0, 0, 1, 0]),
-];
-
-#[test]
-fn a_scan_begins_anew_at_a_segment(rt: HostRuntime) -> Result<(), Fail> {
-    const ROWS: &[Row] = &[
-        Row {
-            axes: FOUR,
-            fields: CUT,
-            flags: &[(b"s.context", &[1, 1, 1, 1])],
-            program: &[b"scan-with-u-add-1L d v 0 8 upward inclusive g"],
-            wanted: &[(b"d", &[1, 3, 3, 7])],
-            refused: &[],
-        },
-        Row {
-            axes: FOUR,
-            fields: CUT,
-            flags: &[(b"s.context", &[1, 1, 1, 1])],
-            program: &[b"scan-with-u-add-1L d v 0 8 downward inclusive g"],
-            wanted: &[(b"d", &[6, 5, 3, 4])],
-            refused: &[],
-        },
-        Row {
-            axes: FOUR,
-            fields: CUT,
-            flags: &[(b"s.context", &[1, 1, 1, 1])],
-            program: &[b"scan-with-u-add-1L d v 0 8 upward exclusive g"],
-            wanted: &[(b"d", &[0, 1, 0, 3])],
-            refused: &[],
-        },
-    ];
-    hold(&rt, rt.alloc(), ROWS)
-}
-
-#[test]
-fn the_first_of_an_exclusive_scan_gets_the_unit(rt: HostRuntime) -> Result<(), Fail> {
-    const ROWS: &[Row] = &[Row {
-        axes: FOUR,
-        fields: UNCUT,
-        flags: &[(b"s.context", &[1, 1, 1, 1])],
-        program: &[b"scan-with-u-min-1L d v 0 8 upward exclusive none"],
-        wanted: &[(b"d", &[255, 1, 1, 1])],
-        refused: &[],
-    }];
-    hold(&rt, rt.alloc(), ROWS)
-}
-
-#[test]
-fn a_scan_overflows_by_the_exact_sum(rt: HostRuntime) -> Result<(), Fail> {
-    const ROWS: &[Row] = &[Row {
-        axes: FOUR,
-        fields: &[(b"v", 8, &[200, 100, 1, 2]), (b"d", 8, ZEROS)],
-        flags: &[],
-        program: &[b"scan-with-u-add-1L d v 0 8 upward inclusive none"],
-        wanted: &[(b"d", &[200, 44, 45, 47]), (b"s.overflow", &[0, 1, 1, 1])],
-        refused: &[],
-    }];
-    hold(&rt, rt.alloc(), ROWS)
-}
-
-#[test]
-fn a_segment_begins_at_an_unselected_processor_too(rt: HostRuntime) -> Result<(), Fail> {
-    const ROWS: &[Row] = &[Row {
-        axes: FOUR,
-        fields: &[
-            (b"v", 8, &[9, 2, 3, 4]),
-            (b"d", 8, ZEROS),
-            (b"g", 1, &[0, 1, 0, 0]),
-        ],
-        flags: &[(b"s.context", &[1, 0, 1, 1])],
-        program: &[b"scan-with-copy-1L d v 0 8 upward g"],
-        wanted: &[(b"d", &[9, 0, 3, 3])],
-        refused: &[],
-    }];
-    hold(&rt, rt.alloc(), ROWS)
-}
-
-#[test]
-fn spreads_and_reduces_go_over_the_selected_ones(rt: HostRuntime) -> Result<(), Fail> {
-    const ROWS: &[Row] = &[
-        Row {
-            axes: FOUR,
-            fields: UNCUT,
-            flags: &[(b"s.context", &[0, 1, 1, 0])],
-            program: &[b"spread-with-u-add-1L d v 0 8"],
-            wanted: &[(b"d", &[0, 5, 5, 0])],
-            refused: &[],
-        },
-        Row {
-            axes: FOUR,
-            fields: UNCUT,
-            flags: &[(b"s.context", &[0, 1, 1, 0])],
-            program: &[b"spread-with-copy-1L d v 0 8 3"],
-            wanted: &[(b"d", &[0, 4, 4, 0])],
-            refused: &[],
-        },
-        Row {
-            axes: FOUR,
-            fields: UNCUT,
-            flags: &[(b"s.context", &[0, 1, 1, 0])],
-            program: &[b"reduce-with-u-max-1L d v 0 8 1"],
-            wanted: &[(b"d", &[0, 3, 0, 0])],
-            refused: &[],
-        },
-        Row {
-            axes: FOUR,
-            fields: UNCUT,
-            flags: &[(b"s.context", &[0, 1, 1, 0])],
-            program: &[b"reduce-with-u-max-1L d v 0 8 0"],
-            wanted: &[(b"d", ZEROS)],
-            refused: &[],
-        },
-    ];
-    hold(&rt, rt.alloc(), ROWS)
-}
-
-#[test]
-fn a_get_fetches_by_address(rt: HostRuntime) -> Result<(), Fail> {
-    const ROWS: &[Row] = &[Row {
-        axes: FOUR,
-        fields: &[
-            (b"ad", 2, &[3, 3, 0, 1]),
-            (b"v", 8, &[1, 2, 3, 4]),
-            (b"d", 8, ZEROS),
-        ],
-        flags: &[(b"s.context", &[1, 1, 0, 1])],
-        program: &[b"get-1L d ad v 8"],
-        wanted: &[(b"d", &[4, 4, 0, 2])],
-        refused: &[],
-    }];
-    hold(&rt, rt.alloc(), ROWS)
-}
-
-#[test]
-fn a_collision_changes_nothing(rt: HostRuntime) -> Result<(), Fail> {
-    const ROWS: &[Row] = &[Row {
-        axes: FOUR,
-        fields: &[
-            (b"ad", 3, &[0, 0, 1, 2]),
-            (b"v", 8, &[1, 2, 3, 4]),
-            (b"d", 8, &[10, 0, 0, 0]),
-            (b"n", 1, &[1, 1, 1, 1]),
-        ],
-        flags: &[],
-        program: &[b"send-1L d ad v 8 n", b"u-move-1L v d 8"],
-        wanted: &[
-            (b"d", &[10, 0, 0, 0]),
-            (b"n", &[1, 1, 1, 1]),
-            (b"v", &[10, 0, 0, 0]),
-        ],
-        refused: &[RowFault {
-            id: RowId(1),
-            cause: Refusal::Collision(0),
-        }],
-    }];
-    hold(&rt, rt.alloc(), ROWS)
-}
-
-#[test]
-fn a_bad_address_comes_before_a_collision(rt: HostRuntime) -> Result<(), Fail> {
-    const ROWS: &[Row] = &[Row {
-        axes: FOUR,
-        fields: &[
-            (b"ad", 3, &[0, 0, 4, 1]),
-            (b"v", 8, &[1, 2, 3, 4]),
-            (b"d", 8, &[10, 0, 0, 0]),
-            (b"n", 1, &[1, 1, 1, 1]),
-        ],
-        flags: &[],
-        program: &[b"send-1L d ad v 8 n", b"u-move-1L v d 8"],
-        wanted: &[
-            (b"d", &[10, 0, 0, 0]),
-            (b"n", &[1, 1, 1, 1]),
-            (b"v", &[10, 0, 0, 0]),
-        ],
-        refused: &[RowFault {
-            id: RowId(1),
-            cause: Refusal::BadAddress(2),
-        }],
-    }];
-    hold(&rt, rt.alloc(), ROWS)
-}
-
-#[test]
-fn a_combining_send_adds_to_the_old_value(rt: HostRuntime) -> Result<(), Fail> {
-    const ROWS: &[Row] = &[Row {
-        axes: FOUR,
-        fields: &[
-            (b"ad", 3, &[0, 0, 1, 2]),
-            (b"v", 8, &[1, 2, 3, 4]),
-            (b"d", 8, &[10, 0, 0, 0]),
-            (b"n", 1, &[1, 1, 1, 1]),
-        ],
-        flags: &[],
-        program: &[b"send-with-u-add-1L d ad v 8 n", b"u-move-1L v d 8"],
-        wanted: &[(b"d", &[13, 3, 4, 0]), (b"n", &[1, 1, 1, 0])],
-        refused: &[],
-    }];
-    hold(&rt, rt.alloc(), ROWS)
-}
-
-#[test]
-fn a_combining_send_keeps_the_common_bits(rt: HostRuntime) -> Result<(), Fail> {
-    const ROWS: &[Row] = &[Row {
-        axes: FOUR,
-        fields: &[
-            (b"ad", 2, &[1, 1, 1, 3]),
-            (b"v", 8, &[6, 12, 255, 7]),
-            (b"d", 8, &[255, 14, 255, 3]),
-        ],
-        flags: &[],
-        program: &[b"send-with-logand-1L d ad v 8 none"],
-        wanted: &[(b"d", &[255, 4, 255, 3])],
         refused: &[],
     }];
     hold(&rt, rt.alloc(), ROWS)

@@ -6,6 +6,12 @@ mod books;
 #[cfg(test)]
 mod edits;
 #[cfg(test)]
+mod events;
+#[cfg(test)]
+mod exchanges;
+#[cfg(test)]
+mod faults;
+#[cfg(test)]
 mod instructions;
 #[cfg(test)]
 mod programs;

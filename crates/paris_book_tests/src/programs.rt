@@ -3,10 +3,11 @@
 use crate::spellings::*;
 use paris_book::{Book, Look};
 use paris_events::{Edit, EditReply, RowFault};
-use paris_names::{Items, RowId, Spot};
+use paris_field::FieldValue;
+use paris_model::Instr;
+use paris_names::{Items, KeyName, RowId, Spot};
 use std::alloc::{AllocError, Global};
 use std::process::Abort;
-use std::test::*;
 
 /// A field of `s`: its name, its width, and its numbers at the start.
 pub(crate) type Given<'a> = (&'a [u8], u64, &'a [u128]);
@@ -28,9 +29,14 @@ pub(crate) struct Row {
     pub(crate) refused: &'static [RowFault],
 }
 
+/// Whether an edit is accepted, which puts in no row.
+fn is_accepted(book: &mut Book, edit: Edit) -> bool {
+    book.edit(edit) == Ok(EditReply::Accepted)
+}
+
 /// Makes an edit that is accepted.
 pub(crate) fn accept(rt: &impl Abort, book: &mut Book, edit: Edit) {
-    assert_eq!(rt; book.edit(edit), Ok(EditReply::Accepted));
+    assert!(rt; is_accepted(book, edit));
 }
 
 /// Declares the set `s` with these axes.
@@ -129,27 +135,56 @@ pub(crate) fn prepare(
     add_fields(rt, alloc, book, fields)
 }
 
+/// Whether an instruction that is put in at a spot becomes the row of this id.
+pub(crate) fn becomes_row(book: &mut Book, spot: Spot, instr: Instr, id: u64) -> bool {
+    book.edit(Edit::Insert { spot, instr }) == Ok(EditReply::Row(RowId(id)))
+}
+
 /// Puts instructions into a program of no rows, and answers how many they are.
 pub(crate) fn append(rt: &impl Abort, book: &mut Book, program: &[&[u8]]) -> u64 {
     let mut count: u64 = 0;
     for text in program {
         count = count.wrapping_add(1);
-        assert_eq!(rt;
-            book.edit(Edit::Insert {
-                spot: Spot::End,
-                instr: instr_of(rt, *text)
-            }),
-            Ok(EditReply::Row(RowId(count)))
-        );
+        assert!(rt; becomes_row(book, Spot::End, instr_of(rt, *text), count));
     }
     count
+}
+
+/// Whether a book is settled by so many orders.
+pub(crate) fn is_settled_by(book: &mut Book, count: u64) -> bool {
+    book.settle() == Ok(count) && book.unsettled_count() == 0
 }
 
 /// Puts instructions into a program of no rows, and settles it.
 pub(crate) fn run(rt: &impl Abort, book: &mut Book, program: &[&[u8]]) {
     let count = append(rt, book, program);
-    assert!(rt; book.settle() == Ok(count));
-    assert_eq!(rt; book.unsettled_count(), 0);
+    assert!(rt; is_settled_by(book, count));
+}
+
+/// Whether a value has just these numbers.
+pub(crate) fn has_numbers(value: &FieldValue, wanted: &[u128]) -> Result<bool, AllocError> {
+    Ok(value.numbers()?.as_slice() == wanted)
+}
+
+/// Whether a key is settled at a spot, and has just these numbers.
+fn is_shown(book: &Book, key: KeyName, spot: Spot, wanted: &[u128]) -> Result<bool, AllocError> {
+    match book.show(key, spot) {
+        Ok(Look::Settled(value)) => has_numbers(value, wanted),
+        _ => Ok(false),
+    }
+}
+
+/// A key is settled at a spot, and has these numbers.
+pub(crate) fn shows_at(
+    rt: &impl Abort,
+    book: &Book,
+    text: &[u8],
+    spot: Spot,
+    wanted: &[u128],
+) -> Result<(), AllocError> {
+    let shown = is_shown(book, key(rt, text), spot, wanted)?;
+    assert!(rt; shown);
+    Ok(())
 }
 
 /// A key has these numbers at the end of the program.
@@ -159,11 +194,7 @@ pub(crate) fn shows(
     text: &[u8],
     wanted: &[u128],
 ) -> Result<(), AllocError> {
-    match book.show(key(rt, text), Spot::End) {
-        Ok(Look::Settled(value)) => assert_eq!(rt; value.numbers()?.as_slice(), wanted),
-        _ => assert!(rt; false),
-    }
-    Ok(())
+    shows_at(rt, book, text, Spot::End, wanted)
 }
 
 fn shows_all(rt: &impl Abort, book: &Book, wanted: &[Numbers<'_>]) -> Result<(), AllocError> {
@@ -174,10 +205,14 @@ fn shows_all(rt: &impl Abort, book: &Book, wanted: &[Numbers<'_>]) -> Result<(),
     Ok(())
 }
 
+fn has_faults(book: &Book, wanted: &[RowFault]) -> Result<bool, AllocError> {
+    Ok(book.faults()?.as_slice() == wanted)
+}
+
 /// Just these settled rows are refused.
 pub(crate) fn refuses(rt: &impl Abort, book: &Book, wanted: &[RowFault]) -> Result<(), AllocError> {
-    let faults = book.faults()?;
-    assert!(rt; faults.as_slice() == wanted);
+    let refused = has_faults(book, wanted)?;
+    assert!(rt; refused);
     Ok(())
 }
 
@@ -196,7 +231,7 @@ fn holds(rt: &impl Abort, alloc: Global, row: &Row) -> Result<(), AllocError> {
 }
 
 /// Each of some worked rows holds in a book of its own, and there are some.
-pub(crate) fn hold(rt: &impl Abort, alloc: Global, rows: &[Row]) -> Result<(), Fail> {
+pub(crate) fn hold(rt: &impl Abort, alloc: Global, rows: &[Row]) -> Result<(), AllocError> {
     assert!(rt; !rows.is_empty());
     for row in rows {
         holds(rt, alloc, row)?;

@@ -3,12 +3,11 @@
 ghost use Rattle.std.specs.Prelude.{◌≤◌};
 ghost use Rattle.paris_names.specs.declared.limits.TheConstants.{MAX_WORKERS};
 
-use crate::programs::{Given, append, prepare, run, shows};
+use crate::programs::{Given, append, becomes_row, prepare, run, shows};
 use crate::spellings::*;
 use paris_book::{Book, Look};
-use paris_events::{Edit, EditReply};
 use paris_exec::{Gate, OpenGate};
-use paris_names::{Edition, RowId, Spot};
+use paris_names::{Edition, KeyName, RowId, Spot};
 use std::alloc::{AllocError, Global};
 use std::process::Abort;
 use std::sync::atomic::{AtomicBool, AtomicU64, Ordering};
@@ -105,15 +104,18 @@ const PROGRAM: &[Text] = &[
     b"u-add-3-1L c d d 8",
 ];
 
+/// The numbers that a key holds after the last row, which is settled.
+fn numbers_at_end(rt: &impl Abort, book: &Book, key: KeyName) -> Result<Vec<u128>, AllocError> {
+    match book.show(key, Spot::End) {
+        Ok(Look::Settled(value)) => value.numbers(),
+        _ => panic!(rt; "it is settled"),
+    }
+}
+
 /// A field holds the same numbers in both books, after the last row.
 fn agree(rt: &impl Abort, one: &Book, other: &Book, text: &[u8]) -> Result<(), AllocError> {
-    match one.show(key(rt, text), Spot::End) {
-        Ok(Look::Settled(value)) => shows(rt, other, text, value.numbers()?.as_slice()),
-        _ => {
-            assert!(rt; false);
-            Ok(())
-        }
-    }
+    let numbers = numbers_at_end(rt, one, key(rt, text))?;
+    shows(rt, other, text, numbers.as_slice())
 }
 
 fn agree_on_all(rt: &impl Abort, one: &Book, other: &Book) -> Result<(), AllocError> {
@@ -288,13 +290,8 @@ impl Gate for OneByOne {
 fn prepare_chain(rt: &impl Abort, alloc: Global, book: &mut Book) -> Result<(), AllocError> {
     prepare(rt, alloc, book, &[4], FIELDS)?;
     for link in 0..LINKS {
-        assert_eq!(rt;
-            book.edit(Edit::Insert {
-                spot: Spot::End,
-                instr: instr_of(rt, b"u-add-3-1L a a b 8")
-            }),
-            Ok(EditReply::Row(RowId(link.saturating_add(1))))
-        );
+        let instr = instr_of(rt, b"u-add-3-1L a a b 8");
+        assert!(rt; becomes_row(book, Spot::End, instr, link.saturating_add(1)));
     }
     Ok(())
 }
@@ -313,7 +310,7 @@ fn chain_is_run_row_by_row<R: Threads + Abort + Sync>(
     assert!(rt; book.settle_par(rt, 4, &gate) == Ok(LINKS));
     assert!(rt; gate.left.load(Ordering::SeqCst) == LINKS);
     assert!(rt; !gate.crowded.load(Ordering::SeqCst));
-    assert_eq!(rt; book.unsettled_count(), 0);
+    assert!(rt; book.unsettled_count() == 0);
     shows(rt, book, b"a", &[31, 62, 93, 4])?;
     agree_on_all(rt, alone, book)
 }

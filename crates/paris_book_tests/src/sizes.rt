@@ -5,7 +5,6 @@ use crate::spellings::Text;
 use paris_book::Book;
 use std::alloc::{AllocError, Global};
 use std::process::Abort;
-use std::test::*;
 
 /// Sets of 1, 2, 4, 32, 64, 128 and 256 processors.
 const SETS: [&[u64]; 7] = [
@@ -189,7 +188,12 @@ fn leaves(
 }
 
 /// What an instruction leaves in each of the sets, by formulas of all its processors.
-fn leaves_in_each(rt: &impl Abort, alloc: Global, text: &[u8], effect: Effect) -> Result<(), Fail> {
+fn leaves_in_each(
+    rt: &impl Abort,
+    alloc: Global,
+    text: &[u8],
+    effect: Effect,
+) -> Result<(), AllocError> {
     for axes in SETS {
         leaves(rt, alloc, axes, whole(count(axes)), text, effect)?;
     }
@@ -197,19 +201,19 @@ fn leaves_in_each(rt: &impl Abort, alloc: Global, text: &[u8], effect: Effect) -
 }
 
 #[test]
-fn each_processor_works_by_itself(rt: HostRuntime) -> Result<(), Fail> {
+fn each_processor_works_by_itself(rt: HostRuntime) -> Result<(), AllocError> {
     let effect = (Formula::Times(3), Formula::TwiceAndLast);
     leaves_in_each(&rt, rt.alloc(), b"u-add-3-1L d v ad 16", effect)
 }
 
 #[test]
-fn each_processor_has_its_address(rt: HostRuntime) -> Result<(), Fail> {
+fn each_processor_has_its_address(rt: HostRuntime) -> Result<(), AllocError> {
     let effect = (Formula::Always(0), Formula::Times(1));
     leaves_in_each(&rt, rt.alloc(), b"my-send-address-1L d 16", effect)
 }
 
 #[test]
-fn each_processor_is_moved_to(rt: HostRuntime) -> Result<(), Fail> {
+fn each_processor_is_moved_to(rt: HostRuntime) -> Result<(), AllocError> {
     let effect = (Formula::Times(5), Formula::Times(5));
     leaves_in_each(&rt, rt.alloc(), b"u-move-always-1L d v 16", effect)
 }
@@ -274,7 +278,7 @@ fn goes_along(
 
 fn goes_along_each(rt: &impl Abort, alloc: Global, axes: &[u64]) -> Result<(), AllocError> {
     let lines = lines_of(alloc, axes)?;
-    assert_eq!(rt; lines.len(), axes.len());
+    assert!(rt; lines.len() == axes.len());
     for (axis, line) in lines {
         goes_along(rt, alloc, axes, axis, line)?;
     }
@@ -282,7 +286,7 @@ fn goes_along_each(rt: &impl Abort, alloc: Global, axes: &[u64]) -> Result<(), A
 }
 
 #[test]
-fn each_line_is_gone_along(rt: HostRuntime) -> Result<(), Fail> {
+fn each_line_is_gone_along(rt: HostRuntime) -> Result<(), AllocError> {
     for axes in SETS {
         goes_along_each(&rt, rt.alloc(), axes)?;
     }
@@ -290,7 +294,7 @@ fn each_line_is_gone_along(rt: HostRuntime) -> Result<(), Fail> {
 }
 
 #[test]
-fn each_processor_gets_mail(rt: HostRuntime) -> Result<(), Fail> {
+fn each_processor_gets_mail(rt: HostRuntime) -> Result<(), AllocError> {
     let effect = (Formula::Times(1), Formula::After);
     leaves_in_each(&rt, rt.alloc(), b"get-1L d ad v 8", effect)?;
     leaves_in_each(&rt, rt.alloc(), b"send-1L d ad v 8 none", effect)?;

@@ -1,16 +1,16 @@
 //! Tables of steps: what a user or a worker does with a book, and what must come of it.
 
 use crate::programs;
+use crate::programs::{becomes_row, is_settled_by, shows_at};
 use crate::spellings::*;
 use paris_book::{Book, Look};
-use paris_events::{Edit, EditReply, RowLook, Status, Verdict};
+use paris_events::{Edit, RowLook, Status, Verdict};
 use paris_exec::{Done, Order, execute};
 use paris_machine::{Event, Reply};
 use paris_model::Refusal;
-use paris_names::{Edition, Fault, Items, RowId, Spot};
+use paris_names::{Edition, Fault, Items, KeyName, RowId, Spot};
 use std::alloc::{AllocError, Global};
 use std::process::Abort;
-use std::test::*;
 
 /// An edit, as a table has it.
 pub(crate) enum Change {
@@ -142,12 +142,17 @@ pub(crate) fn answer(rt: &impl Abort, book: &mut Book, event: Event) -> Reply {
     book.step(event).ok().expect(rt, "there is memory")
 }
 
-fn accepts(rt: &impl Abort, alloc: Global, book: &mut Book, change: &Change) -> Result<(), Fail> {
+fn accepts(
+    rt: &impl Abort,
+    alloc: Global,
+    book: &mut Book,
+    change: &Change,
+) -> Result<(), AllocError> {
     programs::accept(rt, book, edit_of(rt, alloc, change)?);
     Ok(())
 }
 
-fn declares_fields(rt: &impl Abort, book: &mut Book, fields: &[Text]) -> Result<(), Fail> {
+fn declares_fields(rt: &impl Abort, book: &mut Book, fields: &[Text]) -> Result<(), AllocError> {
     for field in fields {
         let edit = Edit::AddField {
             name: name(rt, *field),
@@ -165,13 +170,31 @@ pub(crate) fn inserts(
     spot: Spot,
     text: &[u8],
     id: u64,
-) -> Result<(), Fail> {
-    let answer = book.edit(Edit::Insert {
-        spot,
-        instr: instr_of(rt, text),
-    });
-    assert_eq!(rt; answer, Ok(EditReply::Row(RowId(id))));
+) -> Result<(), AllocError> {
+    let instr = instr_of(rt, text);
+    assert!(rt; becomes_row(book, spot, instr, id));
     Ok(())
+}
+
+/// Whether a book lists just these rows.
+pub(crate) fn is_listed(book: &Book, looks: &[RowLook]) -> Result<bool, AllocError> {
+    Ok(book.list()?.as_slice() == looks)
+}
+
+/// Whether an edit is refused with this fault, and leaves the count of edits as it was.
+fn is_refused(book: &mut Book, edit: Edit, fault: Fault) -> bool {
+    let count = book.edits();
+    book.edit(edit) == Err(fault) && book.edits() == count
+}
+
+/// Whether an edit is refused with this fault, and leaves the count of edits and these rows as they were.
+fn is_refused_with(
+    book: &mut Book,
+    edit: Edit,
+    fault: Fault,
+    looks: &[RowLook],
+) -> Result<bool, AllocError> {
+    Ok(is_refused(book, edit, fault) && is_listed(book, looks)?)
 }
 
 fn refuses(
@@ -180,24 +203,28 @@ fn refuses(
     book: &mut Book,
     change: &Change,
     fault: Fault,
-) -> Result<(), Fail> {
-    let count = book.edits();
+) -> Result<(), AllocError> {
+    let edit = edit_of(rt, alloc, change)?;
     let rows = book.list()?;
-    let answer = book.edit(edit_of(rt, alloc, change)?);
-    assert_eq!(rt; answer, Err(fault));
-    assert_eq!(rt; book.list()?.as_slice(), rows.as_slice());
-    has_edits(rt, book, count)
+    let refused = is_refused_with(book, edit, fault, rows.as_slice())?;
+    assert!(rt; refused);
+    Ok(())
+}
+
+/// Whether an order is for the row of this id with this edition.
+fn is_for(order: &Order, id: u64, edition: u64) -> bool {
+    order.id() == RowId(id) && order.edition() == Edition(edition)
 }
 
 /// The result of an order.
-pub(crate) fn run(rt: &impl Abort, alloc: Global, order: Order) -> Result<Done, Fail> {
-    Ok(execute(alloc, order).ok().expect(rt, "there is memory"))
+pub(crate) fn run(rt: &impl Abort, alloc: Global, order: Order) -> Done {
+    execute(alloc, order).ok().expect(rt, "there is memory")
 }
 
 /// The book's next order, which is for the row of this id with this edition.
-fn take(rt: &impl Abort, book: &mut Book, id: u64, edition: u64) -> Result<Order, Fail> {
+fn take(rt: &impl Abort, book: &mut Book, id: u64, edition: u64) -> Result<Order, AllocError> {
     let order = book.take()?.expect(rt, "a row is ready");
-    assert!(rt; order.id() == RowId(id) && order.edition() == Edition(edition));
+    assert!(rt; is_for(&order, id, edition));
     Ok(order)
 }
 
@@ -208,35 +235,56 @@ fn takes(
     hand: &mut Vec<Done>,
     id: u64,
     edition: u64,
-) -> Result<(), Fail> {
+) -> Result<(), AllocError> {
     let order = take(rt, book, id, edition)?;
-    hand.push(run(rt, alloc, order)?)?;
+    hand.push(run(rt, alloc, order))?;
     Ok(())
 }
 
-fn loses(rt: &impl Abort, book: &mut Book, id: u64, edition: u64) -> Result<(), Fail> {
+fn loses(rt: &impl Abort, book: &mut Book, id: u64, edition: u64) -> Result<(), AllocError> {
     let _lost = take(rt, book, id, edition)?;
     Ok(())
 }
 
-fn takes_nothing(rt: &impl Abort, book: &mut Book) -> Result<(), Fail> {
-    assert!(rt; book.take()?.is_none());
+fn is_out_of_orders(book: &mut Book) -> Result<bool, AllocError> {
+    Ok(book.take()?.is_none())
+}
+
+fn takes_nothing(rt: &impl Abort, book: &mut Book) -> Result<(), AllocError> {
+    let nothing = is_out_of_orders(book)?;
+    assert!(rt; nothing);
     Ok(())
 }
 
-fn peeks(rt: &impl Abort, book: &Book, id: u64, edition: u64) -> Result<(), Fail> {
+/// Whether the next take would give an order for the row of this id with this edition.
+fn is_next(book: &Book, id: u64, edition: u64) -> Result<bool, AllocError> {
+    match book.peek()? {
+        Some(order) => Ok(is_for(&order, id, edition)),
+        None => Ok(false),
+    }
+}
+
+fn is_next_none(book: &Book) -> Result<bool, AllocError> {
+    Ok(book.peek()?.is_none())
+}
+
+fn peeks(rt: &impl Abort, book: &Book, id: u64, edition: u64) -> Result<(), AllocError> {
     let rows = book.list()?;
-    let order = book.peek()?.expect(rt, "a row is ready");
-    assert!(rt; order.id() == RowId(id) && order.edition() == Edition(edition));
-    assert_eq!(rt; book.list()?.as_slice(), rows.as_slice());
+    let next = is_next(book, id, edition)? && is_listed(book, rows.as_slice())?;
+    assert!(rt; next);
     Ok(())
 }
 
-fn peeks_at_nothing(rt: &impl Abort, book: &Book) -> Result<(), Fail> {
+fn peeks_at_nothing(rt: &impl Abort, book: &Book) -> Result<(), AllocError> {
     let rows = book.list()?;
-    assert!(rt; book.peek()?.is_none());
-    assert_eq!(rt; book.list()?.as_slice(), rows.as_slice());
+    let nothing = is_next_none(book)? && is_listed(book, rows.as_slice())?;
+    assert!(rt; nothing);
     Ok(())
+}
+
+/// Whether a copy of a result is judged so.
+fn is_judged(book: &mut Book, done: &Done, verdict: Verdict) -> Result<bool, AllocError> {
+    Ok(book.bring(done.copy()?) == verdict)
 }
 
 fn brings(
@@ -245,56 +293,55 @@ fn brings(
     hand: &[Done],
     number: usize,
     verdict: Verdict,
-) -> Result<(), Fail> {
+) -> Result<(), AllocError> {
     let done = hand.get(number).expect(rt, "it is in hand");
-    assert_eq!(rt; book.bring(done.copy()?), verdict);
+    let judged = is_judged(book, done, verdict)?;
+    assert!(rt; judged);
     Ok(())
 }
 
-fn releases(book: &mut Book) -> Result<(), Fail> {
+fn is_release(reply: &Reply) -> bool {
+    matches!(reply, Reply::Release)
+}
+
+fn releases_by_event(rt: &impl Abort, book: &mut Book) -> Result<(), AllocError> {
+    let reply = answer(rt, book, Event::Release);
+    assert!(rt; is_release(&reply));
+    Ok(())
+}
+
+fn releases(book: &mut Book) -> Result<(), AllocError> {
     book.release();
     Ok(())
 }
 
-fn releases_by_event(rt: &impl Abort, book: &mut Book) -> Result<(), Fail> {
-    match answer(rt, book, Event::Release) {
-        Reply::Release => {}
-        _ => assert!(rt; false),
-    }
+fn settles(rt: &impl Abort, book: &mut Book, count: u64) -> Result<(), AllocError> {
+    assert!(rt; is_settled_by(book, count));
     Ok(())
 }
 
-fn settles(rt: &impl Abort, book: &mut Book, count: u64) -> Result<(), Fail> {
-    assert_eq!(rt; book.settle(), Ok(count));
-    has_unsettled(rt, book, 0)
-}
-
-fn lists(rt: &impl Abort, alloc: Global, book: &Book, rows: &[Row]) -> Result<(), Fail> {
+fn lists(rt: &impl Abort, alloc: Global, book: &Book, rows: &[Row]) -> Result<(), AllocError> {
     let looks = looks_of(rt, alloc, rows)?;
-    assert_eq!(rt; book.list()?.as_slice(), looks.as_slice());
+    let listed = is_listed(book, looks.as_slice())?;
+    assert!(rt; listed);
     Ok(())
 }
 
-fn shows(
-    rt: &impl Abort,
-    book: &Book,
-    text: &[u8],
-    spot: Spot,
-    numbers: &[u128],
-) -> Result<(), Fail> {
-    match book.show(key(rt, text), spot)? {
-        Look::Settled(value) => assert_eq!(rt; value.numbers()?.as_slice(), numbers),
-        Look::Pending(_) => assert!(rt; false),
+/// Whether a key is pending at a spot, for this row.
+fn is_pending(book: &Book, key: KeyName, spot: Spot, id: RowId) -> bool {
+    match book.show(key, spot) {
+        Ok(Look::Pending(row)) => row == id,
+        _ => false,
     }
+}
+
+fn waits(rt: &impl Abort, book: &Book, text: &[u8], spot: Spot, id: u64) -> Result<(), AllocError> {
+    assert!(rt; is_pending(book, key(rt, text), spot, RowId(id)));
     Ok(())
 }
 
-fn waits(rt: &impl Abort, book: &Book, text: &[u8], spot: Spot, id: u64) -> Result<(), Fail> {
-    match book.show(key(rt, text), spot)? {
-        Look::Settled(_) => assert!(rt; false),
-        Look::Pending(row) => assert_eq!(rt; row, RowId(id)),
-    }
-    Ok(())
+fn is_look_refused(book: &Book, key: KeyName, spot: Spot, fault: Fault) -> bool {
+    book.show(key, spot).err() == Some(fault)
 }
 
 fn refuses_look(
@@ -303,28 +350,23 @@ fn refuses_look(
     text: &[u8],
     spot: Spot,
     fault: Fault,
-) -> Result<(), Fail> {
-    assert!(rt; book.show(key(rt, text), spot).err() == Some(fault));
+) -> Result<(), AllocError> {
+    assert!(rt; is_look_refused(book, key(rt, text), spot, fault));
     Ok(())
 }
 
-fn has_edits(rt: &impl Abort, book: &Book, count: u64) -> Result<(), Fail> {
-    assert_eq!(rt; book.edits(), count);
+fn has_edits(rt: &impl Abort, book: &Book, count: u64) -> Result<(), AllocError> {
+    assert!(rt; book.edits() == count);
     Ok(())
 }
 
-fn has_unsettled(rt: &impl Abort, book: &Book, count: usize) -> Result<(), Fail> {
-    assert_eq!(rt; book.unsettled_count(), count);
+fn has_unsettled(rt: &impl Abort, book: &Book, count: usize) -> Result<(), AllocError> {
+    assert!(rt; book.unsettled_count() == count);
     Ok(())
 }
 
-fn has_no_faults(rt: &impl Abort, book: &Book) -> Result<(), Fail> {
-    programs::refuses(rt, book, &[])?;
-    Ok(())
-}
-
-fn has_number(rt: &impl Abort, fault: Fault, number: u64) -> Result<(), Fail> {
-    assert_eq!(rt; fault.number(), number);
+fn has_number(rt: &impl Abort, fault: Fault, number: u64) -> Result<(), AllocError> {
+    assert!(rt; fault.number() == number);
     Ok(())
 }
 
@@ -334,7 +376,7 @@ fn plays_step(
     book: &mut Book,
     hand: &mut Vec<Done>,
     step: &Step,
-) -> Result<(), Fail> {
+) -> Result<(), AllocError> {
     match step {
         Step::Accepts(change) => accepts(rt, alloc, book, change),
         Step::DeclaresFields(fields) => declares_fields(rt, book, *fields),
@@ -350,12 +392,12 @@ fn plays_step(
         Step::ReleasesByEvent => releases_by_event(rt, book),
         Step::Settles(count) => settles(rt, book, *count),
         Step::Lists(rows) => lists(rt, alloc, book, *rows),
-        Step::Shows(text, spot, numbers) => shows(rt, book, *text, *spot, *numbers),
+        Step::Shows(text, spot, numbers) => shows_at(rt, book, *text, *spot, *numbers),
         Step::Waits(text, spot, id) => waits(rt, book, *text, *spot, *id),
         Step::RefusesLook(text, spot, fault) => refuses_look(rt, book, *text, *spot, *fault),
         Step::HasEdits(count) => has_edits(rt, book, *count),
         Step::HasUnsettled(count) => has_unsettled(rt, book, *count),
-        Step::HasNoFaults => has_no_faults(rt, book),
+        Step::HasNoFaults => programs::refuses(rt, book, &[]),
         Step::HasNumber(fault, number) => has_number(rt, *fault, *number),
     }
 }
@@ -367,7 +409,7 @@ fn plays_all(
     book: &mut Book,
     hand: &mut Vec<Done>,
     steps: &[Step],
-) -> Result<(), Fail> {
+) -> Result<(), AllocError> {
     assert!(rt; !steps.is_empty());
     for step in steps {
         plays_step(rt, alloc, book, hand, step)?;
@@ -381,7 +423,7 @@ pub(crate) fn plays_in(
     alloc: Global,
     book: &mut Book,
     steps: &[Step],
-) -> Result<(), Fail> {
+) -> Result<(), AllocError> {
     let mut hand = Vec::new(alloc);
     plays_all(rt, alloc, book, &mut hand, steps)
 }
@@ -392,13 +434,13 @@ fn plays_in_new(
     alloc: Global,
     hand: &mut Vec<Done>,
     steps: &[Step],
-) -> Result<(), Fail> {
+) -> Result<(), AllocError> {
     let mut book = Book::new(alloc);
     plays_all(rt, alloc, &mut book, hand, steps)
 }
 
 /// Plays steps in a new book.
-pub(crate) fn plays(rt: &impl Abort, alloc: Global, steps: &[Step]) -> Result<(), Fail> {
+pub(crate) fn plays(rt: &impl Abort, alloc: Global, steps: &[Step]) -> Result<(), AllocError> {
     let mut hand = Vec::new(alloc);
     plays_in_new(rt, alloc, &mut hand, steps)
 }
@@ -411,7 +453,7 @@ fn plays_both(
     hand: &mut Vec<Done>,
     beginning: &[Step],
     steps: &[Step],
-) -> Result<(), Fail> {
+) -> Result<(), AllocError> {
     plays_all(rt, alloc, book, hand, beginning)?;
     plays_all(rt, alloc, book, hand, steps)
 }
@@ -425,7 +467,7 @@ fn plays_in_both(
     hand: &mut Vec<Done>,
     steps: &[Step],
     others: &[Step],
-) -> Result<(), Fail> {
+) -> Result<(), AllocError> {
     plays_all(rt, alloc, book, hand, steps)?;
     plays_all(rt, alloc, other, hand, others)
 }
@@ -438,7 +480,7 @@ fn plays_beside(
     hand: &mut Vec<Done>,
     steps: &[Step],
     others: &[Step],
-) -> Result<(), Fail> {
+) -> Result<(), AllocError> {
     let mut snapshot = book.snapshot()?;
     plays_in_both(rt, alloc, book, &mut snapshot, hand, steps, others)
 }
@@ -451,7 +493,7 @@ fn plays_then_beside(
     beginning: &[Step],
     steps: &[Step],
     others: &[Step],
-) -> Result<(), Fail> {
+) -> Result<(), AllocError> {
     plays_all(rt, alloc, book, hand, beginning)?;
     plays_beside(rt, alloc, book, hand, steps, others)
 }
@@ -463,7 +505,7 @@ pub(crate) fn plays_beside_a_snapshot(
     beginning: &[Step],
     steps: &[Step],
     others: &[Step],
-) -> Result<(), Fail> {
+) -> Result<(), AllocError> {
     let mut hand = Vec::new(alloc);
     let mut book = Book::new(alloc);
     plays_then_beside(rt, alloc, &mut book, &mut hand, beginning, steps, others)
@@ -475,7 +517,7 @@ fn plays_both_in_new(
     hand: &mut Vec<Done>,
     beginning: &[Step],
     steps: &[Step],
-) -> Result<(), Fail> {
+) -> Result<(), AllocError> {
     let mut book = Book::new(alloc);
     plays_both(rt, alloc, &mut book, hand, beginning, steps)
 }
@@ -486,7 +528,7 @@ pub(crate) fn plays_after(
     alloc: Global,
     beginning: &[Step],
     steps: &[Step],
-) -> Result<(), Fail> {
+) -> Result<(), AllocError> {
     let mut hand = Vec::new(alloc);
     plays_both_in_new(rt, alloc, &mut hand, beginning, steps)
 }
@@ -498,7 +540,7 @@ fn plays_behind(
     others: &[Step],
     beginning: &[Step],
     steps: &[Step],
-) -> Result<(), Fail> {
+) -> Result<(), AllocError> {
     plays_in_new(rt, alloc, hand, others)?;
     plays_both_in_new(rt, alloc, hand, beginning, steps)
 }
@@ -510,7 +552,7 @@ pub(crate) fn plays_after_another(
     others: &[Step],
     beginning: &[Step],
     steps: &[Step],
-) -> Result<(), Fail> {
+) -> Result<(), AllocError> {
     let mut hand = Vec::new(alloc);
     plays_behind(rt, alloc, &mut hand, others, beginning, steps)
 }

@@ -8,7 +8,6 @@ use paris_model::Instr;
 use paris_names::{Fault, Items, RowId, Spot};
 use std::alloc::{AllocError, Global};
 use std::process::Abort;
-use std::test::*;
 
 /// Declares a set with axes of these lengths.
 pub(crate) fn set(
@@ -32,28 +31,43 @@ pub(crate) fn declare(rt: &impl Abort, text: &[u8]) -> Edit {
     }
 }
 
+/// Whether an edit is accepted, which puts in no row.
+fn is_accepted(book: &mut Book, edit: Edit) -> bool {
+    book.edit(edit) == Ok(EditReply::Accepted)
+}
+
 /// Makes an edit that is accepted.
 pub(crate) fn accept(rt: &impl Abort, book: &mut Book, edit: Edit) {
-    assert_eq!(rt; book.edit(edit), Ok(EditReply::Accepted));
+    assert!(rt; is_accepted(book, edit));
+}
+
+/// Whether an edit is refused with this fault, and leaves the count of edits as it was.
+fn is_refused(book: &mut Book, edit: Edit, fault: Fault) -> bool {
+    let count = book.edits();
+    book.edit(edit) == Err(fault) && book.edits() == count
 }
 
 /// Makes an edit that is refused.
 pub(crate) fn refuse(rt: &impl Abort, book: &mut Book, edit: Edit, fault: Fault) {
-    let count = book.edits();
-    assert_eq!(rt; book.edit(edit), Err(fault));
-    assert_eq!(rt; book.edits(), count);
+    assert!(rt; is_refused(book, edit, fault));
+}
+
+/// Whether an instruction that is put in at a spot becomes the row of this id.
+fn becomes_row(book: &mut Book, spot: Spot, instr: Instr, id: u64) -> bool {
+    book.edit(Edit::Insert { spot, instr }) == Ok(EditReply::Row(RowId(id)))
 }
 
 /// Puts an instruction into the program, which becomes the row of this id.
 pub(crate) fn insert(rt: &impl Abort, book: &mut Book, spot: Spot, instr: Instr, id: u64) {
-    assert_eq!(rt;
-        book.edit(Edit::Insert { spot, instr }),
-        Ok(EditReply::Row(RowId(id)))
-    );
+    assert!(rt; becomes_row(book, spot, instr, id));
 }
 
 /// Declares a set of four processors and the fields `a`, `b` and `c`.
-pub(crate) fn declare_all(rt: &impl Abort, alloc: Global, book: &mut Book) -> Result<(), Fail> {
+pub(crate) fn declare_all(
+    rt: &impl Abort,
+    alloc: Global,
+    book: &mut Book,
+) -> Result<(), AllocError> {
     accept(rt, book, set(rt, alloc, b"s", &[4])?);
     accept(rt, book, declare(rt, b"a"));
     accept(rt, book, declare(rt, b"b"));
@@ -62,6 +76,6 @@ pub(crate) fn declare_all(rt: &impl Abort, alloc: Global, book: &mut Book) -> Re
 }
 
 /// The result of an order.
-pub(crate) fn run(rt: &impl Abort, alloc: Global, order: Order) -> Result<Done, Fail> {
-    Ok(execute(alloc, order).ok().expect(rt, "there is memory"))
+pub(crate) fn run(rt: &impl Abort, alloc: Global, order: Order) -> Done {
+    execute(alloc, order).ok().expect(rt, "there is memory")
 }

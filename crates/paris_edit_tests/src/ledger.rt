@@ -6,7 +6,7 @@ use paris_names::{RowId, Spot};
 use std::alloc::{AllocError, Global};
 
 /// A row as it has to be.
-#[derive(Clone, Copy, PartialEq, Eq, Debug)]
+#[derive(Clone, Copy)]
 pub(crate) struct Row {
     pub(crate) id: u64,
     pub(crate) set_by: u64,
@@ -82,14 +82,10 @@ pub(crate) fn with_row(
     place: usize,
     row: Row,
 ) -> Result<Vec<Row>, AllocError> {
-    let mut new = Vec::new(alloc);
-    for above in rows.iter().take(place) {
-        new.push(*above)?;
-    }
+    let (above, below) = rows.split_at(place.min(rows.len()));
+    let mut new = Vec::from_slice(alloc, above)?;
     new.push(row)?;
-    for below in rows.iter().skip(place) {
-        new.push(*below)?;
-    }
+    new.extend_from_slice(below)?;
     Ok(new)
 }
 

@@ -4,6 +4,10 @@
 #[cfg(test)]
 mod books;
 #[cfg(test)]
+mod changes;
+#[cfg(test)]
+mod game;
+#[cfg(test)]
 mod ledger;
 #[cfg(test)]
 mod operations;
@@ -11,3 +15,5 @@ mod operations;
 mod random;
 #[cfg(test)]
 mod spellings;
+#[cfg(test)]
+mod work;

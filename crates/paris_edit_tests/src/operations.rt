@@ -33,7 +33,7 @@ pub(crate) fn throw(dice: &mut Dice, bound: u64) -> u64 {
 }
 
 /// An instruction over the three fields, which stand by their numbers.
-#[derive(Clone, Copy, PartialEq, Eq, Debug)]
+#[derive(Clone, Copy)]
 pub(crate) enum Operation {
     Sum { to: u64, left: u64, right: u64 },
     Constant { to: u64, value: u64 },
