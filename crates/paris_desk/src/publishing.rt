@@ -1,9 +1,9 @@
 //! How the lock's holder publishes.
 
-ghost use Rattle.std.specs.Prelude.{◌≡◌, ◌≤◌, [], drop, fold, IfOk};
+ghost use Rattle.std.specs.Prelude.{◌≡◌, ◌≤◌, ◌++◌, [], ◌∷◌, drop, fold, IfOk, OnOk};
 ghost use mathlib.Core.List.{IsPrefix};
 ghost use Rattle.std.specs.Arc.{arc_value};
-ghost use Rattle.paris_desk.specs.History.{state_of};
+ghost use Rattle.paris_records.specs.History.{state_of};
 ghost use Rattle.paris_desk.specs.Rules.{Posted, posted};
 
 use crate::log::Known;
@@ -50,6 +50,37 @@ pub(crate) fn publish<L: Office, R: Wait>(
     unreachable!()
 }
 
+/// Appends what is shown once more. The error says that memory for the queue was refused, or that the book has too many owners.
+fn append_again<L: Office>(writer: &mut DeskWriter<L>) -> Result<(), AllocError>
+    ensures shown { writer.new.desk ≡ writer.old.desk }
+    ensures pending { OnOk result (drop writer.new.behind writer.new.log.items ≡ drop writer.old.behind writer.old.log.items ++ writer.old.desk.shown.value ∷ []) }
+{
+    let next = writer.published().again()?;
+    match writer.append(next) {
+        Ok(()) => Ok(()),
+        Err(_back) => Err(AllocError),
+    }
+}
+
+/// Publishes what is shown once more. Where that is refused the writer is ended.
+fn publish_again<L: Office, R: Wait>(
+    rt: &R,
+    start: DeskWriter<L>,
+) -> Result<DeskWriter<L>, AllocError>
+    requires log { start.desk.shown.value.log ≡ L.log }
+    requires writer { drop start.behind start.log.items ≡ [] }
+    ensures { IfOk result (λ w. (w.desk.shown.value ≡ start.desk.shown.value) × (drop w.behind w.log.items ≡ [])) }
+{
+    let mut writer = start;
+    match append_again(&mut writer) {
+        Ok(()) => Ok(publish_pending(rt, writer)),
+        Err(refused) => {
+            writer.take(rt);
+            Err(refused)
+        }
+    }
+}
+
 /// A writer that shows an empty book. What it shows is published twice, so that its queue has room from then on. The error says
 /// that memory was refused.
 pub(crate) fn opened<L: Office, R: Wait>(
@@ -65,10 +96,9 @@ pub(crate) fn opened<L: Office, R: Wait>(
 {
     let first = Published::new::<L>(Arc::try_clone(book)?, known.again());
     let second = first.again()?;
-    let third = first.again()?;
-    let fourth = first.again()?;
     let writer = DeskWriter::new(alloc, first, second, readers as usize)?;
-    Ok(publish(rt, publish(rt, writer, third), fourth))
+    let writer = publish_again(rt, writer)?;
+    publish_again(rt, writer)
 }
 
 /// Ends what publishes, once nobody looks any more.
