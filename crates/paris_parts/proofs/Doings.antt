@@ -8,10 +8,6 @@ use Rattle.paris_names.specs.declared.faults.Fault.{Fault}
 use Rattle.paris_records.specs.declared.records.Receipt.{Receipt}
 use Rattle.paris_desk.specs.Pasts.{Learned}
 use Rattle.paris_desk.specs.Seats.{Sitting}
-use Rattle.paris_events.specs.declared.rows.RowFault.{RowFault}
-use Rattle.paris_events.specs.declared.rows.RowLook.{RowLook}
-use Rattle.paris_machine.specs.Lists.{fault_by}
-use Rattle.paris_parts.specs.Hands.{faults_among}
 use Rattle.paris_parts.specs.Jobs.{AreDone, AreTold, Doing, HasRun, HasRunIn, IsNew, RunsBehind, begun_at}
 use Rattle.paris_parts.specs.Seeing.{IsInTime}
 
@@ -23,15 +19,6 @@ moved f done x before rest out first same = append_assoc done (f x ∷ []) (map 
 -- where none is left, all are done
 pub moved_all : {X Y : Type 0} (f : X → Y) (done : List Y) (left : List X) (out : List Y) → left ≡ [] → done ++ map f left ≡ out → done ≡ out
 moved_all f done left out none same = sym (append-nil done) ∙ ap (λ l. done ++ map f l) (sym none) ∙ same
-
--- the row of a list that comes next, refused or not
-pub fault_next : (looks : List RowLook) (i : ℕ) (look : RowLook) (done more : List RowFault) (out : List RowFault) → i < length looks → look ≡ get_or looks i look
-    → more ≡ done ++ fault_by look.id look.cause → done ++ faults_among (drop i looks) ≡ out → more ++ faults_among (drop (i + 1) looks) ≡ out
-fault_next looks i look done more out within is added same =
-    let first : drop i looks ≡ look ∷ drop (i + 1) looks = (rw add-one (drop-cons looks i look within)) ∙ ap (λ (l : RowLook). l ∷ drop (i + 1) looks) (sym is) in
-    ap (λ (l : List RowFault). l ++ faults_among (drop (i + 1) looks)) added
-    ∙ append_assoc done (fault_by look.id look.cause) (faults_among (drop (i + 1) looks))
-    ∙ ap (λ (l : List RowLook). done ++ faults_among l) (sym first) ∙ same
 
 -- the lines of a part, one more
 pub lines_more : (ls : List (Vec ℕ Global)) (i : ℕ) (line : Vec ℕ Global) → i < length ls → line ≡ get_or ls i line

@@ -1,7 +1,5 @@
-pub mod Cuts
 pub mod Doings
 pub mod Ends
-pub mod Lasts
 pub mod Playing
 pub mod Runs
 pub mod Sights

@@ -1,10 +1,8 @@
 -- A part is played line by line.
-use Rattle.std.proofs.Common.{◌≡◌, ℕ, ◌+◌, ◌<◌, ◌≤◌, Bool, true, false, List, [], ◌∷◌, ◌++◌, length, get_or, take, map, Some, None, Ok, Err, Vec, Global, refl, sym, ap, ◌∙◌, subst, arith, append_assoc, append-nil}
-use Rattle.std.specs.Prelude.{IfOk, MatchBool, Result, nat_lt}
-use Rattle.paris_session.specs.Transcript.{longest_line}
+use Rattle.std.proofs.Common.{◌≡◌, ℕ, ◌+◌, ◌<◌, ◌≤◌, Bool, true, false, List, [], ◌∷◌, ◌++◌, length, get_or, take, map, Some, None, Err, Vec, Global, refl, sym, ap, ◌∙◌, subst, arith, append_assoc, append-nil}
+use Rattle.std.specs.Prelude.{MatchBool, Option, if◌then◌else◌}
 use Rattle.paris_names.specs.declared.faults.Fault.{Fault}
 use Rattle.paris_names.specs.declared.faults.Fault.TheVariants as faults
-use Rattle.paris_names.specs.declared.faults.Fault.TheVariants.{Syntax}
 use Rattle.paris_names.specs.declared.ids.Spot.{Spot}
 use Rattle.paris_names.specs.declared.names.KeyName.{KeyName}
 use Rattle.paris_events.specs.declared.rows.RowLook.{RowLook}
@@ -14,8 +12,8 @@ use Rattle.paris_machine.specs.declared.events.Event.TheVariants as event
 use Rattle.paris_machine.specs.declared.events.Reply.{Reply}
 use Rattle.paris_machine.specs.declared.events.Reply.TheVariants as reply
 use Rattle.paris_replies.specs.Replies.{faults_text}
-use Rattle.paris_parts.specs.declared.asked.Asked.{Asked}
-use Rattle.paris_parts.specs.declared.asked.Asked.TheVariants as asks
+use Rattle.paris_cuts.specs.declared.asked.Asked.{Asked}
+use Rattle.paris_cuts.specs.declared.asked.Asked.TheVariants as asks
 use Rattle.paris_parts.proofs.Doings.{lines_more}
 use Rattle.paris_parts.proofs.Steps.{calls, from_first, looks, moves_more, stays, still}
 use Rattle.paris_records.specs.History.{state_of}
@@ -24,7 +22,8 @@ use Rattle.paris_records.specs.declared.records.Receipt.{Receipt}
 use Rattle.paris_desk.specs.Calls.{Called}
 use Rattle.paris_desk.specs.Seats.{Sitting}
 use Rattle.paris_view.specs.Looks.{Looked, Missed}
-use Rattle.paris_parts.specs.Hands.{Hand, Answers, AnswersAsked, Plays, asked_by_line, empty_hand, faults_among, is_skipped, plainly, refused, told, with_command}
+use Rattle.paris_cuts.specs.Hands.{Hand, asked_by_line, empty_hand, faults_among, is_skipped, read_by, refused, told, with_command}
+use Rattle.paris_parts.specs.Hands.{Answers, AnswersAsked, Plays, plainly}
 use Rattle.paris_parts.specs.Moving.{Answered, HasAnswered, HasPlayed, Moves, is_unmet}
 use Rattle.paris_parts.specs.Seeing.{Glimpses, IsInTime}
 
@@ -33,12 +32,6 @@ pub by_call : (s s' : Sitting) (h h' : Hand) (e : Event) (r : Reply) (text : Lis
 by_call s s' h h' e r text time called said =
     let (own, moved, event_is, reply_is) = calls s s' e r called time in
     (own ∷ [], moved, (own, refl, event_is, said ∙ ap (told h) (sym reply_is)))
-
--- what is told of a recorded call answers what is asked for
-pub call_told : (result : Result (Vec ℕ Global) Fault) (s s' : Sitting) (h h' : Hand) (e : Event) (r : Reply) → IsInTime s → Called s s' e r → IfOk result (λ text. (h', text.items) ≡ told h r)
-    → IfOk result (λ text. Answered s s' h (asks.Call e) h' text.items)
-call_told (Ok text) s s' h h' e r time called said = by_call s s' h h' e r text.items time called said
-call_told (Err fault) s s' h h' e r time called said = tt
 
 -- a list of the rows answers `faults`
 pub by_list : (s s' : Sitting) (h h' : Hand) (rows : List RowLook) (text : List ℕ) → IsInTime s → Called s s' event.List (reply.List rows) → h' ≡ h → text ≡ faults_text (faults_among rows)
@@ -58,29 +51,35 @@ by_look s s' h h' key spot text time looked said =
 pub by_refusal : (s : Sitting) (h h' : Hand) (fault : Fault) (text : List ℕ) → IsInTime s → (h', text) ≡ refused h fault → Answered s s h (asks.Refused fault) h' text
 by_refusal s h h' fault text time said = ([], stays s time, (refl, said))
 
+-- the hand once a line is read, and what the line asks for, by whether it is skipped
+abbrev ReadBy : Bool → Hand → List ℕ → Hand × Option Asked
+ReadBy b h line = if b then (h, None) else (with_command h, Some (asked_by_line h.tray line))
+
+-- a line is answered, by whether it is skipped
+abbrev AnswersBy : Bool → (List Entry → Type 0) → Hand → List ℕ → List Receipt → Hand → List ℕ → Type 0
+AnswersBy b Sees h line rs h' text = MatchBool b ((rs ≡ []) × ((h', text) ≡ plainly h [])) (AnswersAsked Sees (with_command h) (asked_by_line h.tray line) rs h' text)
+
+skipped_by : (b : Bool) (Sees : List Entry → Type 0) (h h' : Hand) (line text : List ℕ) → (h', None) ≡ ReadBy b h line → text ≡ [] → AnswersBy b Sees h line [] h' text
+skipped_by true Sees h h' line text same none = let hand_is : h' ≡ h = ap (λ (p : Hand × Option Asked). p.0) same in (refl, λ i. (hand_is i, none i))
+skipped_by false Sees h h' line text same none = absurd (let e : None ≡ Some (asked_by_line h.tray line) = ap (λ (p : Hand × Option Asked). p.1) same in cc)
+
 -- a line is skipped
-pub line_skipped : (s : Sitting) (h : Hand) (line text : List ℕ) → IsInTime s → is_skipped line ≡ true → text ≡ [] → HasAnswered s s h line h text
-line_skipped s h line text time skipped none =
-    let rs : List Receipt = [] in (
-      rs,
-      stays s time,
-      subst (λ (b : Bool). MatchBool b ((rs ≡ []) × ((h, text) ≡ plainly h [])) (AnswersAsked (Glimpses s.past s s.receipts) (with_command h) (asked_by_line (with_command h) line) rs h text))
-          (sym skipped) (refl, ap (λ (l : List ℕ). (h, l)) none),
-    )
+pub line_skipped : (s : Sitting) (h h' : Hand) (line text : List ℕ) → IsInTime s → (h', None) ≡ read_by h line → text ≡ [] → HasAnswered s s h line h' text
+line_skipped s h h' line text time read none = ([], stays s time, skipped_by (is_skipped line) (Glimpses s.past s s.receipts) h h' line text read none)
+
+asked_by_test : (b : Bool) (Sees : List Entry → Type 0) (h m h' : Hand) (line text : List ℕ) (asked : Asked) (rs : List Receipt) → (m, Some asked) ≡ ReadBy b h line
+    → AnswersAsked Sees m asked rs h' text → AnswersBy b Sees h line rs h' text
+asked_by_test true Sees h m h' line text asked rs same answers = absurd (let e : Some asked ≡ None = ap (λ (p : Hand × Option Asked). p.1) same in cc)
+asked_by_test false Sees h m h' line text asked rs same answers =
+    let hand_is : m ≡ with_command h = ap (λ (p : Hand × Option Asked). p.0) same in
+    let some : Some asked ≡ Some (asked_by_line h.tray line) = ap (λ (p : Hand × Option Asked). p.1) same in
+    let asked_is : asked ≡ asked_by_line h.tray line = cc in
+    subst (λ (x : Hand). AnswersAsked Sees x (asked_by_line h.tray line) rs h' text) hand_is (subst (λ (a : Asked). AnswersAsked Sees m a rs h' text) asked_is answers)
 
 -- a line is answered by what it asks for
-pub line_asked : (s s' : Sitting) (h h' : Hand) (line text : List ℕ) (asked : Asked) → is_skipped line ≡ false → asked ≡ asked_by_line (with_command h) line
-    → Answered s s' (with_command h) asked h' text → HasAnswered s s' h line h' text
-line_asked s s' h h' line text asked on is (rs, moved, answers) = (
-  rs,
-  moved,
-  subst (λ (b : Bool). MatchBool b ((rs ≡ []) × ((h', text) ≡ plainly h [])) (AnswersAsked (Glimpses s.past s' s.receipts) (with_command h) (asked_by_line (with_command h) line) rs h' text))
-      (sym on) (subst (λ (a : Asked). AnswersAsked (Glimpses s.past s' s.receipts) (with_command h) a rs h' text) is answers),
-)
-
--- what a line asks for that is too long
-pub overlong_asks : (h : Hand) (line : List ℕ) → nat_lt longest_line (length line) ≡ true → asks.Refused (Syntax (longest_line + 1)) ≡ asked_by_line h line
-overlong_asks h line long = rw long refl
+pub line_asked : (s s' : Sitting) (h m h' : Hand) (line text : List ℕ) (asked : Asked) → (m, Some asked) ≡ read_by h line → Answered s s' m asked h' text → HasAnswered s s' h line h' text
+line_asked s s' h m h' line text asked read (rs, moved, answers) =
+    (rs, moved, asked_by_test (is_skipped line) (Glimpses s.past s' s.receipts) h m h' line text asked rs read answers)
 
 -- a look is refused
 pub missed_so : (name : KeyName) (spot : Spot) (s s' : Sitting) (fault : Fault) → is_unmet fault ≡ false → Missed name spot s s' fault
@@ -123,10 +122,9 @@ answers_so : (P Q : List Entry → Type 0) (h : Hand) (line : List ℕ) (rs : Li
     → Answers P h line rs h' text → Answers Q h line rs h' text
 answers_so P Q h line rs h' text so = by_test (is_skipped line)
   where
-    by_test : (b : Bool) → MatchBool b ((rs ≡ []) × ((h', text) ≡ plainly h [])) (AnswersAsked P (with_command h) (asked_by_line (with_command h) line) rs h' text)
-        → MatchBool b ((rs ≡ []) × ((h', text) ≡ plainly h [])) (AnswersAsked Q (with_command h) (asked_by_line (with_command h) line) rs h' text)
+    by_test : (b : Bool) → AnswersBy b P h line rs h' text → AnswersBy b Q h line rs h' text
     by_test true a = a
-    by_test false a = asked_so P Q (with_command h) (asked_by_line (with_command h) line) rs h' text so a
+    by_test false a = asked_so P Q (with_command h) (asked_by_line h.tray line) rs h' text so a
 
 -- what looks see may be said by more
 pub plays_so : (P Q : List Receipt → List Entry → Type 0) (made : List Receipt) (h : Hand) (lines : List (List ℕ)) (rs : List Receipt) (h' : Hand) (text : List ℕ)
@@ -205,9 +203,9 @@ asked_count P h (asks.Refused fault) rs h' text (none, said) = ap (λ (p : Hand 
 answers_count : (P : List Entry → Type 0) (h : Hand) (line : List ℕ) (rs : List Receipt) (h' : Hand) (text : List ℕ) → Answers P h line rs h' text → h'.commands ≤ h.commands + 1
 answers_count P h line rs h' text answers = by_test (is_skipped line) answers
   where
-    by_test : (b : Bool) → MatchBool b ((rs ≡ []) × ((h', text) ≡ plainly h [])) (AnswersAsked P (with_command h) (asked_by_line (with_command h) line) rs h' text) → h'.commands ≤ h.commands + 1
+    by_test : (b : Bool) → AnswersBy b P h line rs h' text → h'.commands ≤ h.commands + 1
     by_test true (none, said) = let same : h'.commands ≡ h.commands = ap (λ (p : Hand × List ℕ). p.0.commands) said in omega (arith, same)
-    by_test false a = let same : h'.commands ≡ h.commands + 1 = asked_count P (with_command h) (asked_by_line (with_command h) line) rs h' text a in omega (arith, same)
+    by_test false a = let same : h'.commands ≡ h.commands + 1 = asked_count P (with_command h) (asked_by_line h.tray line) rs h' text a in omega (arith, same)
 
 -- a line of a part is answered
 pub play_next : (s s1 s2 : Sitting) (ls : List (Vec ℕ Global)) (i : ℕ) (line : Vec ℕ Global) (h h' : Hand) (text text' reply line' : List ℕ) → i < length ls → line ≡ get_or ls i line

@@ -20,8 +20,10 @@ use Rattle.paris_desk.specs.Seats.{Sitting, sitting, fresh}
 use Rattle.paris_desk.specs.Work.{Gained, Worked}
 use Rattle.paris_desk.proofs.Lists.{by_number_at}
 use Rattle.paris_desk.proofs.Prefixes.{prefix_self}
-use Rattle.paris_parts.specs.Hands.{Plays, empty_hand}
-use Rattle.paris_parts.specs.Jobs.{Doing, AreDone, HasRun, HasWorked, IsDone, IsNew, IsShort, Played, RunsBehind, begun_at}
+use Rattle.paris_cuts.specs.Hands.{empty_hand}
+use Rattle.paris_cuts.specs.Parts.{IsShort}
+use Rattle.paris_parts.specs.Hands.{Plays}
+use Rattle.paris_parts.specs.Jobs.{Doing, AreDone, HasRun, HasWorked, IsDone, IsNew, Played, RunsBehind, begun_at}
 use Rattle.paris_parts.specs.Seeing.{Glimpses, IsInTime, Sees}
 use Rattle.paris_parts.specs.Texts.{at_seat}
 use Rattle.paris_parts.specs.Run.{EachDone}

@@ -8,7 +8,8 @@ use Rattle.paris_records.specs.declared.records.Receipt.{Receipt}
 use Rattle.paris_desk.specs.Pasts.{Learned}
 use Rattle.paris_desk.specs.Seats.{Sitting}
 use Rattle.paris_desk.specs.Work.{Gained, Worked}
-use Rattle.paris_parts.specs.Hands.{Hand, Plays, empty_hand}
+use Rattle.paris_cuts.specs.Hands.{Hand, empty_hand}
+use Rattle.paris_parts.specs.Hands.{Plays}
 use Rattle.paris_parts.specs.Seeing.{Glimpses, IsInTime}
 
 -- a seat, what it has in hand, and what was told at it
@@ -60,7 +61,3 @@ RunsBehind parts first s d = (s1 : Sitting) × Learned s first s1 × HasRun part
 abbrev pub AreDone : List (List (List ℕ)) → List Sitting → List Doing → Type 0
 AreDone parts (s ∷ ss) (d ∷ ds) = HasRun parts s d × AllZip (RunsBehind parts d.seat) ss ds
 AreDone parts _ _ = ⊥
-
--- a part has fewer lines than that its commands could not be counted
-abbrev pub IsShort : List (List ℕ) → Type 0
-IsShort part = length part < 1125899906842624

@@ -1,4 +1,3 @@
-pub mod Parts
 pub mod Hands
 pub mod Seeing
 pub mod Moving

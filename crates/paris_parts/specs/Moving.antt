@@ -7,8 +7,9 @@ use Rattle.paris_names.specs.declared.faults.Fault.TheVariants.{StrangeSeat, NoE
 use Rattle.paris_records.specs.declared.records.Receipt.{Receipt}
 use Rattle.paris_desk.specs.Seats.{Sitting}
 use Rattle.paris_desk.specs.Work.{Gained}
-use Rattle.paris_parts.specs.declared.asked.Asked.{Asked}
-use Rattle.paris_parts.specs.Hands.{Hand, Answers, AnswersAsked, Plays, empty_hand}
+use Rattle.paris_cuts.specs.declared.asked.Asked.{Asked}
+use Rattle.paris_cuts.specs.Hands.{Hand, empty_hand}
+use Rattle.paris_parts.specs.Hands.{Answers, AnswersAsked, Plays}
 use Rattle.paris_parts.specs.Seeing.{Glimpses, IsInTime}
 
 -- whether a fault says that a seat met no history that it could look at

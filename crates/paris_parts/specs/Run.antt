@@ -19,7 +19,7 @@ use Rattle.paris_records.specs.Receipts.{receipts_in}
 use Rattle.paris_desk.specs.Closing.{by_number, past_of}
 use Rattle.paris_desk.specs.Seats.{Sitting, sitting}
 use Rattle.paris_parts.specs.Jobs.{Doing, IsDone}
-use Rattle.paris_parts.specs.Parts.{parts}
+use Rattle.paris_cuts.specs.Parts.{parts}
 use Rattle.paris_parts.specs.Seeing.{Sees}
 use Rattle.paris_parts.specs.Texts.{at_seat, parts_text, commands_in, refusals_in, edits_in, closed_text}
 

@@ -1,14 +1,15 @@
 //! What the seats of a desk do at once: some play a part, the others work.
 
-ghost use Rattle.std.specs.Prelude.{◌≡◌, ◌<◌, ◌≤◌, ◌++◌, ◌∷◌, ℕ, [], Result, Ok, length, map, slice_index_or, IfOk, OnOk};
+ghost use Rattle.std.specs.Prelude.{◌≡◌, ◌<◌, ◌≤◌, ◌++◌, ◌∷◌, ℕ, [], Result, Ok, length, map, option_map, slice_get, slice_index_or, IfOk, OnOk};
 ghost use Rattle.std.specs.List.{All};
 ghost use Rattle.paris_names.specs.declared.faults.Fault.{Fault};
 ghost use Rattle.paris_desk.specs.Pasts.{Learned};
-ghost use Rattle.paris_parts.specs.Jobs.{AreDone, AreTold, Doing, HasRun, HasRunIn, IsNew, IsShort, begun_at};
+ghost use Rattle.paris_cuts.specs.Parts.{IsShort};
+ghost use Rattle.paris_parts.specs.Jobs.{AreDone, AreTold, Doing, HasRun, HasRunIn, IsNew, begun_at};
 ghost use Rattle.paris_parts.specs.Seeing.{IsInTime};
 
-use crate::parts::Part;
-use crate::players::Player;
+use crate::players::play;
+use paris_cuts::{Part, Player};
 use paris_desk::{Desk, MAX_HISTORY, Office, Seat, work};
 use paris_exec::Gate;
 use paris_names::Fault;
@@ -32,6 +33,13 @@ impl<L: Office> Model for Job<L> {
     ghost Value = { Doing };
 
     ghost view = { λ j. doing j.seat j.player j.text.items };
+}
+
+/// The part of a number, if there is one.
+fn part_of(parts: &[Part], number: u64) -> Option<&Part>
+    ensures { option_map (λ part. part.now) result ≡ slice_get parts.now number }
+{
+    parts.get(number as usize)
 }
 
 impl<L: Office> Job<L> {
@@ -63,7 +71,7 @@ impl<L: Office> Job<L> {
             player: _,
             text,
         } = self;
-        let Some(part) = parts.get(seat.number() as usize) else {
+        let Some(part) = part_of(parts, seat.number()) else {
             work(rt, alloc, desk, &mut seat, gate, MAX_HISTORY)?;
             return Ok(Job {
                 seat,
@@ -72,7 +80,7 @@ impl<L: Office> Job<L> {
             });
         };
         let mut player = Player::new(alloc);
-        let (seat, text) = player.play(rt, desk, seat, part)?;
+        let (seat, text) = play(&mut player, rt, alloc, desk, seat, part)?;
         Ok(Job { seat, player, text })
     }
 }

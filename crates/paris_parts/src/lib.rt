@@ -1,13 +1,11 @@
 //! Scripts in parts: sessions that share a desk, with workers beside them.
 #![tactic(auto)]
 
-mod asked;
+mod closing;
 mod jobs;
-mod last;
-mod parts;
+mod outcome;
 mod players;
-mod reading;
 mod run;
 mod texts;
 
-pub use run::{DeskRunFault, Transcript, run_parts, run_sessions};
+pub use run::{DeskRunFault, run_parts, run_sessions};

@@ -1,0 +1,92 @@
+-- What the lines of a part ask for, and what a session that has a seat is told: its orders are its own, and of the book it knows the
+-- replies to its calls and what it looks at.
+use Rattle.std.specs.Prelude.{◌<◌, ℕ, ◌+◌, ◌==◌, Bool, true, List, [], ◌∷◌, ◌++◌, length, slice_index, nat_lt, Option, Some, None, Result, Ok, Err, if◌then◌else◌}
+use Rattle.paris_names.specs.declared.faults.Fault.{Fault}
+use Rattle.paris_names.specs.declared.faults.Fault.TheVariants.{NoOrder, Syntax}
+use Rattle.paris_events.specs.declared.rows.RowFault.{RowFault}
+use Rattle.paris_events.specs.declared.rows.RowLook.{RowLook}
+use Rattle.paris_exec.specs.Tasks.{Task}
+use Rattle.paris_machine.specs.Lists.{fault_by}
+use Rattle.paris_machine.specs.declared.events.Event.TheVariants as event
+use Rattle.paris_machine.specs.declared.events.Reply.{Reply}
+use Rattle.paris_machine.specs.declared.events.Reply.TheVariants as reply
+use Rattle.paris_text.specs.CommandReading.{command_of}
+use Rattle.paris_text.specs.declared.commands.Command.{Command}
+use Rattle.paris_text.specs.declared.commands.Command.TheVariants as command
+use Rattle.paris_replies.specs.Replies.{ok_text, edit_text, order_text, nothing_text, verdict_text, list_text, refusal_text}
+use Rattle.paris_session.specs.Transcript.{longest_line, order_at, shown_text}
+use Rattle.paris_cuts.specs.declared.asked.Asked.{Asked}
+use Rattle.paris_cuts.specs.declared.asked.Asked.TheVariants as asks
+
+-- the orders that a session took, and how many commands it answered and refused
+pub record Hand : Type 0 where
+  pub tray : List Task
+  pub commands : ℕ
+  pub refusals : ℕ
+
+abbrev pub hand : List Task → ℕ → ℕ → Hand
+hand tray commands refusals = record { tray = tray; commands = commands; refusals = refusals }
+
+abbrev pub empty_hand : Hand
+empty_hand = hand [] 0 0
+
+-- one command more
+abbrev pub with_command : Hand → Hand
+with_command h = hand h.tray (h.commands + 1) h.refusals
+
+-- a command is counted that is not yet refused, and whose order is not yet kept
+abbrev pub IsCounted : Hand → Type 0
+IsCounted h = (h.refusals < h.commands) × (length h.tray < h.commands)
+
+-- what is answered to a command that is refused
+abbrev pub refused : Hand → Fault → Hand × List ℕ
+refused h fault = (hand h.tray h.commands (h.refusals + 1), refusal_text fault)
+
+abbrev pub bring_asked : Option Task → Asked
+bring_asked None = asks.Refused NoOrder
+bring_asked (Some order) = asks.Call (event.Bring order)
+
+-- what a command asks for, where these orders were taken. A session that has a seat settles nothing
+abbrev pub asked_by : List Task → Command → Asked
+asked_by tray (command.Edit e) = asks.Call (event.Edit e)
+asked_by tray command.Take = asks.Call event.Take
+asked_by tray (command.Bring number) = bring_asked (order_at tray number)
+asked_by tray command.Release = asks.Call event.Release
+asked_by tray (command.Show key spot) = asks.Look key spot
+asked_by tray command.List = asks.Call event.List
+asked_by tray command.Faults = asks.Faults
+asked_by tray command.Settle = asks.Refused (Syntax 1)
+
+-- a line that is no command is refused, with the column from which it is none
+abbrev pub asked_by_read : List Task → Result Command ℕ → Asked
+asked_by_read tray (Ok c) = asked_by tray c
+asked_by_read tray (Err column) = asks.Refused (Syntax column)
+
+-- what a line asks for
+abbrev pub asked_by_line : List Task → List ℕ → Asked
+asked_by_line tray line = if nat_lt longest_line (length line) then asks.Refused (Syntax (longest_line + 1)) else asked_by_read tray (command_of line)
+
+-- whether a line is skipped: it is empty, or begins with `#`
+abbrev pub is_skipped : List ℕ → Bool
+is_skipped line = if length line == 0 then true else (slice_index line 0 == 35)
+
+-- the hand once a line is read, and what the line asks for: one that is skipped asks for nothing, and every other one is a command more
+abbrev pub read_by : Hand → List ℕ → Hand × Option Asked
+read_by h line = if is_skipped line then (h, None) else (with_command h, Some (asked_by_line h.tray line))
+
+-- what is told of a reply
+abbrev pub told : Hand → Reply → Hand × List ℕ
+told h (reply.Edit (Ok answer)) = (h, edit_text answer)
+told h (reply.Edit (Err fault)) = refused h fault
+told h (reply.Take None) = (h, nothing_text)
+told h (reply.Take (Some order)) = (hand (h.tray ++ order ∷ []) h.commands h.refusals, order_text (length h.tray + 1) order.id order.edition)
+told h (reply.Bring verdict) = (h, verdict_text verdict)
+told h reply.Release = (h, ok_text)
+told h (reply.Show (Ok shown)) = (h, shown_text shown)
+told h (reply.Show (Err fault)) = refused h fault
+told h (reply.List looks) = (h, list_text looks)
+
+-- the rows of a list that are refused
+abbrev pub faults_among : List RowLook → List RowFault
+faults_among [] = []
+faults_among (look ∷ looks) = fault_by look.id look.cause ++ faults_among looks

@@ -1,8 +1,0 @@
-use Rattle.std.proofs.Common.{◌≤◌, map, take}
-use Rattle.paris_parts.specs.Moving.{HasPlayed}
-use Rattle.paris_parts.specs.Seeing.{IsInTime}
-use Rattle.paris_parts.proofs.players.Player.play.Given as goal
-
-abbrev pub invariant-loop-line : goal.invariant-loop-line
-invariant-loop-line g l =
-    HasPlayed l.fn.seat l.seat (map (λ line. line.items) (take l.line-index l.lines)) l.self l.text.items × (l.self.commands ≤ l.line-index) × IsInTime l.seat

@@ -1,0 +1,119 @@
+//! Closes a desk, and plays the last part of a script on the book that it leaves.
+
+ghost use Rattle.std.specs.Prelude.{◌≡◌, ◌<◌, ◌^◌, ℕ, ◌++◌, true, length, map, IfOk};
+ghost use mathlib.Core.List.{IsPrefix};
+ghost use Rattle.paris_records.specs.Agreement.{Agree, list_of};
+ghost use Rattle.paris_desk.specs.Closing.{by_number, past_of};
+ghost use Rattle.paris_records.specs.History.{state_of};
+ghost use Rattle.paris_records.specs.Receipts.{receipts_in};
+ghost use Rattle.paris_parts.specs.Run.{Concludes};
+ghost use Rattle.paris_parts.specs.Texts.{closed_text, edits_in};
+
+use crate::outcome::Ended;
+use crate::texts::{closed_text, edits_in};
+use paris_audit::audit;
+use paris_book::Book;
+use paris_cuts::{Part, Transcript, play_last};
+use paris_desk::{Cause, CloseFault, Closed, Desk, Entry, Office, Receipt, Seat, close};
+use paris_names::Fault;
+use paris_session::{Settler, Summary};
+use std::alloc::{AllocError, Global};
+use std::sync::Wait;
+
+/// The fault that ends a run whose desk is not closed.
+fn fault_of(cause: Cause) -> Fault {
+    match cause {
+        Cause::Ahead(_, _) | Cause::Missing(_) => Fault::NoEntry,
+        Cause::NoMemory => Fault::NoMemory,
+    }
+}
+
+/// Closes a desk, or ends it where that is refused.
+fn closed<L: Office, R: Wait>(rt: &R, desk: Desk<L>, seats: Vec<Seat<L>>) -> Result<Closed, Fault>
+    ensures state { IfOk result (λ closed. closed.book ≡ state_of closed.history.items) }
+    ensures agree { IfOk result (λ closed. Agree closed.history.items (map (λ r. r.items) closed.receipts.items)) }
+    ensures receipts { IfOk result (λ closed. map (λ r. r.items) closed.receipts.items ≡ by_number L.seats seats.items) }
+    ensures begins { IfOk result (λ closed. (n : ℕ) → n < L.seats → IsPrefix (past_of n seats.items) closed.history.items) }
+    ensures each { IfOk result (λ closed. (n : ℕ) → list_of (map (λ r. r.items) closed.receipts.items) n ≡ receipts_in n 0 closed.history.items) }
+{
+    match close(rt, desk, seats) {
+        Ok(closed) => Ok(closed),
+        Err(fault) => {
+            let CloseFault {
+                desk,
+                seats: _seats,
+                cause,
+            } = fault;
+            desk.discard(rt);
+            Err(fault_of(cause))
+        }
+    }
+}
+
+/// What is written of a history that is closed, once it is audited.
+fn audited_text(
+    alloc: Global,
+    history: &[Entry],
+    receipts: &[Vec<Receipt>],
+) -> Result<Vec<u8>, AllocError>
+    requires { Agree history.now (map (λ r. r.items) receipts.now) }
+    ensures { IfOk result (λ text. text.items ≡ closed_text (edits_in history.now) true) }
+{
+    let agree = audit(alloc, history, receipts)?;
+    closed_text(alloc, edits_in(history), agree)
+}
+
+/// The book of a closed desk, and what is written of its history.
+fn audited(alloc: Global, closed: Closed) -> Result<(Book, Vec<u8>), AllocError>
+    requires { Agree closed.history.items (map (λ r. r.items) closed.receipts.items) }
+    ensures book { IfOk result (λ p. p.0 ≡ closed.book) }
+    ensures text { IfOk result (λ p. p.1.items ≡ closed_text (edits_in closed.history.items) true) }
+{
+    let Closed {
+        book,
+        history,
+        receipts,
+    } = closed;
+    let text = audited_text(alloc, history.as_slice(), receipts.as_slice())?;
+    Ok((book, text))
+}
+
+/// A text with two more behind it.
+fn joined(text: Vec<u8>, next: &[u8], last: &[u8]) -> Result<Vec<u8>, AllocError>
+    ensures { IfOk result (λ all. all.items ≡ (text.items ++ next.now) ++ last.now) }
+{
+    let mut all = text;
+    all.extend_from_slice(next)?;
+    all.extend_from_slice(last)?;
+    Ok(all)
+}
+
+/// Closes the desk, audits what it leaves, and plays the last part on the book that it leaves. What is written is added to what the
+/// parts wrote.
+pub(crate) fn conclude<L: Office, R: Wait, S: Settler>(
+    rt: &R,
+    settler: &S,
+    alloc: Global,
+    desk: Desk<L>,
+    ended: Ended<L>,
+    last: &Part,
+) -> Result<Transcript, Fault>
+    requires settler { S.can_settle settler.now }
+    requires few { (length last.now < 2 ^ 62) × (ended.summary.commands < 2 ^ 62) × (ended.summary.refusals < 2 ^ 62) }
+    ensures { IfOk result (λ t. Concludes L.seats ended.seats.items last.now ended.text.items t.text.items ended.summary t.summary) }
+{
+    let Ended {
+        seats,
+        text,
+        summary,
+    } = ended;
+    let left = closed(rt, desk, seats)?;
+    let (book, closing) = audited(alloc, left)?;
+    let rest = play_last(settler, alloc, book, last)?;
+    let all = joined(text, closing.as_slice(), rest.text.as_slice())?;
+    let summary = Summary {
+        commands: summary.commands + rest.summary.commands,
+        refusals: summary.refusals + rest.summary.refusals,
+    };
+    Ok(Transcript { text: all, summary })
+}
