@@ -42,7 +42,7 @@ fn entries(folder: &Path) -> io::Result<Vec<PathBuf>> {
 /// The scripts of the worked rows.
 fn scripts() -> io::Result<Vec<PathBuf>> {
     let mut scripts = Vec::new();
-    for folder in entries(&repository().join("rows"))? {
+    for folder in entries(&repository().join("checks/rows"))? {
         if folder.is_dir() {
             scripts.extend(entries(&folder)?);
         }
