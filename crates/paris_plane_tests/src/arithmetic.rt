@@ -3,7 +3,7 @@
 ghost use Rattle.std.specs.Prelude.{◌≡◌, ◌<◌, ◌≤◌, ℕ, List, length};
 ghost use Rattle.paris_model.specs.Fits.{IsFit};
 
-use crate::beside::{self, Made, agrees, alone, destination, flag, seen_by_all, with};
+use crate::beside::{self, Made, agrees, alone, destination, flag, seen_by_all, with, with_carry};
 use crate::cases::{Sample, plane};
 use paris_alu::{
     BitOperator, Extremum, Overflowing, Sum, add, add_carry, compare, copy_low, extend, extreme,
@@ -118,26 +118,29 @@ fn operands_of(alloc: Global, sample: &Sample) -> Result<Operands, AllocError> {
 }
 
 /// A value for the destination.
-fn stored(alloc: Global, value: FieldValue) -> Result<Made, AllocError> {
-    alone(alloc, destination(), value)
+fn stored(alloc: Global, value: Result<FieldValue, AllocError>) -> Result<Made, AllocError> {
+    alone(alloc, destination(), value?)
 }
 
-fn sum_made(alloc: Global, sum: Sum) -> Result<Made, AllocError> {
-    let carry = FieldValue::from_plane(alloc, sum.carry)?;
+fn sum_made(alloc: Global, sum: Result<Sum, AllocError>) -> Result<Made, AllocError> {
+    let sum = sum?;
     let overflow = FieldValue::from_plane(alloc, sum.overflow)?;
-    let made = stored(alloc, sum.value)?;
-    let made = with(made, flag(FlagName::Carry), carry)?;
+    let made = with_carry(alloc, sum.value, sum.carry)?;
     with(made, flag(FlagName::Overflow), overflow)
 }
 
-fn overflowing_made(alloc: Global, checked: Overflowing) -> Result<Made, AllocError> {
+fn overflowing_made(
+    alloc: Global,
+    checked: Result<Overflowing, AllocError>,
+) -> Result<Made, AllocError> {
+    let checked = checked?;
     let overflow = FieldValue::from_plane(alloc, checked.overflow)?;
-    let made = stored(alloc, checked.value)?;
+    let made = alone(alloc, destination(), checked.value)?;
     with(made, flag(FlagName::Overflow), overflow)
 }
 
-fn test_made(alloc: Global, test: Plane) -> Result<Made, AllocError> {
-    let value = FieldValue::from_plane(alloc, test)?;
+fn test_made(alloc: Global, test: Result<Plane, AllocError>) -> Result<Made, AllocError> {
+    let value = FieldValue::from_plane(alloc, test?)?;
     alone(alloc, flag(FlagName::Test), value)
 }
 
@@ -150,24 +153,21 @@ impl Operation {
         let x = &operands.left;
         let y = &operands.right;
         match self {
-            Operation::Add(sign) => sum_made(alloc, add(alloc, sign, x, y, length)?),
-            Operation::AddCarry => {
-                sum_made(alloc, add_carry(alloc, x, y, &operands.carry, length)?)
-            }
-            Operation::Subtract(sign) => sum_made(alloc, subtract(alloc, sign, x, y, length)?),
-            Operation::Logic(operator) => stored(alloc, logic(alloc, operator, x, y, length)?),
+            Operation::Add(sign) => sum_made(alloc, add(alloc, sign, x, y, length)),
+            Operation::AddCarry => sum_made(alloc, add_carry(alloc, x, y, &operands.carry, length)),
+            Operation::Subtract(sign) => sum_made(alloc, subtract(alloc, sign, x, y, length)),
+            Operation::Logic(operator) => stored(alloc, logic(alloc, operator, x, y, length)),
             Operation::Extreme(which, sign) => {
-                stored(alloc, extreme(alloc, which, sign, x, y, length)?)
+                stored(alloc, extreme(alloc, which, sign, x, y, length))
             }
             Operation::Compare(comparison) => {
-                test_made(alloc, compare(alloc, comparison, x, y, length)?)
+                test_made(alloc, compare(alloc, comparison, x, y, length))
             }
-            Operation::Negate => overflowing_made(alloc, negate(alloc, x, length)?),
-            Operation::Invert => stored(alloc, invert(alloc, x, length)?),
-            Operation::CopyLow => stored(alloc, copy_low(alloc, x, length)?),
+            Operation::Negate => overflowing_made(alloc, negate(alloc, x, length)),
+            Operation::Invert => stored(alloc, invert(alloc, x, length)),
+            Operation::CopyLow => stored(alloc, copy_low(alloc, x, length)),
             Operation::Extend(sign, extent) => {
-                let extended = extend(alloc, sign, x, length, extent.length())?;
-                overflowing_made(alloc, extended)
+                overflowing_made(alloc, extend(alloc, sign, x, length, extent.length()))
             }
         }
     }
@@ -259,10 +259,30 @@ fn run_short(
 }
 
 /// Runs each operation on whole numbers, and on the low half of their bits.
+fn run_lengths(
+    rt: &impl Abort,
+    alloc: Global,
+    operands: &Operands,
+    seen: &Inputs,
+) -> Result<(), Fail> {
+    let width = operands.width;
+    run_short(rt, alloc, operands, seen, width)?;
+    run_short(rt, alloc, operands, seen, width - width / 2)
+}
+
+/// Runs each operation on the operands of a sample.
+fn run_operands(
+    rt: &impl Abort,
+    alloc: Global,
+    sample: &Sample,
+    operands: &Operands,
+) -> Result<(), Fail> {
+    let seen = seen_by_all(rt, alloc, sample)?;
+    run_lengths(rt, alloc, operands, &seen)
+}
+
+/// Runs each operation on a sample.
 pub(crate) fn run(rt: &impl Abort, alloc: Global, sample: &Sample) -> Result<(), Fail> {
     let operands = operands_of(alloc, sample)?;
-    let seen = seen_by_all(rt, alloc, sample)?;
-    let width = operands.width;
-    run_short(rt, alloc, &operands, &seen, width)?;
-    run_short(rt, alloc, &operands, &seen, width - width / 2)
+    run_operands(rt, alloc, sample, &operands)
 }

@@ -9,6 +9,7 @@ use paris_geometry::Geometry;
 use paris_model::{Action, BinaryOperator, Comparison, Conditional, Operand, Sign, UnaryOperator};
 use paris_names::{FieldNo, FlagName, Items, Key, SetNo};
 use paris_plain::{Inputs, flags_are_bits, outcome};
+use paris_plane::Plane;
 use std::alloc::{AllocError, Global};
 use std::fmt::Debug;
 use std::process::Abort;
@@ -116,6 +117,20 @@ pub(crate) fn compare(comparison: Comparison, length: u64) -> Action<Operand, Se
     })
 }
 
+/// The keys of parts.
+fn keys_in(alloc: Global, parts: &[(Key, &[u128])]) -> Result<Vec<Key>, AllocError> {
+    parts.iter().map(|part| part.0).collect(alloc)
+}
+
+/// The numbers of parts.
+fn lists_in(alloc: Global, parts: &[(Key, &[u128])]) -> Result<Vec<Items<u128>>, AllocError> {
+    let mut lists = Vec::new(alloc);
+    for (_key, numbers) in parts {
+        lists.push(Items::new(Vec::from_slice(alloc, *numbers)?))?;
+    }
+    Ok(lists)
+}
+
 /// What an instruction sees in a set of `count` processors in a line: these keys with these numbers.
 fn inputs(
     rt: &impl Abort,
@@ -124,12 +139,8 @@ fn inputs(
     parts: &[(Key, &[u128])],
 ) -> Result<Inputs, Fail> {
     let geometry = Geometry::new(&[count as u64])?;
-    let mut keys = Vec::new(alloc);
-    let mut values = Vec::new(alloc);
-    for (key, numbers) in parts {
-        keys.push(*key)?;
-        values.push(Items::new(Vec::from_slice(alloc, *numbers)?))?;
-    }
+    let keys = keys_in(alloc, parts)?;
+    let values = lists_in(alloc, parts)?;
     assert!(rt; flags_are_bits(keys.as_slice(), values.as_slice()));
     Ok(Inputs::new(SetNo::new(0), geometry, keys, values))
 }
@@ -151,6 +162,16 @@ pub(crate) fn seen<'a>(
         (flag(FlagName::Carry), sample.carry.as_slice()),
     ];
     inputs(rt, alloc, sample.count, &parts)
+}
+
+/// What an instruction sees of a sample where the processors of its context are selected.
+pub(crate) fn seen_by_selected(
+    rt: &impl Abort,
+    alloc: Global,
+    sample: &Sample,
+) -> Result<Inputs, Fail> {
+    let old = sample.old.as_slice();
+    seen(rt, alloc, sample, old, sample.context.as_slice())
 }
 
 /// What an instruction sees of a sample where all processors are selected and zeros stand at the destination.
@@ -183,19 +204,83 @@ fn keys_of(alloc: Global, made: &[(Key, FieldValue)]) -> Result<Vec<Key>, AllocE
     Ok(keys)
 }
 
-/// Stops where a value's numbers are not these.
-pub(crate) fn holds(
-    rt: &impl Abort,
-    case: &impl Debug,
-    value: &FieldValue,
-    expected: &[u128],
-) -> Result<(), AllocError> {
+/// What was made for the destination and the carry.
+pub(crate) fn with_carry(
+    alloc: Global,
+    value: FieldValue,
+    carry: Plane,
+) -> Result<Made, AllocError> {
+    let carry = FieldValue::from_plane(alloc, carry)?;
+    let made = alone(alloc, destination(), value)?;
+    with(made, flag(FlagName::Carry), carry)
+}
+
+/// Whether a value's numbers are these.
+pub(crate) fn holds(value: &FieldValue, expected: &[u128]) -> Result<bool, AllocError> {
     let numbers = value.numbers()?;
-    assert_eq!(rt; numbers.len(), expected.len(), "{case:?}, processors");
-    for (v, number) in numbers.iter().enumerate() {
-        assert_eq!(rt; Some(number), expected.get(v), "{case:?}, processor {v}");
+    Ok(numbers.as_slice() == expected)
+}
+
+/// Whether a plane's bits are these, as the numbers of a value.
+pub(crate) fn plane_holds(
+    alloc: Global,
+    plane: Plane,
+    expected: &[u128],
+) -> Result<bool, AllocError> {
+    let value = FieldValue::from_plane(alloc, plane)?;
+    holds(&value, expected)
+}
+
+/// Whether a value's numbers are these, read one by one.
+pub(crate) fn has_numbers(value: &FieldValue, expected: &[u128]) -> bool {
+    if value.len() != expected.len() {
+        return false;
     }
-    Ok(())
+    for v in 0..expected.len() {
+        if value.get(v) != expected[v] {
+            return false;
+        }
+    }
+    true
+}
+
+/// Whether a plane's bits are these, read one by one.
+pub(crate) fn has_bits(plane: &Plane, expected: &[u128]) -> bool {
+    if plane.len() != expected.len() {
+        return false;
+    }
+    for v in 0..expected.len() {
+        if u128::from(plane.get(v)) != expected[v] {
+            return false;
+        }
+    }
+    true
+}
+
+/// Whether values' numbers are these, key by key.
+fn hold(made: &[(Key, FieldValue)], left: &[Items<u128>]) -> Result<bool, AllocError> {
+    for ((_, value), expected) in made.iter().zip(left) {
+        if !holds(value, expected.as_slice())? {
+            return Ok(false);
+        }
+    }
+    Ok(made.len() == left.len())
+}
+
+/// Whether what was made is what an action leaves.
+fn is_left(
+    alloc: Global,
+    inputs: &Inputs,
+    action: &Action<Operand, SetNo>,
+    made: &[(Key, FieldValue)],
+) -> Result<bool, AllocError>
+    requires { (axes : List ℕ) → IsFit axes action.now }
+{
+    let keys = keys_of(alloc, made)?;
+    match outcome(alloc, inputs, action, keys.as_slice())? {
+        Ok(left) => hold(made, left.as_slice()),
+        Err(_refusal) => Ok(false),
+    }
 }
 
 /// Stops where what was made is not what an action leaves.
@@ -209,13 +294,7 @@ pub(crate) fn agrees(
 ) -> Result<(), Fail>
     requires { (axes : List ℕ) → IsFit axes action.now }
 {
-    let keys = keys_of(alloc, made)?;
-    let Ok(left) = outcome(alloc, inputs, action, keys.as_slice())? else {
-        panic!(rt; "{case:?} is refused");
-    };
-    assert_eq!(rt; left.len(), made.len(), "{case:?}, keys");
-    for ((key, value), expected) in made.iter().zip(left.as_slice()) {
-        holds(rt, &(case, key), value, expected.as_slice())?;
-    }
+    let is_left = is_left(alloc, inputs, action, made)?;
+    assert!(rt; is_left, "{case:?}");
     Ok(())
 }

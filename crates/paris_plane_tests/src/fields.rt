@@ -3,12 +3,13 @@
 ghost use Rattle.std.specs.Prelude.{◌≡◌, ◌<◌, ◌≤◌, IfOk, length};
 
 use crate::beside::{
-    agrees, alone, binary, destination, flag, holds, seen, seen_by_all, unary, with,
+    Made, agrees, alone, binary, destination, has_bits, has_numbers, holds, plane_holds, seen,
+    seen_by_all, seen_by_selected, unary, with_carry,
 };
 use crate::cases::{Sample, everywhere, plane};
 use paris_field::{FieldValue, add_planes, copy_planes, merge_planes, transpose64, zero_planes};
 use paris_model::{BinaryOperator, UnaryOperator};
-use paris_names::FlagName;
+use paris_plain::Inputs;
 use paris_plane::Plane;
 use std::alloc::{AllocError, Global};
 use std::process::Abort;
@@ -26,6 +27,7 @@ enum Call {
     Low,
     Planes,
     Plane(u64),
+    Mask,
     MergeIn,
     MergePlanes,
     WithNumbers,
@@ -41,7 +43,9 @@ struct Case {
     length: u64,
 }
 
-fn case_of(call: Call, sample: &Sample) -> Case {
+fn case_of(call: Call, sample: &Sample) -> Case
+    ensures { result.length ≡ sample.now.width }
+{
     Case {
         call,
         count: sample.count,
@@ -50,7 +54,9 @@ fn case_of(call: Call, sample: &Sample) -> Case {
     }
 }
 
-fn short_case(call: Call, sample: &Sample, length: u64) -> Case {
+fn short_case(call: Call, sample: &Sample, length: u64) -> Case
+    ensures { result.length ≡ length }
+{
     Case {
         call,
         count: sample.count,
@@ -80,80 +86,103 @@ fn old(alloc: Global, sample: &Sample) -> Result<FieldValue, AllocError>
     FieldValue::from_numbers(alloc, sample.width, sample.old.as_slice())
 }
 
+/// Stops where a call fails.
+fn check(rt: &impl Abort, call: Call, sample: &Sample, holds: bool) {
+    assert!(rt; holds, "{:?}", case_of(call, sample));
+}
+
+/// Stops where a value isn't of a width, or isn't what a move leaves at the destination.
+fn moves(
+    rt: &impl Abort,
+    alloc: Global,
+    case: &Case,
+    seen: &Inputs,
+    value: FieldValue,
+    width: u64,
+) -> Result<(), Fail>
+    requires positive { 0 < case.now.length }
+    requires narrow { case.now.length ≤ 64 }
+{
+    let is_wide = value.width() == width;
+    let made = alone(alloc, destination(), value)?;
+    assert!(rt; is_wide, "{case:?}, width");
+    let action = unary(UnaryOperator::Move, case.length);
+    agrees(rt, alloc, case, seen, &action, made.as_slice())
+}
+
+/// Whether a value has the numbers of the left, one by one and together.
+fn is_left(sample: &Sample, value: &FieldValue) -> Result<bool, AllocError> {
+    let numbers = sample.left.as_slice();
+    if value.width() != sample.width || !has_numbers(value, numbers) {
+        return Ok(false);
+    }
+    holds(value, numbers)
+}
+
 /// Numbers are read back, one by one and together, and from a copy.
 fn reads_back(rt: &impl Abort, alloc: Global, sample: &Sample) -> Result<(), Fail> {
     let value = left(alloc, sample)?;
-    let numbers = sample.left.as_slice();
-    assert_eq!(rt; value.width(), sample.width);
-    assert_eq!(rt; value.len(), sample.count);
-    holds(rt, &case_of(Call::FromNumbers, sample), &value, numbers)?;
-    for v in 0..value.len() {
-        let number = Some(value.get(v));
-        assert_eq!(rt;
-            number,
-            numbers.get(v).copied(),
-            "{:?}, get {v}",
-            case_of(Call::FromNumbers, sample)
-        );
-    }
-    holds(rt, &case_of(Call::Copy, sample), &value.copy()?, numbers)?;
+    check(rt, Call::FromNumbers, sample, is_left(sample, &value)?);
+    let copy = value.copy()?;
+    check(rt, Call::Copy, sample, is_left(sample, &copy)?);
     Ok(())
+}
+
+/// Whether a value has the width of a sample, and a zero in every processor.
+fn is_zero(alloc: Global, sample: &Sample, value: &FieldValue) -> Result<bool, AllocError> {
+    let expected = everywhere(alloc, 0, sample.count)?;
+    Ok(value.width() == sample.width && holds(value, expected.as_slice())?)
+}
+
+/// The value of planes of zeros.
+fn zero_value(alloc: Global, sample: &Sample) -> Result<FieldValue, AllocError> {
+    let planes = zero_planes(alloc, sample.width as usize, sample.count)?;
+    Ok(FieldValue::from_planes(planes, sample.count))
 }
 
 /// Zeros are zeros in every processor.
 fn makes_zeros(rt: &impl Abort, alloc: Global, sample: &Sample) -> Result<(), Fail> {
-    let expected = everywhere(alloc, 0, sample.count)?;
     let zeros = FieldValue::zeros(alloc, sample.width, sample.count)?;
-    assert_eq!(rt; zeros.width(), sample.width);
-    holds(
+    check(rt, Call::Zeros, sample, is_zero(alloc, sample, &zeros)?);
+    let planes = zero_value(alloc, sample)?;
+    check(
         rt,
-        &case_of(Call::Zeros, sample),
-        &zeros,
-        expected.as_slice(),
-    )?;
-    let planes = zero_planes(alloc, sample.width as usize, sample.count)?;
-    let zeros = FieldValue::from_planes(planes, sample.count);
-    assert_eq!(rt; zeros.width(), sample.width);
-    holds(
-        rt,
-        &case_of(Call::ZeroPlanes, sample),
-        &zeros,
-        expected.as_slice(),
-    )?;
+        Call::ZeroPlanes,
+        sample,
+        is_zero(alloc, sample, &planes)?,
+    );
     Ok(())
 }
 
-/// The planes of the low bits hold what a move of them leaves where zeros stood.
-fn lends_planes(rt: &impl Abort, alloc: Global, sample: &Sample, length: u64) -> Result<(), Fail>
-    requires positive { 0 < length }
+/// The low bits of the left numbers, by their planes.
+fn low(alloc: Global, sample: &Sample, length: u64) -> Result<FieldValue, AllocError>
     requires within { length ≤ sample.now.width }
 {
-    let seen = seen_by_all(rt, alloc, sample)?;
     let value = left(alloc, sample)?;
-    let low = FieldValue::from_planes(copy_planes(alloc, value.low(length))?, sample.count);
-    assert_eq!(rt; low.width(), length);
-    let action = unary(UnaryOperator::Move, length);
-    let made = alone(alloc, destination(), low)?;
-    agrees(
-        rt,
-        alloc,
-        &short_case(Call::Low, sample, length),
-        &seen,
-        &action,
-        made.as_slice(),
-    )?;
+    let planes = copy_planes(alloc, value.low(length))?;
+    Ok(FieldValue::from_planes(planes, sample.count))
+}
+
+/// The left numbers, by their planes.
+fn whole(alloc: Global, sample: &Sample) -> Result<FieldValue, AllocError> {
+    let value = left(alloc, sample)?;
     let planes = copy_planes(alloc, value.planes())?;
-    let whole = FieldValue::from_planes(planes, sample.count);
-    let made = alone(alloc, destination(), whole)?;
-    let action = unary(UnaryOperator::Move, sample.width);
-    agrees(
-        rt,
-        alloc,
-        &case_of(Call::Planes, sample),
-        &seen,
-        &action,
-        made.as_slice(),
-    )
+    Ok(FieldValue::from_planes(planes, sample.count))
+}
+
+/// The planes of the low bits hold what a move of them leaves where zeros stood.
+fn lends_planes(
+    rt: &impl Abort,
+    alloc: Global,
+    sample: &Sample,
+    seen: &Inputs,
+) -> Result<(), Fail> {
+    let width = sample.width;
+    let length = width - width / 2;
+    let case = short_case(Call::Low, sample, length);
+    moves(rt, alloc, &case, seen, low(alloc, sample, length)?, length)?;
+    let case = case_of(Call::Planes, sample);
+    moves(rt, alloc, &case, seen, whole(alloc, sample)?, width)
 }
 
 /// Bit `k` of each number.
@@ -163,18 +192,30 @@ fn bits(alloc: Global, numbers: &[u128], k: u64) -> Result<Vec<u128>, AllocError
     numbers.iter().map(|n| (*n >> k) % 2).collect(alloc)
 }
 
+/// Whether plane `k` of a value holds bit `k` of the left numbers.
+fn lends_plane(
+    alloc: Global,
+    sample: &Sample,
+    value: &FieldValue,
+    k: u64,
+) -> Result<bool, AllocError>
+    requires short { k < 64 }
+    requires within { k < value.now.width }
+{
+    let expected = bits(alloc, sample.left.as_slice(), k)?;
+    plane_holds(alloc, value.plane(k).copy()?, expected.as_slice())
+}
+
 /// Each plane holds a bit of the numbers.
 fn lends_each_plane(rt: &impl Abort, alloc: Global, sample: &Sample) -> Result<(), Fail> {
     let value = left(alloc, sample)?;
     for k in 0..sample.width {
-        let expected = bits(alloc, sample.left.as_slice(), k)?;
-        let plane = FieldValue::from_plane(alloc, value.plane(k).copy()?)?;
-        holds(
+        check(
             rt,
-            &case_of(Call::Plane(k), sample),
-            &plane,
-            expected.as_slice(),
-        )?;
+            Call::Plane(k),
+            sample,
+            lends_plane(alloc, sample, &value, k)?,
+        );
     }
     Ok(())
 }
@@ -183,17 +224,8 @@ fn lends_each_plane(rt: &impl Abort, alloc: Global, sample: &Sample) -> Result<(
 fn is_mask(rt: &impl Abort, alloc: Global, sample: &Sample) -> Result<(), Fail> {
     let bits = sample.context.as_slice();
     let value = FieldValue::from_plane(alloc, plane(alloc, bits)?)?;
-    holds(rt, &case_of(Call::FromPlane, sample), &value, bits)?;
-    let mask = value.mask();
-    for v in 0..mask.len() {
-        let bit = u128::from(mask.get(v));
-        assert_eq!(rt;
-            Some(bit),
-            bits.get(v).copied(),
-            "mask of {} processors at {v}",
-            sample.count
-        );
-    }
+    check(rt, Call::Mask, sample, has_bits(value.mask(), bits));
+    check(rt, Call::FromPlane, sample, holds(&value, bits)?);
     Ok(())
 }
 
@@ -216,32 +248,44 @@ fn merged(
     Ok(FieldValue::from_planes(planes, mask.len()))
 }
 
-/// A merge is a move in the processors of the mask.
-fn merges(rt: &impl Abort, alloc: Global, sample: &Sample, length: u64) -> Result<(), Fail>
-    requires positive { 0 < length }
+/// The old numbers with the low bits of the left in the processors of the context, merged in place.
+fn merged_in(alloc: Global, sample: &Sample, length: u64) -> Result<FieldValue, AllocError>
     requires within { length ≤ sample.now.width }
 {
-    let seen = seen(
-        rt,
-        alloc,
-        sample,
-        sample.old.as_slice(),
-        sample.context.as_slice(),
-    )?;
-    let action = unary(UnaryOperator::Move, length);
     let mask = plane(alloc, sample.context.as_slice())?;
     let other = left(alloc, sample)?;
     let mut value = old(alloc, sample)?;
     value.merge_in(&mask, other.planes(), length);
-    assert_eq!(rt; value.width(), sample.width);
-    let made = alone(alloc, destination(), value)?;
-    let case = short_case(Call::MergeIn, sample, length);
-    agrees(rt, alloc, &case, &seen, &action, made.as_slice())?;
+    Ok(value)
+}
+
+/// The same, by planes.
+fn merged_planes(alloc: Global, sample: &Sample, length: u64) -> Result<FieldValue, AllocError>
+    requires within { length ≤ sample.now.width }
+{
+    let mask = plane(alloc, sample.context.as_slice())?;
+    let other = left(alloc, sample)?;
     let value = old(alloc, sample)?;
-    let merged = merged(alloc, &value, &mask, &other, length)?;
-    let made = alone(alloc, destination(), merged)?;
+    merged(alloc, &value, &mask, &other, length)
+}
+
+/// A merge is a move in the processors of the mask.
+fn merges(
+    rt: &impl Abort,
+    alloc: Global,
+    sample: &Sample,
+    seen: &Inputs,
+    length: u64,
+) -> Result<(), Fail>
+    requires positive { 0 < length }
+    requires within { length ≤ sample.now.width }
+{
+    let value = merged_in(alloc, sample, length)?;
+    let case = short_case(Call::MergeIn, sample, length);
+    moves(rt, alloc, &case, seen, value, sample.width)?;
+    let value = merged_planes(alloc, sample, length)?;
     let case = short_case(Call::MergePlanes, sample, length);
-    agrees(rt, alloc, &case, &seen, &action, made.as_slice())
+    moves(rt, alloc, &case, seen, value, sample.width)
 }
 
 /// 1 in the processors from one to another, and 0 in the others.
@@ -249,6 +293,55 @@ fn range(alloc: Global, from: usize, to: usize, count: usize) -> Result<Vec<u128
     (0..count)
         .map(|v| u128::from(from <= v && v < to))
         .collect(alloc)
+}
+
+/// What an instruction sees where the processors from one to another are selected.
+fn seen_by_range(
+    rt: &impl Abort,
+    alloc: Global,
+    sample: &Sample,
+    from: usize,
+    to: usize,
+) -> Result<Inputs, Fail> {
+    let selected = range(alloc, from, to, sample.count)?;
+    seen(
+        rt,
+        alloc,
+        sample,
+        sample.old.as_slice(),
+        selected.as_slice(),
+    )
+}
+
+/// The old numbers with those of the left from one processor to another.
+fn renumbered(
+    alloc: Global,
+    sample: &Sample,
+    from: usize,
+    to: usize,
+) -> Result<FieldValue, AllocError>
+    requires order { from ≤ to }
+    requires within { to ≤ sample.now.count }
+{
+    let value = old(alloc, sample)?;
+    value.with_numbers(from, &sample.left[from..to])
+}
+
+/// Numbers in place of as many are what a move leaves.
+fn renumbers(
+    rt: &impl Abort,
+    alloc: Global,
+    sample: &Sample,
+    seen: &Inputs,
+    from: usize,
+    to: usize,
+) -> Result<(), Fail>
+    requires order { from ≤ to }
+    requires within { to ≤ sample.now.count }
+{
+    let value = renumbered(alloc, sample, from, to)?;
+    let case = case_of(Call::WithNumbers, sample);
+    moves(rt, alloc, &case, seen, value, sample.width)
 }
 
 /// Numbers in place of as many are a move in their processors.
@@ -262,26 +355,8 @@ fn takes_numbers(
     requires order { from ≤ to }
     requires within { to ≤ sample.now.count }
 {
-    let selected = range(alloc, from, to, sample.count)?;
-    let seen = seen(
-        rt,
-        alloc,
-        sample,
-        sample.old.as_slice(),
-        selected.as_slice(),
-    )?;
-    let action = unary(UnaryOperator::Move, sample.width);
-    let value = old(alloc, sample)?.with_numbers(from, &sample.left[from..to])?;
-    assert_eq!(rt; value.width(), sample.width);
-    let made = alone(alloc, destination(), value)?;
-    agrees(
-        rt,
-        alloc,
-        &case_of(Call::WithNumbers, sample),
-        &seen,
-        &action,
-        made.as_slice(),
-    )
+    let seen = seen_by_range(rt, alloc, sample, from, to)?;
+    renumbers(rt, alloc, sample, &seen, from, to)
 }
 
 /// The sums of two values and carried bits. Leaves in `carry` what they carry.
@@ -302,73 +377,79 @@ fn summed(
     Ok(FieldValue::from_planes(planes, count))
 }
 
-/// A sum of planes is the sum of the instruction that takes the carry.
-fn adds(rt: &impl Abort, alloc: Global, sample: &Sample) -> Result<(), Fail> {
-    let seen = seen_by_all(rt, alloc, sample)?;
-    let action = binary(BinaryOperator::UnsignedAddCarry, sample.width);
+/// The sums of the left and the right numbers and carried bits.
+fn sum_of(alloc: Global, sample: &Sample, carry: &mut Plane) -> Result<FieldValue, AllocError>
+    requires { length carry.old ≡ sample.now.count }
+{
     let x = left(alloc, sample)?;
     let y = right(alloc, sample)?;
-    let mut carry = plane(alloc, sample.carry.as_slice())?;
-    let value = summed(alloc, &x, &y, &mut carry)?;
-    let made = alone(alloc, destination(), value)?;
-    let made = with(
-        made,
-        flag(FlagName::Carry),
-        FieldValue::from_plane(alloc, carry)?,
-    )?;
-    agrees(
-        rt,
-        alloc,
-        &case_of(Call::AddPlanes, sample),
-        &seen,
-        &action,
-        made.as_slice(),
-    )
+    summed(alloc, &x, &y, carry)
 }
 
-/// A value equals one with another number in a processor where that number is the same.
-fn tells_number(
-    rt: &impl Abort,
-    sample: &Sample,
-    value: &FieldValue,
-    v: usize,
-) -> Result<(), AllocError>
+/// What a sum of planes makes of a sample.
+fn sum_made(alloc: Global, sample: &Sample) -> Result<Made, AllocError> {
+    let mut carry = plane(alloc, sample.carry.as_slice())?;
+    let value = sum_of(alloc, sample, &mut carry)?;
+    with_carry(alloc, value, carry)
+}
+
+/// A sum of planes is the sum of the instruction that takes the carry.
+fn adds(rt: &impl Abort, alloc: Global, sample: &Sample, seen: &Inputs) -> Result<(), Fail> {
+    let made = sum_made(alloc, sample)?;
+    let action = binary(BinaryOperator::UnsignedAddCarry, sample.width);
+    let case = case_of(Call::AddPlanes, sample);
+    agrees(rt, alloc, &case, seen, &action, made.as_slice())
+}
+
+/// Whether a value equals one with another number in a processor just where that number is the same, either way.
+fn tells_number(sample: &Sample, value: &FieldValue, v: usize) -> Result<bool, AllocError>
     requires within { v < sample.now.count }
     requires width { value.now.width ≡ sample.now.width }
     requires count { length value.now.numbers ≡ sample.now.count }
 {
     let other = value.with_numbers(v, &sample.old[v..v + 1])?;
     let same = sample.left[v] == sample.old[v];
-    let case = case_of(Call::Equals, sample);
-    assert_eq!(rt; value.equals(&other), same, "{case:?}, changed at {v}");
-    assert_eq!(rt; other.equals(value), same, "{case:?}, changed at {v}");
-    Ok(())
+    Ok(value.equals(&other) == same && other.equals(value) == same)
+}
+
+/// Whether a value equals no value with another number in one of some processors.
+fn tells_some(sample: &Sample, value: &FieldValue) -> Result<bool, AllocError>
+    requires width { value.now.width ≡ sample.now.width }
+    requires count { length value.now.numbers ≡ sample.now.count }
+{
+    for v in (0..sample.count).step_by(1 + sample.count / 64) {
+        if !tells_number(sample, value, v)? {
+            return Ok(false);
+        }
+    }
+    Ok(true)
+}
+
+/// Whether a value equals its copy.
+fn equals_copy(value: &FieldValue) -> Result<bool, AllocError> {
+    let copy = value.copy()?;
+    Ok(value.equals(&copy))
 }
 
 /// A value equals its copy, and no value with another number in one of some processors.
 fn tells_numbers(rt: &impl Abort, alloc: Global, sample: &Sample) -> Result<(), Fail> {
     let value = left(alloc, sample)?;
-    let case = case_of(Call::Equals, sample);
-    assert!(rt; value.equals(&value.copy()?), "{case:?}");
-    let stride = 1 + sample.count / 64;
-    for v in 0..sample.count {
-        if v % stride == 0 {
-            tells_number(rt, sample, &value, v)?;
-        }
-    }
+    check(rt, Call::Equals, sample, equals_copy(&value)?);
+    check(rt, Call::Equals, sample, tells_some(sample, &value)?);
     Ok(())
 }
 
-/// A value equals none of another width or number of processors.
-fn tells_sizes(rt: &impl Abort, alloc: Global, sample: &Sample) -> Result<(), Fail> {
-    let count = sample.count;
-    assert!(rt; count <= 65_536);
-    let zeros = FieldValue::zeros(alloc, sample.width, count)?;
-    let wider = FieldValue::zeros(alloc, sample.width + 1, count)?;
-    let longer = FieldValue::zeros(alloc, sample.width, count + 1)?;
-    assert!(rt; !zeros.equals(&wider) && !wider.equals(&zeros));
-    assert!(rt; !zeros.equals(&longer) && !longer.equals(&zeros));
-    Ok(())
+/// Whether two values aren't equal, either way.
+fn differ(x: &FieldValue, y: &FieldValue) -> bool {
+    !x.equals(y) && !y.equals(x)
+}
+
+/// Whether zeros equal none of another width or number of processors.
+fn tells_sizes(alloc: Global, sample: &Sample) -> Result<bool, AllocError> {
+    let zeros = FieldValue::zeros(alloc, sample.width, sample.count)?;
+    let wider = FieldValue::zeros(alloc, sample.width + 1, sample.count)?;
+    let longer = FieldValue::zeros(alloc, sample.width, sample.count.saturating_add(1))?;
+    Ok(differ(&zeros, &wider) && differ(&zeros, &longer))
 }
 
 /// The word of the bits at a place of all rows.
@@ -384,29 +465,65 @@ fn column(rows: &[u64; 64], place: usize) -> u64
     word
 }
 
+/// Whether rows are the columns of a square.
+fn are_columns(rows: &[u64; 64], square: &[u64; 64]) -> bool {
+    for i in 0..64usize {
+        if rows[i] != column(square, i) {
+            return false;
+        }
+    }
+    true
+}
+
 /// The rows of a square are its columns once it is turned.
 pub(crate) fn turns(rt: &impl Abort, square: &[u64; 64]) {
     let mut rows = *square;
     transpose64(&mut rows);
-    for i in 0..64usize {
-        assert_eq!(rt; rows[i], column(square, i), "row {i}");
-    }
+    assert!(rt; are_columns(&rows, square), "{square:?}");
+}
+
+/// Runs the calls that are instructions in all processors, beside what these see.
+fn run_all(rt: &impl Abort, alloc: Global, sample: &Sample, seen: &Inputs) -> Result<(), Fail> {
+    lends_planes(rt, alloc, sample, seen)?;
+    adds(rt, alloc, sample, seen)
+}
+
+/// Runs the calls that are instructions in all processors.
+fn run_on_all(rt: &impl Abort, alloc: Global, sample: &Sample) -> Result<(), Fail> {
+    let seen = seen_by_all(rt, alloc, sample)?;
+    run_all(rt, alloc, sample, &seen)
+}
+
+/// Runs the calls that are instructions in the selected processors, beside what these see.
+fn run_selected(
+    rt: &impl Abort,
+    alloc: Global,
+    sample: &Sample,
+    seen: &Inputs,
+) -> Result<(), Fail> {
+    let width = sample.width;
+    merges(rt, alloc, sample, seen, width)?;
+    merges(rt, alloc, sample, seen, width - width / 2)
+}
+
+/// Runs the calls that are instructions in the selected processors.
+fn run_on_selected(rt: &impl Abort, alloc: Global, sample: &Sample) -> Result<(), Fail> {
+    let seen = seen_by_selected(rt, alloc, sample)?;
+    run_selected(rt, alloc, sample, &seen)
 }
 
 /// Runs each call on a sample.
 pub(crate) fn run(rt: &impl Abort, alloc: Global, sample: &Sample) -> Result<(), Fail> {
-    let width = sample.width;
     let count = sample.count;
     reads_back(rt, alloc, sample)?;
     makes_zeros(rt, alloc, sample)?;
-    lends_planes(rt, alloc, sample, width - width / 2)?;
     lends_each_plane(rt, alloc, sample)?;
     is_mask(rt, alloc, sample)?;
-    merges(rt, alloc, sample, width)?;
-    merges(rt, alloc, sample, width - width / 2)?;
+    run_on_all(rt, alloc, sample)?;
+    run_on_selected(rt, alloc, sample)?;
     takes_numbers(rt, alloc, sample, 0, count)?;
     takes_numbers(rt, alloc, sample, count / 3, count - count / 3)?;
-    adds(rt, alloc, sample)?;
     tells_numbers(rt, alloc, sample)?;
-    tells_sizes(rt, alloc, sample)
+    check(rt, Call::Equals, sample, tells_sizes(alloc, sample)?);
+    Ok(())
 }

@@ -3,11 +3,15 @@
 ghost use Rattle.std.specs.Prelude.{◌≡◌, ◌<◌, ◌≤◌, ℕ, List, length};
 ghost use Rattle.paris_model.specs.Fits.{IsFit};
 
-use crate::beside::{self, agrees, alone, destination, flag, holds, seen, seen_by_all, with};
+use crate::beside::{
+    self, Made, agrees, alone, destination, has_bits, plane_holds, seen_by_all, seen_by_selected,
+    with_carry,
+};
 use crate::cases::{Sample, everywhere, plane, put_bits};
 use paris_field::FieldValue;
 use paris_model::{Action, BinaryOperator, Operand, UnaryOperator};
-use paris_names::{FlagName, SetNo};
+use paris_names::SetNo;
+use paris_plain::Inputs;
 use paris_plane::{And, Or, Plane, Select, Xor, add_step, subtract_step};
 use std::alloc::{AllocError, Global};
 use std::process::Abort;
@@ -50,6 +54,14 @@ impl Operation {
         }
     }
 
+    /// What the operation makes of a sample.
+    fn made(self, alloc: Global, sample: &Sample) -> Result<Made, AllocError> {
+        let mut x = plane(alloc, sample.left.as_slice())?;
+        let y = plane(alloc, sample.right.as_slice())?;
+        self.run(&mut x, &y);
+        stored(alloc, x)
+    }
+
     /// The instruction that leaves the same.
     fn action(self) -> Action<Operand, SetNo>
         ensures { (axes : List ℕ) → IsFit axes result }
@@ -66,197 +78,225 @@ impl Operation {
 /// The other calls.
 #[derive(Clone, Copy, Debug)]
 enum Call {
-    SelectIn,
-    PutSelect,
     AddStep,
     SubtractStep,
+    Get,
+    Copy,
+    Set,
+    Equals,
+    Word,
+    SetWord,
+}
+
+/// How bits are chosen by a mask.
+#[derive(Clone, Copy, Debug)]
+enum Choice {
+    SelectIn,
+    PutSelect,
+}
+
+/// How a plane of one bit is made.
+#[derive(Clone, Copy, Debug)]
+enum Filling {
     Zeros,
     Ones,
     Clear,
     Fill,
-    Copy,
-    Set,
-    SetWord,
 }
 
-/// Stops where a plane's bits are not these.
-fn plane_holds(
-    rt: &impl Abort,
-    alloc: Global,
-    call: Call,
-    plane: Plane,
-    expected: &[u128],
-) -> Result<(), Fail> {
-    let case = (call, plane.len());
-    holds(rt, &case, &FieldValue::from_plane(alloc, plane)?, expected)?;
-    Ok(())
+/// Each with the bit that stands in every processor.
+const FILLINGS: &[(Filling, u128)] = &[
+    (Filling::Zeros, 0),
+    (Filling::Ones, 1),
+    (Filling::Clear, 0),
+    (Filling::Fill, 1),
+];
+
+/// Stops where a call fails.
+fn check(rt: &impl Abort, call: Call, sample: &Sample, holds: bool) {
+    assert!(rt; holds, "{call:?} of {} processors", sample.count);
+}
+
+/// What was made for the destination.
+fn stored(alloc: Global, plane: Plane) -> Result<Made, AllocError> {
+    let value = FieldValue::from_plane(alloc, plane)?;
+    alone(alloc, destination(), value)
 }
 
 /// Each operation leaves what its instruction leaves in a field of one bit.
-fn operates(rt: &impl Abort, alloc: Global, sample: &Sample) -> Result<(), Fail> {
-    let seen = seen_by_all(rt, alloc, sample)?;
-    let y = plane(alloc, sample.right.as_slice())?;
+fn operates(rt: &impl Abort, alloc: Global, sample: &Sample, seen: &Inputs) -> Result<(), Fail> {
     for operation in OPERATIONS {
-        let mut x = plane(alloc, sample.left.as_slice())?;
-        assert_eq!(rt; x.len(), y.len());
-        operation.run(&mut x, &y);
-        let made = alone(alloc, destination(), FieldValue::from_plane(alloc, x)?)?;
-        let action = operation.action();
-        agrees(
-            rt,
-            alloc,
-            &(*operation, sample.count),
-            &seen,
-            &action,
-            made.as_slice(),
-        )?;
+        let made = operation.made(alloc, sample)?;
+        let case = (*operation, sample.count);
+        agrees(rt, alloc, &case, seen, &operation.action(), made.as_slice())?;
     }
     Ok(())
 }
 
-/// A choice by a mask is a move in the processors of the mask.
-fn selects(rt: &impl Abort, alloc: Global, sample: &Sample) -> Result<(), Fail> {
-    let seen = seen(
-        rt,
-        alloc,
-        sample,
-        sample.old.as_slice(),
-        sample.context.as_slice(),
-    )?;
-    let action = beside::unary(UnaryOperator::Move, 1);
+/// A plane where the bits of another were chosen by a mask.
+fn chosen(alloc: Global, sample: &Sample, choice: Choice) -> Result<Plane, AllocError> {
     let mask = plane(alloc, sample.context.as_slice())?;
     let other = plane(alloc, sample.left.as_slice())?;
     let mut x = plane(alloc, sample.old.as_slice())?;
-    x.select_in(&mask, &other);
-    let made = alone(alloc, destination(), FieldValue::from_plane(alloc, x)?)?;
-    let case = (Call::SelectIn, sample.count);
-    agrees(rt, alloc, &case, &seen, &action, made.as_slice())?;
-    let mut x = plane(alloc, sample.old.as_slice())?;
-    x.put_triple::<Select>(&other, &mask);
-    let made = alone(alloc, destination(), FieldValue::from_plane(alloc, x)?)?;
-    let case = (Call::PutSelect, sample.count);
-    agrees(rt, alloc, &case, &seen, &action, made.as_slice())
+    match choice {
+        Choice::SelectIn => x.select_in(&mask, &other),
+        Choice::PutSelect => x.put_triple::<Select>(&other, &mask),
+    }
+    Ok(x)
 }
 
-/// A step of an addition is a sum of one bit with the carry.
-fn adds(rt: &impl Abort, alloc: Global, sample: &Sample) -> Result<(), Fail> {
-    let seen = seen_by_all(rt, alloc, sample)?;
-    let action = beside::binary(BinaryOperator::UnsignedAddCarry, 1);
+/// A choice by a mask is a move in the processors of the mask.
+fn selects(rt: &impl Abort, alloc: Global, sample: &Sample, seen: &Inputs) -> Result<(), Fail> {
+    let action = beside::unary(UnaryOperator::Move, 1);
+    for choice in [Choice::SelectIn, Choice::PutSelect] {
+        let made = stored(alloc, chosen(alloc, sample, choice)?)?;
+        let case = (choice, sample.count);
+        agrees(rt, alloc, &case, seen, &action, made.as_slice())?;
+    }
+    Ok(())
+}
+
+/// The sum of two planes, and the carry.
+fn added(alloc: Global, sample: &Sample) -> Result<(Plane, Plane), AllocError> {
     let x = plane(alloc, sample.left.as_slice())?;
     let y = plane(alloc, sample.right.as_slice())?;
     let mut carry = plane(alloc, sample.carry.as_slice())?;
     let mut sum = plane(alloc, sample.old.as_slice())?;
     add_step(&x, &y, &mut carry, &mut sum);
-    let made = alone(alloc, destination(), FieldValue::from_plane(alloc, sum)?)?;
-    let made = with(
-        made,
-        flag(FlagName::Carry),
-        FieldValue::from_plane(alloc, carry)?,
-    )?;
-    agrees(
-        rt,
-        alloc,
-        &(Call::AddStep, sample.count),
-        &seen,
-        &action,
-        made.as_slice(),
-    )
+    Ok((sum, carry))
 }
 
-/// A step of a subtraction from which nothing was borrowed is a difference of one bit.
-fn subtracts(rt: &impl Abort, alloc: Global, sample: &Sample) -> Result<(), Fail> {
-    let seen = seen_by_all(rt, alloc, sample)?;
-    let action = beside::binary(BinaryOperator::UnsignedSubtract, 1);
+/// A step of an addition is a sum of one bit with the carry.
+fn adds(rt: &impl Abort, alloc: Global, sample: &Sample, seen: &Inputs) -> Result<(), Fail> {
+    let (sum, carry) = added(alloc, sample)?;
+    let made = with_carry(alloc, FieldValue::from_plane(alloc, sum)?, carry)?;
+    let action = beside::binary(BinaryOperator::UnsignedAddCarry, 1);
+    let case = (Call::AddStep, sample.count);
+    agrees(rt, alloc, &case, seen, &action, made.as_slice())
+}
+
+/// The difference of two planes, and what is borrowed.
+fn subtracted(alloc: Global, sample: &Sample) -> Result<(Plane, Plane), AllocError> {
     let x = plane(alloc, sample.left.as_slice())?;
     let y = plane(alloc, sample.right.as_slice())?;
     let mut borrow = Plane::zeros(alloc, x.len())?;
     let mut difference = plane(alloc, sample.old.as_slice())?;
     subtract_step(&x, &y, &mut borrow, &mut difference);
-    let made = alone(
-        alloc,
-        destination(),
-        FieldValue::from_plane(alloc, difference)?,
-    )?;
-    let made = with(
-        made,
-        flag(FlagName::Carry),
-        FieldValue::from_plane(alloc, borrow)?,
-    )?;
-    agrees(
-        rt,
-        alloc,
-        &(Call::SubtractStep, sample.count),
-        &seen,
-        &action,
-        made.as_slice(),
-    )
+    Ok((difference, borrow))
+}
+
+/// A step of a subtraction from which nothing was borrowed is a difference of one bit.
+fn subtracts(rt: &impl Abort, alloc: Global, sample: &Sample, seen: &Inputs) -> Result<(), Fail> {
+    let (difference, borrow) = subtracted(alloc, sample)?;
+    let made = with_carry(alloc, FieldValue::from_plane(alloc, difference)?, borrow)?;
+    let action = beside::binary(BinaryOperator::UnsignedSubtract, 1);
+    let case = (Call::SubtractStep, sample.count);
+    agrees(rt, alloc, &case, seen, &action, made.as_slice())
+}
+
+/// Runs the calls that are instructions in all processors.
+fn run_on_all(rt: &impl Abort, alloc: Global, sample: &Sample, seen: &Inputs) -> Result<(), Fail> {
+    operates(rt, alloc, sample, seen)?;
+    adds(rt, alloc, sample, seen)?;
+    subtracts(rt, alloc, sample, seen)
+}
+
+/// A plane of one bit.
+fn filled(alloc: Global, sample: &Sample, filling: Filling) -> Result<Plane, AllocError> {
+    let mut x = plane(alloc, sample.left.as_slice())?;
+    match filling {
+        Filling::Zeros => return Plane::zeros(alloc, sample.count),
+        Filling::Ones => return Plane::ones(alloc, sample.count),
+        Filling::Clear => x.fill(false),
+        Filling::Fill => x.fill(true),
+    }
+    Ok(x)
 }
 
 /// Planes of one bit are that bit in every processor.
 fn fills(rt: &impl Abort, alloc: Global, sample: &Sample) -> Result<(), Fail> {
-    let count = sample.count;
-    let zeros = everywhere(alloc, 0, count)?;
-    let ones = everywhere(alloc, 1, count)?;
-    plane_holds(
-        rt,
-        alloc,
-        Call::Zeros,
-        Plane::zeros(alloc, count)?,
-        zeros.as_slice(),
-    )?;
-    plane_holds(
-        rt,
-        alloc,
-        Call::Ones,
-        Plane::ones(alloc, count)?,
-        ones.as_slice(),
-    )?;
-    let mut cleared = plane(alloc, sample.left.as_slice())?;
-    cleared.fill(false);
-    plane_holds(rt, alloc, Call::Clear, cleared, zeros.as_slice())?;
-    let mut filled = plane(alloc, sample.left.as_slice())?;
-    filled.fill(true);
-    plane_holds(rt, alloc, Call::Fill, filled, ones.as_slice())
+    for (filling, bit) in FILLINGS {
+        let expected = everywhere(alloc, *bit, sample.count)?;
+        let made = filled(alloc, sample, *filling)?;
+        let holds = plane_holds(alloc, made, expected.as_slice())?;
+        assert!(rt; holds, "{filling:?} of {} processors", sample.count);
+    }
+    Ok(())
+}
+
+/// Whether a copy of a plane of bits has these bits.
+fn is_copied(alloc: Global, bits: &[u128]) -> Result<bool, AllocError> {
+    let x = plane(alloc, bits)?;
+    plane_holds(alloc, x.copy()?, bits)
+}
+
+/// Whether a plane has the bits that were written over others.
+fn is_put(alloc: Global, sample: &Sample) -> Result<bool, AllocError> {
+    let mut x = plane(alloc, sample.left.as_slice())?;
+    put_bits(&mut x, sample.right.as_slice());
+    plane_holds(alloc, x, sample.right.as_slice())
 }
 
 /// Bits are read back one by one, from a copy, and after others were written over them.
 fn reads_back(rt: &impl Abort, alloc: Global, sample: &Sample) -> Result<(), Fail> {
     let bits = sample.left.as_slice();
-    let mut x = plane(alloc, bits)?;
-    assert_eq!(rt; x.len(), sample.count);
-    for v in 0..x.len() {
-        let bit = u128::from(x.get(v));
-        assert_eq!(rt;
-            Some(bit),
-            bits.get(v).copied(),
-            "bit {v} of {}",
-            sample.count
-        );
-    }
-    plane_holds(rt, alloc, Call::Copy, x.copy()?, bits)?;
-    put_bits(&mut x, sample.right.as_slice());
-    plane_holds(rt, alloc, Call::Set, x, sample.right.as_slice())
+    let x = plane(alloc, bits)?;
+    check(rt, Call::Get, sample, has_bits(&x, bits));
+    check(rt, Call::Copy, sample, is_copied(alloc, bits)?);
+    check(rt, Call::Set, sample, is_put(alloc, sample)?);
+    Ok(())
 }
 
-/// A plane equals its copy, and none with another bit.
-fn tells_bits(rt: &impl Abort, alloc: Global, sample: &Sample) -> Result<(), Fail> {
+/// Whether two planes aren't equal, either way.
+fn differ(x: &Plane, y: &Plane) -> bool {
+    !x.equals(y) && !y.equals(x)
+}
+
+/// Whether a plane equals none with another bit at this place, and one with the same bit there.
+fn tells_bit(x: &Plane, other: &mut Plane, v: usize) -> bool
+    requires within { v < length x.now }
+    requires same { length other.old ≡ length x.now }
+    ensures { length other.new ≡ length other.old }
+{
+    let bit = x.get(v);
+    other.set(v, !bit);
+    let differs = differ(x, other);
+    other.set(v, bit);
+    differs && x.equals(other)
+}
+
+/// Whether a plane equals its copy, and none with another bit.
+fn tells_bits(x: &Plane, other: &mut Plane, count: usize) -> bool
+    requires count { length x.now ≡ count }
+    requires same { length other.old ≡ count }
+{
+    for v in 0..count {
+        if !tells_bit(x, other, v) {
+            return false;
+        }
+    }
+    true
+}
+
+/// Whether zeros don't equal more zeros.
+fn tells_lengths(alloc: Global, count: usize) -> Result<bool, AllocError> {
+    let zeros = Plane::zeros(alloc, count)?;
+    let longer = Plane::zeros(alloc, count.saturating_add(1))?;
+    Ok(differ(&zeros, &longer))
+}
+
+/// A plane equals its copy, and none with another bit or of another length.
+fn tells_planes(rt: &impl Abort, alloc: Global, sample: &Sample) -> Result<(), Fail> {
+    check(
+        rt,
+        Call::Equals,
+        sample,
+        tells_lengths(alloc, sample.count)?,
+    );
     let x = plane(alloc, sample.left.as_slice())?;
     let mut other = x.copy()?;
-    for v in 0..sample.count {
-        let bit = x.get(v);
-        other.set(v, !bit);
-        assert!(rt;
-            !x.equals(&other) && !other.equals(&x),
-            "bit {v} of {}",
-            sample.count
-        );
-        other.set(v, bit);
-        assert!(rt; x.equals(&other), "bit {v} of {}", sample.count);
-    }
-    assert!(rt; sample.count <= 65_536);
-    let longer = Plane::zeros(alloc, sample.count + 1)?;
-    assert!(rt; !Plane::zeros(alloc, sample.count)?.equals(&longer));
-    assert!(rt; !longer.equals(&Plane::zeros(alloc, sample.count)?));
+    let tells = tells_bits(&x, &mut other, sample.count);
+    check(rt, Call::Equals, sample, tells);
     Ok(())
 }
 
@@ -281,19 +321,24 @@ fn low_word(word: u64, count: usize) -> u64 {
     }
 }
 
+/// Whether the words of a plane are the bits of blocks.
+fn has_words(x: &Plane, bits: &[u128]) -> bool
+    requires { length x.now ≡ length bits.now }
+{
+    let count = bits.len();
+    for block in 0..count.div_ceil(64) {
+        if low_word(x.word(block), count - 64 * block) != packed(bits, block) {
+            return false;
+        }
+    }
+    true
+}
+
 /// Words are the bits of blocks.
 fn lends_words(rt: &impl Abort, alloc: Global, sample: &Sample) -> Result<(), Fail> {
-    let bits = sample.left.as_slice();
-    let x = plane(alloc, bits)?;
-    for block in 0..sample.count.div_ceil(64) {
-        let word = low_word(x.word(block), sample.count - 64 * block);
-        assert_eq!(rt;
-            word,
-            packed(bits, block),
-            "word {block} of {}",
-            sample.count
-        );
-    }
+    let x = plane(alloc, sample.left.as_slice())?;
+    let lends = has_words(&x, sample.left.as_slice());
+    check(rt, Call::Word, sample, lends);
     Ok(())
 }
 
@@ -310,15 +355,35 @@ fn even_blocks(alloc: Global, sample: &Sample) -> Result<Vec<u128>, AllocError> 
     Ok(bits)
 }
 
+/// Puts words of these bits into the blocks of even number that a plane has.
+fn put_even_blocks(x: &mut Plane, bits: &[u128]) {
+    for block in (0..bits.len().div_ceil(64)).step_by(2) {
+        if block < x.len().div_ceil(64) {
+            x.set_word(block, packed(bits, block));
+        }
+    }
+}
+
 /// A word that is put changes the bits of its block alone.
 fn puts_words(rt: &impl Abort, alloc: Global, sample: &Sample) -> Result<(), Fail> {
-    let mut x = plane(alloc, sample.left.as_slice())?;
-    for block in (0..sample.count.div_ceil(64)).step_by(2) {
-        assert!(rt; block < x.len().div_ceil(64));
-        x.set_word(block, packed(sample.right.as_slice(), block));
-    }
     let expected = even_blocks(alloc, sample)?;
-    plane_holds(rt, alloc, Call::SetWord, x, expected.as_slice())
+    let mut x = plane(alloc, sample.left.as_slice())?;
+    put_even_blocks(&mut x, sample.right.as_slice());
+    let puts = plane_holds(alloc, x, expected.as_slice())?;
+    check(rt, Call::SetWord, sample, puts);
+    Ok(())
+}
+
+/// Runs the operations and steps on a sample.
+fn run_steps(rt: &impl Abort, alloc: Global, sample: &Sample) -> Result<(), Fail> {
+    let seen = seen_by_all(rt, alloc, sample)?;
+    run_on_all(rt, alloc, sample, &seen)
+}
+
+/// Runs the choices on a sample.
+fn run_choices(rt: &impl Abort, alloc: Global, sample: &Sample) -> Result<(), Fail> {
+    let seen = seen_by_selected(rt, alloc, sample)?;
+    selects(rt, alloc, sample, &seen)
 }
 
 /// Runs each call on a sample of width 1.
@@ -326,13 +391,11 @@ pub(crate) fn run(rt: &impl Abort, alloc: Global, sample: &Sample) -> Result<(),
     if sample.width != 1 {
         return Ok(());
     }
-    operates(rt, alloc, sample)?;
-    selects(rt, alloc, sample)?;
-    adds(rt, alloc, sample)?;
-    subtracts(rt, alloc, sample)?;
+    run_steps(rt, alloc, sample)?;
+    run_choices(rt, alloc, sample)?;
     fills(rt, alloc, sample)?;
     reads_back(rt, alloc, sample)?;
-    tells_bits(rt, alloc, sample)?;
+    tells_planes(rt, alloc, sample)?;
     lends_words(rt, alloc, sample)?;
     puts_words(rt, alloc, sample)
 }

@@ -3,13 +3,14 @@
 ghost use Rattle.std.specs.Prelude.{◌≡◌, ◌<◌, ◌≤◌, ℕ, List, length};
 ghost use Rattle.paris_model.specs.Fits.{IsFit};
 
-use crate::beside::{agrees, alone, bit_operand, flag, seen};
+use crate::beside::{Made, agrees, alone, bit_operand, flag, seen_by_selected};
 use crate::cases::{Sample, plane};
 use paris_field::FieldValue;
 use paris_flags::{ContextStep, TestStep, context_step, test_step};
 use paris_model::{Action, Conditional, Operand, Unconditional};
 use paris_names::{FlagName, SetNo};
-use std::alloc::Global;
+use paris_plain::Inputs;
+use std::alloc::{AllocError, Global};
 use std::process::Abort;
 use std::test::Fail;
 
@@ -49,63 +50,61 @@ fn test_action(step: TestStep) -> Action<Operand, SetNo>
     }
 }
 
-/// Each step of the context leaves what its instruction leaves.
-fn steps_context(rt: &impl Abort, alloc: Global, sample: &Sample) -> Result<(), Fail> {
-    let seen = seen(
-        rt,
-        alloc,
-        sample,
-        sample.old.as_slice(),
-        sample.context.as_slice(),
-    )?;
+/// What a step of the context makes of a sample.
+fn context_made(alloc: Global, sample: &Sample, step: ContextStep) -> Result<Made, AllocError> {
     let operand = plane(alloc, sample.left.as_slice())?;
+    let mut context = plane(alloc, sample.context.as_slice())?;
+    context_step(step, &mut context, &operand);
+    let value = FieldValue::from_plane(alloc, context)?;
+    alone(alloc, flag(FlagName::Context), value)
+}
+
+/// Each step of the context leaves what its instruction leaves.
+fn steps_context(
+    rt: &impl Abort,
+    alloc: Global,
+    sample: &Sample,
+    seen: &Inputs,
+) -> Result<(), Fail> {
     for step in CONTEXT_STEPS {
-        let mut context = plane(alloc, sample.context.as_slice())?;
-        assert_eq!(rt; context.len(), operand.len());
-        context_step(*step, &mut context, &operand);
-        let value = FieldValue::from_plane(alloc, context)?;
-        let made = alone(alloc, flag(FlagName::Context), value)?;
-        let action = context_action(*step);
+        let made = context_made(alloc, sample, *step)?;
+        let case = (*step, sample.count);
         agrees(
             rt,
             alloc,
-            &(*step, sample.count),
-            &seen,
-            &action,
+            &case,
+            seen,
+            &context_action(*step),
             made.as_slice(),
         )?;
     }
     Ok(())
 }
 
-/// Each step of the test flag leaves what its instruction leaves.
-fn steps_test(rt: &impl Abort, alloc: Global, sample: &Sample) -> Result<(), Fail> {
-    let seen = seen(
-        rt,
-        alloc,
-        sample,
-        sample.old.as_slice(),
-        sample.context.as_slice(),
-    )?;
+/// What a step of the test flag makes of a sample.
+fn test_made(alloc: Global, sample: &Sample, step: TestStep) -> Result<Made, AllocError> {
     let operand = plane(alloc, sample.left.as_slice())?;
     let context = plane(alloc, sample.context.as_slice())?;
+    let mut test = plane(alloc, sample.test.as_slice())?;
+    test_step(step, &mut test, &context, &operand);
+    let value = FieldValue::from_plane(alloc, test)?;
+    alone(alloc, flag(FlagName::Test), value)
+}
+
+/// Each step of the test flag leaves what its instruction leaves.
+fn steps_test(rt: &impl Abort, alloc: Global, sample: &Sample, seen: &Inputs) -> Result<(), Fail> {
     for step in TEST_STEPS {
-        let mut test = plane(alloc, sample.test.as_slice())?;
-        assert!(rt; test.len() == operand.len() && test.len() == context.len());
-        test_step(*step, &mut test, &context, &operand);
-        let value = FieldValue::from_plane(alloc, test)?;
-        let made = alone(alloc, flag(FlagName::Test), value)?;
-        let action = test_action(*step);
-        agrees(
-            rt,
-            alloc,
-            &(*step, sample.count),
-            &seen,
-            &action,
-            made.as_slice(),
-        )?;
+        let made = test_made(alloc, sample, *step)?;
+        let case = (*step, sample.count);
+        agrees(rt, alloc, &case, seen, &test_action(*step), made.as_slice())?;
     }
     Ok(())
+}
+
+/// Runs each step where an instruction sees this of a sample.
+fn run_steps(rt: &impl Abort, alloc: Global, sample: &Sample, seen: &Inputs) -> Result<(), Fail> {
+    steps_context(rt, alloc, sample, seen)?;
+    steps_test(rt, alloc, sample, seen)
 }
 
 /// Runs each step on a sample of width 1.
@@ -113,6 +112,6 @@ pub(crate) fn run(rt: &impl Abort, alloc: Global, sample: &Sample) -> Result<(),
     if sample.width != 1 {
         return Ok(());
     }
-    steps_context(rt, alloc, sample)?;
-    steps_test(rt, alloc, sample)
+    let seen = seen_by_selected(rt, alloc, sample)?;
+    run_steps(rt, alloc, sample, &seen)
 }

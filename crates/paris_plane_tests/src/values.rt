@@ -3,6 +3,7 @@
 ghost use Rattle.std.specs.Prelude.{◌≡◌, ◌<◌, ◌≤◌, ◌^◌, IfOk, length};
 ghost use Rattle.paris_field.specs.Fields.{AllFit};
 
+use crate::beside::{has_numbers, holds};
 use paris_field::{FieldValue, copy_planes, transpose64};
 use paris_plane::Plane;
 use std::alloc::{AllocError, Global};
@@ -89,22 +90,24 @@ fn thirds(alloc: Global, count: usize) -> Result<Plane, AllocError>
     Ok(mask)
 }
 
-/// Each number is read back one by one and together, and from a copy.
-fn is_read_back(rt: &impl Abort, alloc: Global, width: u64, count: usize) -> Result<(), AllocError>
+/// Whether each number is read back one by one and together, and from a copy.
+fn is_read_back(value: &FieldValue, width: u64, numbers: &[u128]) -> Result<bool, AllocError> {
+    if value.width() != width || !has_numbers(value, numbers) || !holds(value, numbers)? {
+        return Ok(false);
+    }
+    let copied = value.copy()?;
+    Ok(copied.equals(value))
+}
+
+/// Numbers of a width are read back.
+fn reads_back(rt: &impl Abort, alloc: Global, width: u64, count: usize) -> Result<(), AllocError>
     requires positive { 0 < width }
     requires narrow { width ≤ 128 }
 {
     let numbers = list(alloc, width, 1, count)?;
     let value = FieldValue::from_numbers(alloc, width, &numbers)?;
-    assert_eq!(rt; value.width(), width);
-    assert_eq!(rt; value.len(), count);
-    for v in 0..count {
-        assert_eq!(rt; value.get(v), numbers[v], "processor {v} at width {width}");
-    }
-    let back = value.numbers()?;
-    assert!(rt; back.as_slice() == numbers.as_slice());
-    let copied = value.copy()?;
-    assert!(rt; copied.equals(&value));
+    let good = is_read_back(&value, width, &numbers)?;
+    assert!(rt; good, "{count} processors at width {width}");
     Ok(())
 }
 
@@ -112,10 +115,44 @@ fn is_read_back(rt: &impl Abort, alloc: Global, width: u64, count: usize) -> Res
 fn numbers_are_read_back(rt: HostRuntime) -> Result<(), Fail> {
     for case in CASES {
         if case.width > 0 && case.width <= 128 {
-            is_read_back(&rt, rt.alloc(), case.width, case.count)?;
+            reads_back(&rt, rt.alloc(), case.width, case.count)?;
         }
     }
     Ok(())
+}
+
+/// Whether one number stands in each processor.
+fn is_constant(alloc: Global, width: u64, count: usize) -> Result<bool, AllocError>
+    requires positive { 0 < width }
+    requires narrow { width ≤ 128 }
+{
+    let wanted = number(width, 1, 0);
+    let constant = FieldValue::constant(alloc, width, wanted, count)?;
+    let numbers = constant.numbers()?;
+    Ok(numbers.len() == count && numbers.iter().all(|x| *x == wanted))
+}
+
+/// Whether these are some bits of each processor's address, above the lowest three.
+fn are_address_bits(numbers: &[u128], bits: u64) -> bool
+    requires { bits ≤ 5 }
+{
+    for (v, number) in numbers.iter().enumerate() {
+        if *number != ((v as u128) >> 3) % (1u128 << bits) {
+            return false;
+        }
+    }
+    true
+}
+
+/// Whether bits of its own address stand in each processor.
+fn has_addresses(alloc: Global, width: u64, count: usize) -> Result<bool, AllocError>
+    requires positive { 0 < width }
+    requires narrow { width ≤ 128 }
+{
+    let bits = width.min(5);
+    let addresses = FieldValue::address_bits(alloc, width, 3, bits, count)?;
+    let numbers = addresses.numbers()?;
+    Ok(numbers.len() == count && are_address_bits(&numbers, bits))
 }
 
 /// One number stands in each processor, and bits of its own address do.
@@ -128,17 +165,12 @@ fn is_made_on_planes(
     requires positive { 0 < width }
     requires narrow { width ≤ 128 }
 {
-    let wanted = number(width, 1, 0);
-    let bits = width.min(5);
-    let constant = FieldValue::constant(alloc, width, wanted, count)?;
-    let addresses = FieldValue::address_bits(alloc, width, 3, bits, count)?;
-    let numbers = constant.numbers()?;
-    assert!(rt; numbers.len() == count && numbers.iter().all(|x| *x == wanted));
-    let numbers = addresses.numbers()?;
-    assert_eq!(rt; numbers.len(), count);
-    for (v, number) in numbers.iter().enumerate() {
-        assert!(rt; *number == ((v as u128) >> 3) % (1u128 << bits));
-    }
+    let constant = is_constant(alloc, width, count)?;
+    let addresses = has_addresses(alloc, width, count)?;
+    assert!(rt;
+        constant && addresses,
+        "{count} processors at width {width}"
+    );
     Ok(())
 }
 
@@ -152,8 +184,25 @@ fn constants_and_addresses_are_made_on_planes(rt: HostRuntime) -> Result<(), Fai
     Ok(())
 }
 
+/// Whether numbers stand in place of as many from a processor on, and the others stay.
+fn is_edited(edited: &FieldValue, numbers: &[u128], new: &[u128], from: usize) -> bool {
+    if edited.len() != numbers.len() {
+        return false;
+    }
+    for v in 0..numbers.len() {
+        let want = match v.checked_sub(from) {
+            Some(i) if i < new.len() => new[i],
+            _ => numbers[v],
+        };
+        if edited.get(v) != want {
+            return false;
+        }
+    }
+    true
+}
+
 /// Numbers are put in place of as many in the middle, and the others stay.
-fn is_edited(rt: &impl Abort, alloc: Global, width: u64, count: usize) -> Result<(), AllocError>
+fn takes_numbers(rt: &impl Abort, alloc: Global, width: u64, count: usize) -> Result<(), AllocError>
     requires positive { 0 < width }
     requires narrow { width ≤ 128 }
 {
@@ -162,14 +211,8 @@ fn is_edited(rt: &impl Abort, alloc: Global, width: u64, count: usize) -> Result
     let new = list(alloc, width, 1000, count / 2)?;
     let value = FieldValue::from_numbers(alloc, width, &numbers)?;
     let edited = value.with_numbers(from, &new)?;
-    for v in 0..count {
-        let want = if v >= from && v < from + new.len() {
-            new[v - from]
-        } else {
-            numbers[v]
-        };
-        assert_eq!(rt; edited.get(v), want, "processor {v} at width {width}");
-    }
+    let good = is_edited(&edited, &numbers, &new, from);
+    assert!(rt; good, "{count} processors at width {width}");
     Ok(())
 }
 
@@ -177,7 +220,7 @@ fn is_edited(rt: &impl Abort, alloc: Global, width: u64, count: usize) -> Result
 fn numbers_are_put_in_the_middle(rt: HostRuntime) -> Result<(), Fail> {
     for case in CASES {
         if case.width > 0 && case.width <= 128 {
-            is_edited(&rt, rt.alloc(), case.width, case.count)?;
+            takes_numbers(&rt, rt.alloc(), case.width, case.count)?;
         }
     }
     Ok(())
@@ -186,39 +229,67 @@ fn numbers_are_put_in_the_middle(rt: HostRuntime) -> Result<(), Fail> {
 /// Processors round the first and the last of a block.
 const PLACES: &[usize] = &[0, 1, 63, 64, 65, 127, 128, 129, 299, 300];
 
-/// Words are put in place of as many numbers from a processor up to another, and the others stay.
-fn takes_words(
-    rt: &impl Abort,
-    alloc: Global,
-    value: &FieldValue,
-    all: &[u64],
-    from: usize,
-    to: usize,
-) -> Result<(), AllocError> {
-    let count = value.len();
-    if from > to || to > count || count != all.len() {
-        return Ok(());
+/// Whether a value has words in place of a value's numbers from a processor up to another, and its other numbers.
+fn has_words(edited: &FieldValue, value: &FieldValue, all: &[u64], from: usize, to: usize) -> bool
+    requires { length value.now.numbers ≡ length all.now }
+{
+    if edited.width() != value.width() || edited.len() != all.len() {
+        return false;
     }
-    let words = &all[from..to];
-    if FieldValue::first_word_too_wide(value.width(), words).is_some() {
-        assert!(rt; false, "a word is too wide");
-        return Ok(());
-    }
-    let edited = value.with_words(from, words)?;
-    assert!(rt; edited.width() == value.width() && edited.len() == count);
-    for v in 0..count {
+    for v in 0..all.len() {
         let want = if v >= from && v < to {
             u128::from(all[v])
         } else {
             value.get(v)
         };
-        assert_eq!(rt; edited.get(v), want, "processor {v} of {from} to {to}");
+        if edited.get(v) != want {
+            return false;
+        }
     }
-    Ok(())
+    true
+}
+
+/// Whether words are put in place of as many numbers from a processor up to another, and the others stay.
+fn takes_words(value: &FieldValue, all: &[u64], from: usize, to: usize) -> Result<bool, AllocError>
+    requires count { length value.now.numbers ≡ length all.now }
+    requires order { from ≤ to }
+    requires within { to ≤ length all.now }
+{
+    let words = &all[from..to];
+    if FieldValue::first_word_too_wide(value.width(), words).is_some() {
+        return Ok(false);
+    }
+    let edited = value.with_words(from, words)?;
+    Ok(has_words(&edited, value, all, from, to))
+}
+
+/// The same between any two of some places that a value has.
+fn takes_words_anywhere(value: &FieldValue, all: &[u64]) -> Result<bool, AllocError>
+    requires { length value.now.numbers ≡ length all.now }
+{
+    for from in PLACES {
+        for to in PLACES {
+            if *from <= *to && *to <= all.len() && !takes_words(value, all, *from, *to)? {
+                return Ok(false);
+            }
+        }
+    }
+    takes_words(value, all, 0, all.len())
+}
+
+/// A word of this width for each processor.
+fn words(alloc: Global, width: u64, count: usize) -> Result<Vec<u64>, AllocError>
+    requires positive { 0 < width }
+    requires narrow { width ≤ 64 }
+    ensures { IfOk result (λ words. length words.items ≡ count) }
+{
+    (0..count)
+        .map(|v| number(width, 1000, v) as u64)
+        .collect(alloc)
 }
 
 /// Words of this width, or of 64 bits, are put between any two of some places.
-fn takes_words_anywhere(
+fn is_given_words(
     rt: &impl Abort,
     alloc: Global,
     width: u64,
@@ -228,49 +299,80 @@ fn takes_words_anywhere(
     requires narrow { width ≤ 128 }
 {
     let value = FieldValue::from_numbers(alloc, width, &list(alloc, width, 1, count)?)?;
-    let narrow = width.min(64);
-    let all: Vec<u64> = (0..count)
-        .map(|v| number(narrow, 1000, v) as u64)
-        .collect(alloc)?;
-    for from in PLACES {
-        for to in PLACES {
-            takes_words(rt, alloc, &value, &all, *from, *to)?;
-        }
-    }
-    takes_words(rt, alloc, &value, &all, 0, count)
+    let all = words(alloc, width.min(64), count)?;
+    let takes = takes_words_anywhere(&value, &all)?;
+    assert!(rt; takes, "{count} processors at width {width}");
+    Ok(())
 }
 
 #[test]
 fn words_are_put_anywhere(rt: HostRuntime) -> Result<(), Fail> {
     for case in CASES {
         if case.width > 0 && case.width <= 128 {
-            takes_words_anywhere(&rt, rt.alloc(), case.width, case.count)?;
+            is_given_words(&rt, rt.alloc(), case.width, case.count)?;
         }
     }
     Ok(())
 }
 
+/// A width, words, and the place of the first that is too wide.
+const WIDE_WORDS: &[(u64, &[u64], Option<usize>)] = &[
+    (0, &[0, 1], Some(1)),
+    (8, &[0, 255, 256, 257], Some(2)),
+    (63, &[1 << 62, 1 << 63], Some(1)),
+    (64, &[u64::MAX], None),
+    (u64::MAX, &[u64::MAX], None),
+];
+
 #[test]
-fn the_first_word_that_is_too_wide_is_found(rt: HostRuntime) -> Result<(), Fail> {
-    assert_eq!(rt; FieldValue::first_word_too_wide(0, &[0, 1]), Some(1));
-    assert_eq!(rt;
-        FieldValue::first_word_too_wide(8, &[0, 255, 256, 257]),
-        Some(2)
-    );
-    assert_eq!(rt;
-        FieldValue::first_word_too_wide(63, &[1 << 62, 1 << 63]),
-        Some(1)
-    );
-    assert_eq!(rt; FieldValue::first_word_too_wide(64, &[u64::MAX]), None);
-    assert_eq!(rt;
-        FieldValue::first_word_too_wide(u64::MAX, &[u64::MAX]),
-        None
-    );
-    Ok(())
+fn the_first_word_that_is_too_wide_is_found(rt: HostRuntime) {
+    for (width, words, first) in WIDE_WORDS {
+        let found = FieldValue::first_word_too_wide(*width, *words);
+        assert!(rt; found == *first, "at width {width}");
+    }
+}
+
+/// Whether the low bits of new numbers stand in each third processor.
+fn is_merged(value: &FieldValue, numbers: &[u128], new: &[u128], low: u128) -> bool {
+    if value.len() != numbers.len() || new.len() != numbers.len() {
+        return false;
+    }
+    for v in 0..numbers.len() {
+        let want = if v % 3 == 0 {
+            (numbers[v] & !low) | (new[v] & low)
+        } else {
+            numbers[v]
+        };
+        if value.get(v) != want {
+            return false;
+        }
+    }
+    true
+}
+
+/// Stores the low `len` bits of new numbers in each third processor.
+fn merged(
+    alloc: Global,
+    width: u64,
+    len: u64,
+    numbers: &[u128],
+    new: &[u128],
+) -> Result<FieldValue, AllocError>
+    requires narrow { width ≤ 128 }
+    requires within { len ≤ width }
+    requires fit { AllFit width numbers.now }
+    requires new_fit { AllFit width new.now }
+    requires same { length new.now ≡ length numbers.now }
+{
+    let mask = thirds(alloc, numbers.len())?;
+    let other = FieldValue::from_numbers(alloc, width, new)?;
+    let mut value = FieldValue::from_numbers(alloc, width, numbers)?;
+    value.merge_in(&mask, other.planes(), len);
+    Ok(value)
 }
 
 /// The low half of the bits is stored in each third processor.
-fn is_merged(rt: &impl Abort, alloc: Global, width: u64, count: usize) -> Result<(), AllocError>
+fn merges(rt: &impl Abort, alloc: Global, width: u64, count: usize) -> Result<(), AllocError>
     requires positive { 0 < width }
     requires narrow { width ≤ 128 }
 {
@@ -278,18 +380,9 @@ fn is_merged(rt: &impl Abort, alloc: Global, width: u64, count: usize) -> Result
     let low = (1u128 << len).wrapping_sub(1);
     let numbers = list(alloc, width, 1, count)?;
     let new = list(alloc, width, 1000, count)?;
-    let mask = thirds(alloc, count)?;
-    let mut value = FieldValue::from_numbers(alloc, width, &numbers)?;
-    let other = FieldValue::from_numbers(alloc, width, &new)?;
-    value.merge_in(&mask, other.planes(), len);
-    for v in 0..count {
-        let want = if v % 3 == 0 {
-            (numbers[v] & !low) | (new[v] & low)
-        } else {
-            numbers[v]
-        };
-        assert_eq!(rt; value.get(v), want, "processor {v} at width {width}");
-    }
+    let value = merged(alloc, width, len, &numbers, &new)?;
+    let good = is_merged(&value, &numbers, &new, low);
+    assert!(rt; good, "{count} processors at width {width}");
     Ok(())
 }
 
@@ -297,37 +390,79 @@ fn is_merged(rt: &impl Abort, alloc: Global, width: u64, count: usize) -> Result
 fn selected_processors_store(rt: HostRuntime) -> Result<(), Fail> {
     for case in CASES {
         if case.width > 0 && case.width <= 128 {
-            is_merged(&rt, rt.alloc(), case.width, case.count)?;
+            merges(&rt, rt.alloc(), case.width, case.count)?;
         }
     }
     Ok(())
 }
 
+/// Whether the top plane of a value of 65 bits, and plane 8 of its low planes, are bits of its numbers.
+fn lends_bits(value: &FieldValue, numbers: &[u128]) -> bool
+    requires width { value.now.width ≡ 65 }
+    requires count { length value.now.numbers ≡ length numbers.now }
+{
+    for v in 0..numbers.len() {
+        let top = value.plane(64).get(v);
+        let low = value.low(9)[8].get(v);
+        if top != (numbers[v] >> 64 == 1) || low != ((numbers[v] >> 8) % 2 == 1) {
+            return false;
+        }
+    }
+    value.low(9).len() == 9
+}
+
+/// Whether a value of 65 bits equals that of its planes, and no zeros.
+fn is_of_planes(alloc: Global, value: &FieldValue) -> Result<bool, AllocError>
+    requires width { value.now.width ≡ 65 }
+{
+    let planes = copy_planes(alloc, value.planes())?;
+    let taken = FieldValue::from_planes(planes, value.len());
+    let zeros = FieldValue::zeros(alloc, 65, value.len())?;
+    Ok(taken.equals(value) && !zeros.equals(value))
+}
+
 #[test]
 fn planes_are_lent_and_taken(rt: HostRuntime) -> Result<(), Fail> {
-    let alloc = rt.alloc();
-    let numbers = list(alloc, 65, 3, 70)?;
-    let value = FieldValue::from_numbers(alloc, 65, &numbers)?;
-    assert_eq!(rt; value.low(9).len(), 9);
-    for v in 0..70usize {
-        assert_eq!(rt; value.plane(64).get(v), numbers[v] >> 64 == 1);
-        assert_eq!(rt; value.low(9)[8].get(v), (numbers[v] >> 8) % 2 == 1);
-    }
-    let planes = copy_planes(alloc, value.planes())?;
-    assert!(rt; FieldValue::from_planes(planes, 70).equals(&value));
-    let zeros = FieldValue::zeros(alloc, 65, 70)?;
-    assert!(rt; !zeros.equals(&value));
+    let numbers = list(rt.alloc(), 65, 3, 70)?;
+    let value = FieldValue::from_numbers(rt.alloc(), 65, &numbers)?;
+    let lent = lends_bits(&value, &numbers);
+    let taken = is_of_planes(rt.alloc(), &value)?;
+    assert!(rt; lent && taken);
     Ok(())
+}
+
+/// Whether a value of one bit has it in each third of 65 processors, and its mask has.
+fn is_thirds(value: &FieldValue) -> bool
+    requires width { value.now.width ≡ 1 }
+    requires count { length value.now.numbers ≡ 65 }
+{
+    for v in 0..65usize {
+        let third = v % 3 == 0;
+        if value.mask().get(v) != third || (value.get(v) == 1) != third {
+            return false;
+        }
+    }
+    true
 }
 
 #[test]
 fn a_plane_is_a_value_of_one_bit(rt: HostRuntime) -> Result<(), Fail> {
     let value = FieldValue::from_plane(rt.alloc(), thirds(rt.alloc(), 65)?)?;
-    for v in 0..65usize {
-        assert_eq!(rt; value.mask().get(v), v % 3 == 0);
-        assert_eq!(rt; value.get(v) == 1, v % 3 == 0);
-    }
+    assert!(rt; is_thirds(&value));
     Ok(())
+}
+
+/// Whether a turn moves one bit of a row to its place across the diagonal.
+fn is_moved(row: usize, place: usize) -> bool
+    requires row { row < 64 }
+    requires place { place < 64 }
+{
+    let mut rows = [0u64; 64];
+    rows[row] = 1 << place;
+    transpose64(&mut rows);
+    let mut turned = [0u64; 64];
+    turned[place] = 1 << row;
+    rows == turned
 }
 
 #[test]
@@ -340,14 +475,8 @@ fn one_bit_is_moved_across_the_diagonal(rt: HostRuntime) {
         (45, 18),
         (7, 56),
     ] {
-        let mut rows = [0u64; 64];
-        if row < 64 && place < 64 {
-            rows[row] = 1 << place;
-            transpose64(&mut rows);
-            for j in 0..64usize {
-                assert_eq!(rt; rows[j], if j == place { 1 << row } else { 0 }, "row {j}");
-            }
-        }
+        assert!(rt; row < 64 && place < 64);
+        assert!(rt; is_moved(row, place), "row {row}, place {place}");
     }
 }
 

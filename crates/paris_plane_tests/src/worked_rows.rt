@@ -400,6 +400,53 @@ const CASES: &[Case] = &[
     },
 ];
 
+fn of_sum(sum: Result<Sum, AllocError>) -> Result<Outcome, AllocError> {
+    Ok(sum?.into())
+}
+
+fn of_checked(checked: Result<Overflowing, AllocError>) -> Result<Outcome, AllocError> {
+    Ok(checked?.into())
+}
+
+fn of_value(value: Result<FieldValue, AllocError>) -> Result<Outcome, AllocError> {
+    Ok(value?.into())
+}
+
+/// The sum with a carried bit where the first number is less.
+fn add_where_less(
+    alloc: Global,
+    x: &FieldValue,
+    y: &FieldValue,
+    len: u64,
+) -> Result<Sum, AllocError>
+    requires positive { 0 < len }
+    requires narrow { len ≤ 64 }
+    requires x_width { x.now.width ≡ 64 }
+    requires y_width { y.now.width ≡ 64 }
+    requires same { length x.now.numbers ≡ length y.now.numbers }
+{
+    let carry = compare(alloc, Comparison::Less(Sign::Unsigned), x, y, len)?;
+    add_carry(alloc, x, y, &carry, len)
+}
+
+/// Where a comparison holds, as numbers.
+fn compared(
+    alloc: Global,
+    comparison: Comparison,
+    x: &FieldValue,
+    y: &FieldValue,
+    len: u64,
+) -> Result<FieldValue, AllocError>
+    requires positive { 0 < len }
+    requires narrow { len ≤ 64 }
+    requires x_width { x.now.width ≡ 64 }
+    requires y_width { y.now.width ≡ 64 }
+    requires same { length x.now.numbers ≡ length y.now.numbers }
+{
+    let plane = compare(alloc, comparison, x, y, len)?;
+    FieldValue::from_plane(alloc, plane)
+}
+
 impl Operation {
     fn run(
         self,
@@ -414,26 +461,24 @@ impl Operation {
         requires y_width { y.now.width ≡ 64 }
         requires same { length x.now.numbers ≡ length y.now.numbers }
     {
-        Ok(match self {
-            Operation::Add(sign) => add(alloc, sign, x, y, len)?.into(),
-            Operation::AddCarry => {
-                let carry = compare(alloc, Comparison::Less(Sign::Unsigned), x, y, len)?;
-                add_carry(alloc, x, y, &carry, len)?.into()
+        match self {
+            Operation::Add(sign) => of_sum(add(alloc, sign, x, y, len)),
+            Operation::AddCarry => of_sum(add_where_less(alloc, x, y, len)),
+            Operation::Subtract(sign) => of_sum(subtract(alloc, sign, x, y, len)),
+            Operation::Bitwise(operator) => of_value(logic(alloc, operator, x, y, len)),
+            Operation::Maximum(sign) => {
+                of_value(extreme(alloc, Extremum::Maximum, sign, x, y, len))
             }
-            Operation::Subtract(sign) => subtract(alloc, sign, x, y, len)?.into(),
-            Operation::Bitwise(operator) => logic(alloc, operator, x, y, len)?.into(),
-            Operation::Maximum(sign) => extreme(alloc, Extremum::Maximum, sign, x, y, len)?.into(),
-            Operation::Minimum(sign) => extreme(alloc, Extremum::Minimum, sign, x, y, len)?.into(),
-            Operation::Compare(comparison) => {
-                let plane = compare(alloc, comparison, x, y, len)?;
-                FieldValue::from_plane(alloc, plane)?.into()
+            Operation::Minimum(sign) => {
+                of_value(extreme(alloc, Extremum::Minimum, sign, x, y, len))
             }
-            Operation::Negate => negate(alloc, x, len)?.into(),
-            Operation::Invert => invert(alloc, x, len)?.into(),
-            Operation::CopyLow => copy_low(alloc, x, len)?.into(),
-            Operation::Narrow(sign) => extend(alloc, sign, x, len, 4)?.into(),
-            Operation::Widen(sign) => extend(alloc, sign, x, len, 8)?.into(),
-        })
+            Operation::Compare(comparison) => of_value(compared(alloc, comparison, x, y, len)),
+            Operation::Negate => of_checked(negate(alloc, x, len)),
+            Operation::Invert => of_value(invert(alloc, x, len)),
+            Operation::CopyLow => of_value(copy_low(alloc, x, len)),
+            Operation::Narrow(sign) => of_checked(extend(alloc, sign, x, len, 4)),
+            Operation::Widen(sign) => of_checked(extend(alloc, sign, x, len, 8)),
+        }
     }
 }
 
@@ -449,31 +494,60 @@ fn repeated(alloc: Global, row: &[u64; 4], vps: usize) -> Result<FieldValue, All
     FieldValue::from_numbers(alloc, 64, &numbers)
 }
 
-fn flags_are(rt: &impl Abort, plane: &Option<Plane>, row: &[u64; 4], vps: usize) {
-    if let Some(plane) = plane {
-        assert_eq!(rt; plane.len(), vps);
-        for v in 0..vps {
-            assert_eq!(rt; plane.get(v), row[v % 4] == 1, "flag at {v} of {vps}");
+/// Whether a plane's bits, where there is one, repeat a row.
+fn flags_are(plane: &Option<Plane>, row: &[u64; 4], vps: usize) -> bool {
+    let Some(plane) = plane else {
+        return true;
+    };
+    if plane.len() != vps {
+        return false;
+    }
+    for v in 0..vps {
+        if plane.get(v) != (row[v % 4] == 1) {
+            return false;
         }
     }
+    true
 }
 
-fn numbers_are(rt: &impl Abort, value: &FieldValue, row: &[u64; 4], vps: usize) {
-    assert_eq!(rt; value.len(), vps);
-    for v in 0..vps {
-        assert_eq!(rt; value.get(v), row[v % 4] as u128, "number at {v} of {vps}");
+/// Whether a field's numbers repeat a row.
+fn numbers_are(value: &FieldValue, row: &[u64; 4], vps: usize) -> bool {
+    if value.len() != vps {
+        return false;
     }
+    for v in 0..vps {
+        if value.get(v) != u128::from(row[v % 4]) {
+            return false;
+        }
+    }
+    true
+}
+
+/// Whether this is what is to come of a case.
+fn is_outcome(outcome: &Outcome, case: &Case, vps: usize) -> bool {
+    numbers_are(&outcome.value, &case.value, vps)
+        && flags_are(&outcome.carry, &case.carry, vps)
+        && flags_are(&outcome.overflow, &case.overflow, vps)
+}
+
+/// What comes of a case.
+fn outcome_of(alloc: Global, case: &Case, vps: usize) -> Result<Outcome, AllocError>
+    requires positive { 0 < case.now.length }
+    requires narrow { case.now.length ≤ 64 }
+{
+    let x = repeated(alloc, &case.x, vps)?;
+    let y = repeated(alloc, &case.y, vps)?;
+    case.operation.run(alloc, &x, &y, case.length)
 }
 
 fn case_holds(rt: &impl Abort, alloc: Global, case: &Case, vps: usize) -> Result<(), AllocError> {
-    let x = repeated(alloc, &case.x, vps)?;
-    let y = repeated(alloc, &case.y, vps)?;
-    let length = case.length;
-    assert!(rt; 0 < length && length <= 64);
-    let outcome = case.operation.run(alloc, &x, &y, length)?;
-    numbers_are(rt, &outcome.value, &case.value, vps);
-    flags_are(rt, &outcome.carry, &case.carry, vps);
-    flags_are(rt, &outcome.overflow, &case.overflow, vps);
+    assert!(rt; 0 < case.length && case.length <= 64);
+    let outcome = outcome_of(alloc, case, vps)?;
+    assert!(rt;
+        is_outcome(&outcome, case, vps),
+        "{:?} of {vps}",
+        case.operation
+    );
     Ok(())
 }
 
