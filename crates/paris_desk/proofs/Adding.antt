@@ -5,8 +5,8 @@ use Rattle.std.proofs.lemmas.Bool.Decides.{nat_tests}
 use mathlib.Core.List.{IsPrefix}
 use prog.Atomic.{either}
 use Rattle.logbook.specs.Pages.{Cell, cell, keeps, no_nib, step, Moves, Goes}
-use Rattle.paris_desk.specs.declared.records.Entry.{Entry}
-use Rattle.paris_desk.specs.History.{Legal}
+use Rattle.paris_records.specs.declared.records.Entry.{Entry}
+use Rattle.paris_records.specs.History.{Legal}
 use Rattle.paris_desk.proofs.Histories.{legal_more}
 use Rattle.paris_desk.specs.Rules.{IsKept, MayFollow, Adds}
 use Rattle.paris_desk.proofs.Prefixes.{prefix_whole}

@@ -21,7 +21,7 @@ use Rattle.paris_names.specs.declared.names.KeyName.{KeyName}
 use Rattle.paris_board.specs.Board.{key_named}
 use Rattle.paris_machine.specs.State.{place_of_spot}
 use Rattle.paris_book.proofs.DueFaults.{edit_number}
-use Rattle.paris_desk.specs.History.{state_of}
+use Rattle.paris_records.specs.History.{state_of}
 use Rattle.paris_desk.specs.Seats.{Sitting}
 use Rattle.paris_desk.specs.Calls.{Called, Unrecorded, is_unrecorded}
 

@@ -8,9 +8,9 @@ use Rattle.paris_machine.specs.Events.{after, after_all, reply_to}
 use Rattle.paris_machine.specs.declared.events.Event.{Event}
 use Rattle.paris_machine.specs.declared.events.Reply.{Reply}
 use Rattle.paris_names.specs.declared.faults.Fault.TheVariants.{HistoryFull, StrangeSeat}
-use Rattle.paris_desk.specs.declared.records.Entry.{Entry}
-use Rattle.paris_desk.specs.declared.records.Receipt.{Receipt}
-use Rattle.paris_desk.specs.History.{Legal, LegalFrom, state_of, entry, receipt}
+use Rattle.paris_records.specs.declared.records.Entry.{Entry}
+use Rattle.paris_records.specs.declared.records.Receipt.{Receipt}
+use Rattle.paris_records.specs.History.{Legal, LegalFrom, state_of, entry, receipt}
 use Rattle.paris_desk.specs.Rules.{MayFollow}
 use Rattle.paris_desk.specs.Seats.{sitting}
 use Rattle.paris_desk.specs.Calls.{Recorded, hold_fault}

@@ -3,14 +3,14 @@ use Rattle.std.proofs.Common.{◌≡◌, ◌⊎◌, ℕ, ◌+◌, ◌<◌, ◌�
 use mathlib.Core.List.{IsPrefix}
 use Rattle.paris_machine.specs.declared.events.Event.{Event}
 use Rattle.paris_machine.specs.declared.events.Reply.{Reply}
-use Rattle.paris_desk.specs.declared.records.Entry.{Entry}
-use Rattle.paris_desk.specs.declared.records.Receipt.{Receipt}
-use Rattle.paris_desk.specs.History.{entry, receipt}
+use Rattle.paris_records.specs.declared.records.Entry.{Entry}
+use Rattle.paris_records.specs.declared.records.Receipt.{Receipt}
+use Rattle.paris_records.specs.History.{entry, receipt}
+use Rattle.paris_records.specs.Receipts.{IsPart}
+use Rattle.paris_records.proofs.Counting.{part_grows, part_snoc}
 use Rattle.paris_desk.specs.Pasts.{Joined}
-use Rattle.paris_desk.specs.Receipts.{IsPart}
 use Rattle.paris_desk.specs.Seats.{Sitting, sitting}
 use Rattle.paris_desk.proofs.Prefixes.{prefix_self, prefix_length}
-use Rattle.paris_desk.proofs.Counting.{part_grows, part_snoc}
 
 -- the past that a join takes: the rest's own where that is longer
 abbrev pub Takes : List Entry → List Entry → List Entry → Type 0

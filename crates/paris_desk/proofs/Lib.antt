@@ -1,13 +1,9 @@
 pub mod Adding
-pub mod Agreements
 pub mod Calling
-pub mod Counting
 pub mod Gathering
 pub mod Histories
 pub mod Joining
 pub mod Lists
 pub mod Pasts
 pub mod Prefixes
-pub mod Sameness
-pub mod Sums
 pub mod Turns

@@ -5,12 +5,12 @@ use Rattle.std.proofs.Math.Seq.{get_or-append_seam}
 use Rattle.std.proofs.lemmas.Bool.Decides.{nat_tests}
 use Rattle.std.proofs.lemmas.List.{get_or_append_left, get_or_past}
 use Rattle.std.proofs.lemmas.List.Sums.{sum_by_push}
-use Rattle.paris_desk.specs.declared.records.Entry.{Entry}
-use Rattle.paris_desk.specs.Agreement.{list_of}
-use Rattle.paris_desk.specs.Receipts.{IsPart, receipts_in}
+use Rattle.paris_records.specs.declared.records.Entry.{Entry}
+use Rattle.paris_records.specs.Agreement.{list_of}
+use Rattle.paris_records.specs.Receipts.{IsPart, receipts_in}
+use Rattle.paris_records.proofs.Sums.{receipts_to, all_counted, none_counted, no_calls}
 use Rattle.paris_desk.specs.Closing.{by_number, receipts_of}
 use Rattle.paris_desk.specs.Seats.{Sitting}
-use Rattle.paris_desk.proofs.Sums.{receipts_to, all_counted, none_counted, no_calls}
 
 by_number_length : (m : ℕ) (ss : List Sitting) → length (by_number m ss) ≡ m
 by_number_length zero ss = refl

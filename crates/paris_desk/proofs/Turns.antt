@@ -7,8 +7,8 @@ use Rattle.paris_machine.specs.declared.events.Event.{Event}
 use Rattle.paris_machine.specs.declared.events.Event.TheVariants as EventCase
 use Rattle.paris_machine.specs.declared.events.Reply.{Reply}
 use Rattle.paris_machine.specs.declared.events.Reply.TheVariants as ReplyCase
-use Rattle.paris_desk.specs.declared.records.Receipt.{Receipt}
-use Rattle.paris_desk.specs.History.{entry, receipt}
+use Rattle.paris_records.specs.declared.records.Receipt.{Receipt}
+use Rattle.paris_records.specs.History.{entry, receipt}
 use Rattle.paris_desk.specs.Seats.{Sitting}
 use Rattle.paris_desk.specs.Calls.{Called, Excused, Unrecorded}
 use Rattle.paris_desk.specs.Work.{IsPair, Pairs, Gained, Turn, Left, Worked, Stopped}

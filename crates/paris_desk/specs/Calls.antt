@@ -7,8 +7,8 @@ use Rattle.paris_names.specs.declared.faults.Fault.TheVariants.{HistoryFull, NoM
 use Rattle.paris_machine.specs.Events.{reply_to}
 use Rattle.paris_machine.specs.declared.events.Event.{Event}
 use Rattle.paris_machine.specs.declared.events.Reply.{Reply}
-use Rattle.paris_desk.specs.declared.records.Entry.{Entry}
-use Rattle.paris_desk.specs.History.{Legal, state_of, entry}
+use Rattle.paris_records.specs.declared.records.Entry.{Entry}
+use Rattle.paris_records.specs.History.{Legal, state_of, entry}
 use Rattle.paris_desk.specs.Seats.{Sitting, called}
 
 -- why a call is not recorded in a history of a length, whatever memory there is: the seat was told of more entries, or they are as many

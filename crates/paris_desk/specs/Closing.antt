@@ -1,10 +1,10 @@
 -- What is left of a closed desk, and why a desk is not closed.
 use Rattle.std.specs.Prelude.{◌≡◌, ◌<◌, ◌≤◌, ◌==◌, ℕ, zero, suc, Bool, true, false, List, [], ◌∷◌, ◌++◌, length, if◌then◌else◌}
 use Rattle.std.specs.List.{list_any}
+use Rattle.paris_records.specs.declared.records.Entry.{Entry}
+use Rattle.paris_records.specs.declared.records.Receipt.{Receipt}
 use Rattle.paris_desk.specs.declared.closing.Cause.{Cause}
 use Rattle.paris_desk.specs.declared.closing.Cause.TheVariants.{Missing, Ahead, NoMemory}
-use Rattle.paris_desk.specs.declared.records.Entry.{Entry}
-use Rattle.paris_desk.specs.declared.records.Receipt.{Receipt}
 use Rattle.paris_desk.specs.Seats.{Sitting}
 
 -- whether one of these seats has a number

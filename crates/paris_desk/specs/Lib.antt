@@ -1,9 +1,6 @@
-pub mod Agreement
 pub mod Calls
 pub mod Closing
-pub mod History
 pub mod Pasts
-pub mod Receipts
 pub mod Rules
 pub mod Seats
 pub mod Work

@@ -4,9 +4,9 @@ use mathlib.Core.List.{IsPrefix}
 use mathlib.Core.Option.{some}
 use lib.ListN.{get_elem?}
 use Rattle.logbook.specs.Pages.{Book}
-use Rattle.paris_desk.specs.declared.records.Entry.{Entry}
+use Rattle.paris_records.specs.declared.records.Entry.{Entry}
+use Rattle.paris_records.specs.History.{Legal}
 use Rattle.paris_desk.specs.declared.published.Saw.{Saw}
-use Rattle.paris_desk.specs.History.{Legal}
 use Rattle.paris_desk.specs.Rules.{Posted}
 use Rattle.paris_desk.specs.Seats.{Sitting}
 

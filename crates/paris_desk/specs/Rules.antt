@@ -2,8 +2,8 @@
 use Rattle.std.specs.Prelude.{ℕ, ◌≡◌, ◌==◌, true, List, [], ◌∷◌, ◌++◌, length, MatchBool}
 use Rattle.logbook.specs.Pages.{Cell, Step, View, Book, Named}
 use Rattle.paris_machine.specs.Events.{reply_to}
-use Rattle.paris_desk.specs.declared.records.Entry.{Entry}
-use Rattle.paris_desk.specs.History.{Legal, state_of}
+use Rattle.paris_records.specs.declared.records.Entry.{Entry}
+use Rattle.paris_records.specs.History.{Legal, state_of}
 
 -- the first word is the number of entries, which are a legal history; the second word stays 0
 pub record IsKept (cells : List Cell) (log : List Entry) : Type 0 where

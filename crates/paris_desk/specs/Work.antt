@@ -5,7 +5,7 @@ use Rattle.paris_names.specs.declared.faults.Fault.{Fault}
 use Rattle.paris_events.specs.declared.verdicts.Verdict.{Verdict}
 use Rattle.paris_machine.specs.declared.events.Event.TheVariants as EventCase
 use Rattle.paris_machine.specs.declared.events.Reply.TheVariants as ReplyCase
-use Rattle.paris_desk.specs.declared.records.Receipt.{Receipt}
+use Rattle.paris_records.specs.declared.records.Receipt.{Receipt}
 use Rattle.paris_desk.specs.Seats.{Sitting}
 use Rattle.paris_desk.specs.Calls.{Excused}
 

@@ -4,9 +4,9 @@ ghost use Rattle.std.specs.Prelude.{◌≡◌, ◌≢◌, ◌<◌, ◌≤◌, �
 ghost use mathlib.Core.List.{IsPrefix};
 ghost use Rattle.std.specs.List.{sum_by};
 ghost use Rattle.std.specs.Arc.{arc_value};
-ghost use Rattle.paris_desk.specs.History.{Legal, state_of};
-ghost use Rattle.paris_desk.specs.Agreement.{Agree, list_of};
-ghost use Rattle.paris_desk.specs.Receipts.{IsPart, receipts_in};
+ghost use Rattle.paris_records.specs.History.{Legal, state_of};
+ghost use Rattle.paris_records.specs.Agreement.{Agree, list_of};
+ghost use Rattle.paris_records.specs.Receipts.{IsPart, receipts_in};
 ghost use Rattle.paris_desk.specs.Closing.{AreHere, AreWithin, Hinders, IsAhead, by_number, has_seat, is_unopened, past_of, receipts_of};
 
 use crate::desk::Desk;
@@ -14,9 +14,9 @@ use crate::hold::Locked;
 use crate::log::Known;
 use crate::office::Office;
 use crate::publishing::end;
-use crate::records::{Entry, Receipt};
 use crate::seat::Seat;
 use paris_book::Book;
+use paris_records::{Entry, Receipt};
 use std::alloc::Global;
 use std::sync::ledger::Share;
 use std::sync::{Arc, Mutex, Wait};

@@ -2,11 +2,11 @@
 
 ghost use Rattle.std.specs.Prelude.{◌≡◌, ◌≤◌, [], drop, IfOk, IfErr};
 ghost use Rattle.std.specs.Arc.{arc_value};
-ghost use Rattle.paris_desk.specs.History.{state_of};
+ghost use Rattle.paris_records.specs.History.{state_of};
+ghost use Rattle.paris_records.specs.declared.limits.TheConstants.{MAX_HISTORY, MAX_SEATS};
 ghost use Rattle.paris_desk.specs.Rules.{posted};
 ghost use Rattle.paris_desk.specs.Seats.{fresh};
 ghost use Rattle.paris_desk.specs.Calls.{Called, Unrecorded};
-ghost use Rattle.paris_desk.specs.declared.limits.TheConstants.{MAX_HISTORY, MAX_SEATS};
 
 use crate::hold::Locked;
 use crate::log::Known;

@@ -3,7 +3,7 @@
 ghost use Rattle.std.specs.Prelude.{◌≡◌, ◌≤◌, [], drop, IfOk, IfErr, length};
 ghost use Rattle.std.specs.Arc.{arc_value};
 ghost use Rattle.paris_names.specs.Faults.{IsFaultOf};
-ghost use Rattle.paris_desk.specs.History.{state_of};
+ghost use Rattle.paris_records.specs.History.{state_of};
 ghost use Rattle.paris_desk.specs.Calls.{Recorded, hold_fault};
 ghost use Rattle.paris_desk.specs.Rules.{posted};
 
@@ -12,11 +12,11 @@ use crate::office::Office;
 use crate::preparing::{Prepared, prepare};
 use crate::published::{DeskWriter, Published};
 use crate::publishing::publish;
-use crate::records::Entry;
 use crate::seat::Seat;
 use paris_book::Book;
 use paris_machine::{Event, Reply};
 use paris_names::Fault;
+use paris_records::Entry;
 use std::alloc::Global;
 use std::marker::Model;
 use std::mem;
@@ -41,8 +41,8 @@ pub struct Locked<L: Office> {
 impl<L: Office> Model for Locked<L> {
     ghost use Rattle.std.specs.Prelude.{◌≡◌, ◌≤◌, List, [], length, drop, IsSomeAnd};
     ghost use Rattle.std.specs.Arc.{arc_value};
-    ghost use Rattle.paris_desk.specs.declared.records.Entry.{Entry};
-    ghost use Rattle.paris_desk.specs.History.{Legal, state_of};
+    ghost use Rattle.paris_records.specs.declared.records.Entry.{Entry};
+    ghost use Rattle.paris_records.specs.History.{Legal, state_of};
     ghost use Rattle.paris_desk.specs.Rules.{posted};
 
     ghost Value = { List Entry };

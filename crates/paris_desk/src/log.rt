@@ -3,12 +3,12 @@
 
 ghost use Rattle.std.specs.Prelude.{◌≡◌, ◌+◌, ◌==◌, ◌<◌, ◌≤◌, ◌^◌, ◌++◌, ◌∷◌, ◌⊎◌, [], length, IfSome};
 ghost use mathlib.Core.List.{IsPrefix};
-ghost use Rattle.paris_desk.specs.History.{Legal};
+ghost use Rattle.paris_records.specs.History.{Legal};
 ghost use Rattle.paris_desk.specs.Rules.{MayFollow, head_of};
 
 use crate::office::Office;
-use crate::records::Entry;
 use logbook::{Gain, Offer, Plain, Play, Rule, Seen, Word};
+use paris_records::Entry;
 use std::marker::{Model, PhantomData};
 
 /// The rule of the log: its first word is the number of its entries, and they are a legal history.
@@ -76,8 +76,8 @@ pub struct Known<L: Office> {
 
 impl<L: Office> Model for Known<L> {
     ghost use Rattle.std.specs.Prelude.{◌≡◌, List, length};
-    ghost use Rattle.paris_desk.specs.declared.records.Entry.{Entry};
-    ghost use Rattle.paris_desk.specs.History.{Legal};
+    ghost use Rattle.paris_records.specs.declared.records.Entry.{Entry};
+    ghost use Rattle.paris_records.specs.History.{Legal};
 
     ghost Value = { List Entry };
 

@@ -4,11 +4,11 @@ ghost use Rattle.std.specs.Prelude.{◌≡◌, IfOk, IfErr, OnOk, OnErr};
 ghost use Rattle.paris_machine.specs.Events.{reply_to, after};
 ghost use Rattle.paris_machine.specs.declared.events.Event.TheVariants as EventCase;
 
-use crate::copies::copy_of_reply;
 use paris_book::Book;
 use paris_events::Edit;
 use paris_machine::{Event, Reply};
 use paris_names::{KeyName, Spot};
+use paris_records::copy_of_reply;
 use std::alloc::{AllocError, Global};
 
 /// A reply for the caller, for the entry and for the receipt.

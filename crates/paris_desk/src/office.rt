@@ -4,8 +4,8 @@ ghost use Rattle.std.specs.Prelude.{◌≡◌, []};
 ghost use Rattle.paris_desk.specs.Rules.{head_of};
 
 use crate::log::{Head, Known, Law};
-use crate::records::Entry;
 use logbook::{Seen, Start, Word};
+use paris_records::Entry;
 use std::marker::{Brand, PhantomData};
 use std::sync::ledger::{Blank, Ledger};
 

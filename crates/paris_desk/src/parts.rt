@@ -7,8 +7,8 @@ ghost use Rattle.paris_desk.specs.Seats.{Sitting, sitting};
 use crate::log::Known;
 use crate::office::Office;
 use crate::published::DeskReader;
-use crate::records::{Front, Receipt};
 use crate::seat::Seat;
+use paris_records::{Front, Receipt};
 use std::marker::Model;
 use std::sync::ledger::Share;
 
@@ -32,8 +32,8 @@ pub struct Rest<L: Office> {
 
 impl<L: Office> Model for Rest<L> {
     ghost use Rattle.std.specs.Prelude.{◌≡◌, ◌≤◌, length};
+    ghost use Rattle.paris_records.specs.Receipts.{IsPart};
     ghost use Rattle.paris_desk.specs.Seats.{Sitting, sitting};
-    ghost use Rattle.paris_desk.specs.Receipts.{IsPart};
 
     ghost Value = { Sitting };
 

@@ -2,18 +2,18 @@
 
 ghost use Rattle.std.specs.Prelude.{◌≡◌, IfOk};
 ghost use Rattle.std.specs.Arc.{arc_value};
-ghost use Rattle.paris_desk.specs.History.{state_of};
+ghost use Rattle.paris_records.specs.History.{state_of};
 ghost use Rattle.paris_desk.specs.Rules.{posted};
 
 use crate::log::{Known, Law};
 use crate::office::Office;
-use crate::records::Entry;
 use crossbeam_utils::rule::{Outcome, Protocol};
 use left_right::Absorb;
 use left_right::reader::{Reader, Reading};
 use left_right::writer::Writer;
 use logbook::Seen;
 use paris_book::Book;
+use paris_records::Entry;
 use std::alloc::{AllocError, Global};
 use std::collections::LinkedList;
 use std::marker::{Model, PhantomData};
@@ -30,7 +30,7 @@ pub struct Published {
 impl Model for Published {
     ghost use Rattle.std.specs.Prelude.{◌≡◌, length};
     ghost use Rattle.std.specs.Arc.{arc_value};
-    ghost use Rattle.paris_desk.specs.History.{Legal, state_of};
+    ghost use Rattle.paris_records.specs.History.{Legal, state_of};
     ghost use Rattle.paris_desk.specs.Rules.{Posted, posted};
 
     ghost Value = { Posted };

@@ -7,7 +7,7 @@ ghost use Rattle.paris_desk.specs.Pasts.{Learned};
 use crate::log::Known;
 use crate::office::Office;
 use crate::published::DeskReader;
-use crate::records::{Front, Receipt};
+use paris_records::{Front, Receipt};
 use std::alloc::Global;
 use std::marker::Model;
 use std::sync::ledger::Share;
@@ -25,8 +25,8 @@ pub struct Seat<L: Office> {
 
 impl<L: Office> Model for Seat<L> {
     ghost use Rattle.std.specs.Prelude.{◌≡◌, ◌≤◌, length};
+    ghost use Rattle.paris_records.specs.Receipts.{IsPart};
     ghost use Rattle.paris_desk.specs.Seats.{Sitting, sitting};
-    ghost use Rattle.paris_desk.specs.Receipts.{IsPart};
 
     ghost Value = { Sitting };
 

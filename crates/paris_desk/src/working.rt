@@ -1,7 +1,7 @@
 //! Work: a seat takes orders, executes them and brings what came of them.
 
 ghost use Rattle.std.specs.Prelude.{List, [], IfOk, IfErr};
-ghost use Rattle.paris_desk.specs.declared.records.Receipt.{Receipt};
+ghost use Rattle.paris_records.specs.declared.records.Receipt.{Receipt};
 ghost use Rattle.paris_desk.specs.Calls.{Excused};
 ghost use Rattle.paris_desk.specs.Work.{Gained, Left, Turn, Worked, Stopped};
 

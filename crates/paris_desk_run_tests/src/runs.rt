@@ -1,7 +1,7 @@
 //! Runs of random sessions in threads: at the end of each the desk is closed and audited, and its history is told again.
 
 ghost use Rattle.std.specs.Prelude.{◌≡◌, ◌≤◌};
-ghost use Rattle.paris_desk.specs.declared.limits.TheConstants.{MAX_HISTORY, MAX_SEATS};
+ghost use Rattle.paris_records.specs.declared.limits.TheConstants.{MAX_HISTORY, MAX_SEATS};
 
 use crate::dice::Dice;
 use crate::eyes::Eyes;
@@ -9,7 +9,8 @@ use crate::first::begins;
 use crate::replay::{Met, NOTHING_MET, agrees};
 use crate::seats::{Player, Shape, Shared, finishes, plays, width_of};
 use crate::spellings::{FIRST_FIELDS, name};
-use paris_desk::{CloseFault, Closed, Desk, Entry, Office, Opening, Seat, audit, close};
+use paris_audit::audit;
+use paris_desk::{CloseFault, Closed, Desk, Entry, Office, Opening, Seat, close};
 use paris_events::{Edit, EditReply};
 use paris_names::{Fault, Items};
 use std::alloc::{AllocError, Global};

@@ -1,7 +1,7 @@
 //! Tests of desks: what their seats do, one after another and in threads, and how the desks are ended.
 
 ghost use Rattle.std.specs.Prelude.{◌≡◌, ◌≤◌};
-ghost use Rattle.paris_desk.specs.declared.limits.TheConstants.{MAX_HISTORY, MAX_SEATS};
+ghost use Rattle.paris_records.specs.declared.limits.TheConstants.{MAX_HISTORY, MAX_SEATS};
 
 use crate::endings::Ending::{Closes, IsDiscarded, IsSpoilt, Misses};
 use crate::endings::Spoil::*;

@@ -1,6 +1,7 @@
 //! How desks are ended, and what is left of them.
 
-use paris_desk::{Cause, CloseFault, Closed, Desk, Office, Receipt, Seat, audit, close};
+use paris_audit::audit;
+use paris_desk::{Cause, CloseFault, Closed, Desk, Office, Receipt, Seat, close};
 use paris_machine::{Event, Reply};
 use paris_names::Fault;
 use std::alloc::Global;

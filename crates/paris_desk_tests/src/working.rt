@@ -1,7 +1,7 @@
 //! Tests of work: seats that take, execute and bring, by themselves and in threads.
 
 ghost use Rattle.std.specs.Prelude.{◌≡◌, ◌≤◌};
-ghost use Rattle.paris_desk.specs.declared.limits.TheConstants.{MAX_HISTORY, MAX_SEATS};
+ghost use Rattle.paris_records.specs.declared.limits.TheConstants.{MAX_HISTORY, MAX_SEATS};
 
 use crate::endings::Ending::Closes;
 use crate::endings::{Ending, ends};

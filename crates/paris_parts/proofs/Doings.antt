@@ -5,7 +5,7 @@ use Rattle.std.specs.List.{All, AllZip}
 use Rattle.std.proofs.lemmas.List.{map-append, take_more}
 use Rattle.std.proofs.lemmas.List.Elements.{All-cons, All-head, All-nil, All-tail}
 use Rattle.paris_names.specs.declared.faults.Fault.{Fault}
-use Rattle.paris_desk.specs.declared.records.Receipt.{Receipt}
+use Rattle.paris_records.specs.declared.records.Receipt.{Receipt}
 use Rattle.paris_desk.specs.Pasts.{Learned}
 use Rattle.paris_desk.specs.Seats.{Sitting}
 use Rattle.paris_events.specs.declared.rows.RowFault.{RowFault}

@@ -10,12 +10,12 @@ use Rattle.paris_machine.specs.State.{State}
 use Rattle.paris_machine.specs.Settling.{all_settled}
 use Rattle.paris_session.specs.Transcript.{lines, start, with_book, replies, after_lines}
 use Rattle.paris_session.specs.declared.answers.Summary.{Summary}
-use Rattle.paris_desk.specs.declared.records.Entry.{Entry}
-use Rattle.paris_desk.specs.declared.records.Receipt.{Receipt}
-use Rattle.paris_desk.specs.Agreement.{Agree, list_of}
+use Rattle.paris_records.specs.declared.records.Entry.{Entry}
+use Rattle.paris_records.specs.declared.records.Receipt.{Receipt}
+use Rattle.paris_records.specs.Agreement.{Agree, list_of}
+use Rattle.paris_records.specs.History.{state_of}
+use Rattle.paris_records.specs.Receipts.{receipts_in}
 use Rattle.paris_desk.specs.Closing.{by_number, past_of}
-use Rattle.paris_desk.specs.History.{state_of}
-use Rattle.paris_desk.specs.Receipts.{receipts_in}
 use Rattle.paris_desk.specs.Seats.{Sitting, fresh}
 use Rattle.paris_parts.specs.Jobs.{AreDone, Doing, IsShort}
 use Rattle.paris_parts.specs.Parts.{cut, is_cut, parts}

@@ -18,10 +18,10 @@ use Rattle.paris_parts.specs.declared.asked.Asked.{Asked}
 use Rattle.paris_parts.specs.declared.asked.Asked.TheVariants as asks
 use Rattle.paris_parts.proofs.Doings.{lines_more}
 use Rattle.paris_parts.proofs.Steps.{calls, from_first, looks, moves_more, stays, still}
+use Rattle.paris_records.specs.History.{state_of}
+use Rattle.paris_records.specs.declared.records.Entry.{Entry}
+use Rattle.paris_records.specs.declared.records.Receipt.{Receipt}
 use Rattle.paris_desk.specs.Calls.{Called}
-use Rattle.paris_desk.specs.History.{state_of}
-use Rattle.paris_desk.specs.declared.records.Entry.{Entry}
-use Rattle.paris_desk.specs.declared.records.Receipt.{Receipt}
 use Rattle.paris_desk.specs.Seats.{Sitting}
 use Rattle.paris_view.specs.Looks.{Looked, Missed}
 use Rattle.paris_parts.specs.Hands.{Hand, Answers, AnswersAsked, Plays, asked_by_line, empty_hand, faults_among, is_skipped, plainly, refused, told, with_command}

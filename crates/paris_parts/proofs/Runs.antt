@@ -9,13 +9,13 @@ use Rattle.std.proofs.lemmas.List.{get_or_append_left, get_or-append_right, get_
 use Rattle.std.proofs.Math.Seq.{take-append_seam}
 use Rattle.std.proofs.lemmas.List.Elements.{All-cons, All-get_or, All-nil}
 use Rattle.std.proofs.lemmas.Option.{slice_get-get_or}
-use Rattle.paris_desk.specs.Agreement.{list_of}
+use Rattle.paris_records.specs.Agreement.{list_of}
+use Rattle.paris_records.specs.declared.limits.TheConstants.{MAX_HISTORY}
+use Rattle.paris_records.specs.declared.records.Entry.{Entry}
+use Rattle.paris_records.specs.declared.records.Receipt.{Receipt}
+use Rattle.paris_records.specs.Receipts.{receipts_in}
 use Rattle.paris_desk.specs.Closing.{by_number, past_of, receipts_of}
-use Rattle.paris_desk.specs.declared.limits.TheConstants.{MAX_HISTORY}
-use Rattle.paris_desk.specs.declared.records.Entry.{Entry}
-use Rattle.paris_desk.specs.declared.records.Receipt.{Receipt}
 use Rattle.paris_desk.specs.Pasts.{Learned}
-use Rattle.paris_desk.specs.Receipts.{receipts_in}
 use Rattle.paris_desk.specs.Seats.{Sitting, sitting, fresh}
 use Rattle.paris_desk.specs.Work.{Gained, Worked}
 use Rattle.paris_desk.proofs.Lists.{by_number_at}

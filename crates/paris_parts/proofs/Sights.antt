@@ -4,10 +4,10 @@ use Rattle.std.specs.Prelude.{◌==◌, if◌then◌else◌}
 use Rattle.std.specs.List.{All}
 use Rattle.std.proofs.lemmas.List.Elements.{All-cons, All-head, All-nil, All-tail}
 use mathlib.Core.List.{IsPrefix}
-use Rattle.paris_desk.specs.declared.records.Entry.{Entry}
-use Rattle.paris_desk.specs.declared.records.Receipt.{Receipt}
-use Rattle.paris_desk.specs.History.{receipt}
-use Rattle.paris_desk.specs.Receipts.{receipts_in}
+use Rattle.paris_records.specs.declared.records.Entry.{Entry}
+use Rattle.paris_records.specs.declared.records.Receipt.{Receipt}
+use Rattle.paris_records.specs.History.{receipt}
+use Rattle.paris_records.specs.Receipts.{receipts_in}
 use Rattle.paris_desk.specs.Seats.{Sitting}
 use Rattle.paris_desk.proofs.Prefixes.{prefix_length, prefix_trans}
 use Rattle.paris_parts.specs.Seeing.{Glimpses, Sees}

@@ -5,9 +5,9 @@ use Rattle.std.proofs.lemmas.List.Elements.{All-cons, All-head, All-nil, All-tai
 use mathlib.Core.List.{IsPrefix}
 use Rattle.paris_machine.specs.declared.events.Event.{Event}
 use Rattle.paris_machine.specs.declared.events.Reply.{Reply}
-use Rattle.paris_desk.specs.declared.records.Entry.{Entry}
-use Rattle.paris_desk.specs.declared.records.Receipt.{Receipt}
-use Rattle.paris_desk.specs.History.{entry, receipt}
+use Rattle.paris_records.specs.declared.records.Entry.{Entry}
+use Rattle.paris_records.specs.declared.records.Receipt.{Receipt}
+use Rattle.paris_records.specs.History.{entry, receipt}
 use Rattle.paris_desk.specs.Calls.{Called}
 use Rattle.paris_desk.specs.Seats.{Sitting, called}
 use Rattle.paris_desk.proofs.Prefixes.{prefix_length, prefix_self, prefix_snoc, prefix_trans}

@@ -16,9 +16,9 @@ use Rattle.paris_text.specs.declared.commands.Command.{Command}
 use Rattle.paris_text.specs.declared.commands.Command.TheVariants as command
 use Rattle.paris_replies.specs.Replies.{ok_text, edit_text, order_text, nothing_text, verdict_text, list_text, faults_text, refusal_text}
 use Rattle.paris_session.specs.Transcript.{longest_line, order_at, shown_text}
-use Rattle.paris_desk.specs.History.{state_of}
-use Rattle.paris_desk.specs.declared.records.Entry.{Entry}
-use Rattle.paris_desk.specs.declared.records.Receipt.{Receipt}
+use Rattle.paris_records.specs.History.{state_of}
+use Rattle.paris_records.specs.declared.records.Entry.{Entry}
+use Rattle.paris_records.specs.declared.records.Receipt.{Receipt}
 use Rattle.paris_parts.specs.declared.asked.Asked.{Asked}
 use Rattle.paris_parts.specs.declared.asked.Asked.TheVariants as asks
 

@@ -2,9 +2,9 @@
 use Rattle.std.specs.Prelude.{◌≡◌, ◌<◌, ◌≤◌, ℕ, List, [], ◌∷◌, length, slice_get, MatchOption, Result, Ok, IfOk}
 use Rattle.std.specs.List.{AllZip}
 use Rattle.paris_names.specs.declared.faults.Fault.{Fault}
-use Rattle.paris_desk.specs.declared.limits.TheConstants.{MAX_HISTORY}
-use Rattle.paris_desk.specs.declared.records.Entry.{Entry}
-use Rattle.paris_desk.specs.declared.records.Receipt.{Receipt}
+use Rattle.paris_records.specs.declared.limits.TheConstants.{MAX_HISTORY}
+use Rattle.paris_records.specs.declared.records.Entry.{Entry}
+use Rattle.paris_records.specs.declared.records.Receipt.{Receipt}
 use Rattle.paris_desk.specs.Pasts.{Learned}
 use Rattle.paris_desk.specs.Seats.{Sitting}
 use Rattle.paris_desk.specs.Work.{Gained, Worked}

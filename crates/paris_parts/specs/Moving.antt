@@ -4,7 +4,7 @@ use Rattle.std.specs.List.{All}
 use mathlib.Core.List.{IsPrefix}
 use Rattle.paris_names.specs.declared.faults.Fault.{Fault}
 use Rattle.paris_names.specs.declared.faults.Fault.TheVariants.{StrangeSeat, NoEntry}
-use Rattle.paris_desk.specs.declared.records.Receipt.{Receipt}
+use Rattle.paris_records.specs.declared.records.Receipt.{Receipt}
 use Rattle.paris_desk.specs.Seats.{Sitting}
 use Rattle.paris_desk.specs.Work.{Gained}
 use Rattle.paris_parts.specs.declared.asked.Asked.{Asked}

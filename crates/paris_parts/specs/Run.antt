@@ -11,12 +11,12 @@ use Rattle.paris_parts.specs.declared.run.DeskRunFault.TheVariants.{Run, Parts, 
 use Rattle.paris_session.specs.Transcript.{start, with_book, replies, after_lines}
 use Rattle.paris_session.specs.Transcript.{Sitting as Session}
 use Rattle.paris_session.specs.declared.answers.Summary.{Summary}
-use Rattle.paris_desk.specs.declared.limits.TheConstants.{MAX_SEATS}
-use Rattle.paris_desk.specs.declared.records.Entry.{Entry}
-use Rattle.paris_desk.specs.Agreement.{Agree, list_of}
+use Rattle.paris_records.specs.declared.limits.TheConstants.{MAX_SEATS}
+use Rattle.paris_records.specs.declared.records.Entry.{Entry}
+use Rattle.paris_records.specs.Agreement.{Agree, list_of}
+use Rattle.paris_records.specs.History.{state_of}
+use Rattle.paris_records.specs.Receipts.{receipts_in}
 use Rattle.paris_desk.specs.Closing.{by_number, past_of}
-use Rattle.paris_desk.specs.History.{state_of}
-use Rattle.paris_desk.specs.Receipts.{receipts_in}
 use Rattle.paris_desk.specs.Seats.{Sitting, sitting}
 use Rattle.paris_parts.specs.Jobs.{Doing, IsDone}
 use Rattle.paris_parts.specs.Parts.{parts}

@@ -3,7 +3,7 @@ use Rattle.std.specs.Prelude.{ℕ, zero, suc, ◌+◌, Bool, true, false, List, 
 use Rattle.std.specs.Fmt.{decimal}
 use Rattle.paris_machine.specs.declared.events.Event.{Event}
 use Rattle.paris_machine.specs.declared.events.Event.TheVariants as event
-use Rattle.paris_desk.specs.declared.records.Entry.{Entry}
+use Rattle.paris_records.specs.declared.records.Entry.{Entry}
 use Rattle.paris_desk.specs.Seats.{sitting}
 use Rattle.paris_parts.specs.Jobs.{Doing, begun_at}
 

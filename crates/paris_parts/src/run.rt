@@ -4,15 +4,15 @@ ghost use Rattle.std.specs.Prelude.{◌≡◌, ◌≤◌, ◌<◌, ◌*◌, ◌^
 ghost use Rattle.std.specs.List.{All};
 ghost use Rattle.std.specs.Io.KnownBytes.{Appends, Consumes, Keeps, IsAtEnd};
 ghost use Rattle.paris_calls.specs.Calls.{no_marks};
-ghost use Rattle.paris_desk.specs.declared.limits.TheConstants.{MAX_HISTORY, MAX_SEATS};
+ghost use Rattle.paris_records.specs.declared.limits.TheConstants.{MAX_HISTORY, MAX_SEATS};
 ghost use Rattle.paris_names.specs.declared.limits.TheConstants.{MAX_WORKERS};
 ghost use Rattle.paris_session.specs.declared.run.RunFault.TheVariants as RunCase;
 ghost use Rattle.paris_session.specs.Run.{most_reads};
 ghost use mathlib.Core.List.{IsPrefix};
+ghost use Rattle.paris_records.specs.Agreement.{Agree, list_of};
+ghost use Rattle.paris_records.specs.History.{state_of};
+ghost use Rattle.paris_records.specs.Receipts.{receipts_in};
 ghost use Rattle.paris_desk.specs.Closing.{by_number, past_of};
-ghost use Rattle.paris_desk.specs.Agreement.{Agree, list_of};
-ghost use Rattle.paris_desk.specs.History.{state_of};
-ghost use Rattle.paris_desk.specs.Receipts.{receipts_in};
 ghost use Rattle.paris_desk.specs.Seats.{fresh};
 ghost use Rattle.paris_parts.specs.Jobs.{AreDone, Doing, IsShort};
 ghost use Rattle.paris_parts.specs.declared.run.DeskRunFault.TheVariants as DeskCase;
@@ -24,9 +24,10 @@ use crate::last::play_last;
 use crate::parts::{Part, parts_of};
 use crate::reading::read_all;
 use crate::texts::{closed_text, edits_in, parts_text};
+use paris_audit::audit;
 use paris_calls::{Tally, write_out};
 use paris_desk::{
-    Cause, CloseFault, Closed, Desk, MAX_HISTORY, MAX_SEATS, Office, Opening, Seat, audit, close,
+    Cause, CloseFault, Closed, Desk, MAX_HISTORY, MAX_SEATS, Office, Opening, Seat, close,
 };
 use paris_exec::Gate;
 use paris_names::Fault;

@@ -1,8 +1,8 @@
 -- Why a look is refused.
 use Rattle.std.proofs.Common.{◌≡◌, ◌<◌, ℕ, List, length, arith, sym, ap, ◌∙◌, subst}
 use mathlib.Core.List.{IsPrefix}
-use Rattle.paris_desk.specs.declared.records.Entry.{Entry}
-use Rattle.paris_desk.specs.History.{Legal}
+use Rattle.paris_records.specs.declared.records.Entry.{Entry}
+use Rattle.paris_records.specs.History.{Legal}
 use Rattle.paris_desk.specs.Pasts.{Joined}
 use Rattle.paris_desk.specs.Seats.{Sitting}
 use Rattle.paris_view.specs.Looks.{IsShort}

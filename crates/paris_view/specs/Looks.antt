@@ -7,7 +7,7 @@ use Rattle.paris_names.specs.declared.ids.Spot.{Spot}
 use Rattle.paris_names.specs.declared.names.KeyName.{KeyName}
 use Rattle.paris_machine.specs.Show.{show_reply}
 use Rattle.paris_machine.specs.declared.events.Shown.{Shown}
-use Rattle.paris_desk.specs.History.{Legal, state_of}
+use Rattle.paris_records.specs.History.{Legal, state_of}
 use Rattle.paris_desk.specs.Seats.{Sitting}
 
 -- a seat while it looks, and the answer of the look

@@ -2,7 +2,7 @@
 
 ghost use Rattle.std.specs.Prelude.{◌≡◌, length, Err, IsOk, MatchOption, MatchResult};
 ghost use Rattle.paris_machine.specs.Show.{show_reply};
-ghost use Rattle.paris_desk.specs.History.{state_of};
+ghost use Rattle.paris_records.specs.History.{state_of};
 ghost use Rattle.paris_desk.specs.Seats.{Sitting, sitting};
 ghost use Rattle.paris_view.specs.Entering.{IsUnmet};
 ghost use Rattle.paris_view.specs.Looks.{Looked};

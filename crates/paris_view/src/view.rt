@@ -3,7 +3,7 @@
 ghost use Rattle.std.specs.Prelude.{◌≡◌, Ok, Err, IsOk, IfOk, IfErr, MatchOption};
 ghost use Rattle.paris_machine.specs.Show.{show_reply};
 ghost use Rattle.paris_book.specs.Among.{look_shown};
-ghost use Rattle.paris_desk.specs.History.{state_of};
+ghost use Rattle.paris_records.specs.History.{state_of};
 ghost use Rattle.paris_view.specs.Entering.{fault_of};
 ghost use Rattle.paris_view.specs.Looks.{Held as HeldSeat, Looked, Missed};
 
@@ -30,7 +30,7 @@ pub struct Held<'a, L: Office> {
 impl<'a, L: Office> Model for Held<'a, L> {
     ghost use Rattle.std.specs.Prelude.{◌≡◌, IsOk};
     ghost use Rattle.paris_machine.specs.Show.{show_reply};
-    ghost use Rattle.paris_desk.specs.History.{state_of};
+    ghost use Rattle.paris_records.specs.History.{state_of};
     ghost use Rattle.paris_view.specs.Looks.{Held as HeldSeat};
 
     ghost Value = { HeldSeat };

@@ -1,11 +1,12 @@
 //! Tests of looks: what two seats see, one after another.
 
 ghost use Rattle.std.specs.Prelude.{◌≡◌, ◌≤◌};
-ghost use Rattle.paris_desk.specs.declared.limits.TheConstants.{MAX_HISTORY, MAX_SEATS};
+ghost use Rattle.paris_records.specs.declared.limits.TheConstants.{MAX_HISTORY, MAX_SEATS};
 
 use crate::spellings::{Text, instr_of, key, name};
+use paris_audit::audit;
 use paris_book::Look;
-use paris_desk::{CloseFault, Desk, Front, Office, Opening, Seat, audit, close};
+use paris_desk::{CloseFault, Desk, Front, Office, Opening, Seat, close};
 use paris_events::{Edit, Verdict};
 use paris_exec::execute;
 use paris_names::Spot::{After, End};

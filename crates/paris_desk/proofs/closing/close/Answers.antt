@@ -1,12 +1,12 @@
 use Rattle.std.proofs.Common.{◌≡◌, ◌<◌, ◌∙◌, ℕ, List, sym, ap, arith, subst, length, sum_by}
 use mathlib.Core.List.{IsPrefix}
-use Rattle.paris_desk.specs.declared.records.Entry.{Entry}
-use Rattle.paris_desk.specs.declared.records.Receipt.{Receipt}
-use Rattle.paris_desk.specs.Agreement.{Accounted, list_of}
+use Rattle.paris_records.specs.declared.records.Entry.{Entry}
+use Rattle.paris_records.specs.declared.records.Receipt.{Receipt}
+use Rattle.paris_records.specs.Agreement.{Accounted, list_of}
+use Rattle.paris_records.specs.Receipts.{IsPart, receipts_in}
+use Rattle.paris_records.proofs.Sums.{accounted}
 use Rattle.paris_desk.specs.Closing.{by_number, past_of, receipts_of}
-use Rattle.paris_desk.specs.Receipts.{IsPart, receipts_in}
 use Rattle.paris_desk.proofs.Lists.{each_list}
-use Rattle.paris_desk.proofs.Sums.{accounted}
 use Rattle.paris_desk.proofs.closing.close.Goals as goal
 
 pub returns-clause-begins : goal.returns-clause-begins

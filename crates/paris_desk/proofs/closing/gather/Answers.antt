@@ -1,12 +1,12 @@
 use Rattle.std.proofs.Common.{◌≡◌, ◌≤◌, ◌∙◌, sym, ap, arith, length, subst, ℕ, List}
 use mathlib.Core.List.{IsPrefix}
 use borrow.Author.Count.{below_more}
-use Rattle.paris_desk.proofs.Counting.{part_grows}
+use Rattle.paris_records.proofs.Counting.{part_grows}
+use Rattle.paris_records.specs.declared.records.Entry.{Entry}
+use Rattle.paris_records.specs.declared.records.Receipt.{Receipt}
+use Rattle.paris_records.specs.Receipts.{IsPart}
 use Rattle.paris_desk.proofs.Gathering.{one_more, sum_more}
-use Rattle.paris_desk.specs.declared.records.Entry.{Entry}
-use Rattle.paris_desk.specs.declared.records.Receipt.{Receipt}
 use Rattle.paris_desk.specs.Closing.{past_of, receipts_of}
-use Rattle.paris_desk.specs.Receipts.{IsPart}
 use Rattle.paris_desk.specs.Seats.{Sitting}
 use Rattle.paris_desk.proofs.closing.gather.Goals as goal
 

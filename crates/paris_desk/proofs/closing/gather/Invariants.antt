@@ -1,7 +1,7 @@
 use Rattle.std.proofs.Common.{◌≡◌, ◌+◌, ◌<◌, ◌≤◌, ℕ, length, map, vec_len, vec_capacity, sum_by}
 use mathlib.Core.List.{IsPrefix}
+use Rattle.paris_records.specs.Receipts.{IsPart}
 use Rattle.paris_desk.specs.Closing.{by_number, has_seat, past_of, receipts_of}
-use Rattle.paris_desk.specs.Receipts.{IsPart}
 use Rattle.paris_desk.proofs.closing.gather.Given as goal
 
 abbrev pub invariant-loop-number : goal.invariant-loop-number

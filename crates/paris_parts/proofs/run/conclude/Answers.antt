@@ -1,8 +1,8 @@
 use Rattle.std.proofs.Common.{◌≡◌, true, ap, ◌∙◌, sym, refl, subst, arith, map, ℕ, List, ◌++◌, Vec, Global}
 use Rattle.std.specs.Prelude.{◌↔◌}
-use Rattle.paris_desk.specs.Agreement.{Agree}
-use Rattle.paris_desk.specs.declared.records.Entry.{Entry}
-use Rattle.paris_desk.specs.declared.records.Receipt.{Receipt}
+use Rattle.paris_records.specs.Agreement.{Agree}
+use Rattle.paris_records.specs.declared.records.Entry.{Entry}
+use Rattle.paris_records.specs.declared.records.Receipt.{Receipt}
 use Rattle.paris_parts.specs.Texts.{edits_in}
 use Rattle.paris_parts.proofs.Ends.{concludes}
 use Rattle.paris_parts.proofs.run.conclude.Goals as goal

@@ -1,6 +1,6 @@
 use Rattle.std.proofs.Common.{◌≡◌, ◌≤◌, ◌∙◌, List, length, ap, arith, subst}
 use mathlib.Core.List.{IsPrefix}
-use Rattle.paris_desk.specs.declared.records.Entry.{Entry}
+use Rattle.paris_records.specs.declared.records.Entry.{Entry}
 use Rattle.paris_desk.specs.Seats.{Sitting}
 use Rattle.paris_desk.proofs.Joining.{back}
 use Rattle.paris_desk.proofs.Pasts.{enters}

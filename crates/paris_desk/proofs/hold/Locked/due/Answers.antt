@@ -1,5 +1,5 @@
 use Rattle.std.proofs.Common.{◌≡◌, ◌≤◌, List, ap, arith, length, subst}
-use Rattle.paris_desk.specs.declared.records.Entry.{Entry}
+use Rattle.paris_records.specs.declared.records.Entry.{Entry}
 use Rattle.paris_desk.proofs.Histories.{strange_due}
 use Rattle.paris_desk.proofs.hold.Locked.due.Goals as goal
 

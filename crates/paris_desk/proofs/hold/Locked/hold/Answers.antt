@@ -2,8 +2,8 @@ use Rattle.std.specs.Prelude.{OnOk, is_err}
 use Rattle.std.proofs.Common.{rules, ◌<◌, ℕ, Result, Ok, Err, false, ◌≡◌, [], ◌∷◌, ◌++◌, ◌+◌, ◌≤◌, length, None, List, sym, ap, ◌∙◌, arith, subst, drop, length-append}
 use mathlib.Core.List.{IsPrefix}
 use Rattle.std.specs.Arc.{arc_value}
-use Rattle.paris_desk.specs.declared.records.Entry.{Entry}
-use Rattle.paris_desk.specs.declared.records.Receipt.{Receipt}
+use Rattle.paris_records.specs.declared.records.Entry.{Entry}
+use Rattle.paris_records.specs.declared.records.Receipt.{Receipt}
 use Rattle.paris_desk.specs.Calls.{hold_fault}
 use Rattle.paris_desk.specs.Rules.{Posted, posted}
 use Rattle.paris_desk.proofs.Histories.{none_due, recorded, state_next}

@@ -1,6 +1,6 @@
 use Rattle.std.proofs.Common.{ap, subst, List}
 use mathlib.Core.List.{IsPrefix}
-use Rattle.paris_desk.specs.declared.records.Entry.{Entry}
+use Rattle.paris_records.specs.declared.records.Entry.{Entry}
 use Rattle.paris_desk.proofs.Prefixes.{prefix_shorter}
 use Rattle.paris_desk.proofs.log.Known.compare.Goals as goal
 

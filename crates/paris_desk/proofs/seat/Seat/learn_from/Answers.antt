@@ -1,7 +1,7 @@
 use Rattle.std.proofs.Common.{◌≡◌, sym, arith, length, ◌≤◌, subst, List}
-use Rattle.paris_desk.specs.declared.records.Entry.{Entry}
-use Rattle.paris_desk.specs.Receipts.{IsPart}
-use Rattle.paris_desk.proofs.Counting.{part_grows}
+use Rattle.paris_records.specs.declared.records.Entry.{Entry}
+use Rattle.paris_records.specs.Receipts.{IsPart}
+use Rattle.paris_records.proofs.Counting.{part_grows}
 use Rattle.paris_desk.proofs.seat.Seat.learn_from.Goals as goal
 use Rattle.paris_desk.proofs.seat.Seat.learn_from.Goals.{then-len, else-len}
 

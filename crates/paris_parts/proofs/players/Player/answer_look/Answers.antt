@@ -1,7 +1,7 @@
 use Rattle.std.proofs.Common.{◌≡◌, ℕ, List, Err, sym, ap, ◌∙◌, subst}
 use Rattle.paris_machine.specs.Show.{show_reply}
 use Rattle.paris_machine.specs.declared.events.Reply.TheVariants as reply
-use Rattle.paris_desk.specs.History.{state_of}
+use Rattle.paris_records.specs.History.{state_of}
 use Rattle.paris_desk.specs.Seats.{Sitting}
 use Rattle.paris_view.specs.Looks.{Looked}
 use Rattle.paris_parts.specs.declared.asked.Asked.TheVariants as asks

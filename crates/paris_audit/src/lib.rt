@@ -1,0 +1,6 @@
+//! The audit: whether a history and the receipts of its seats agree. It needs a book, and no desk.
+#![tactic(auto)]
+
+mod agreement;
+
+pub use agreement::audit;

@@ -1,7 +1,0 @@
-use Rattle.std.proofs.Common.{drop}
-use Rattle.std.specs.Prelude.{◌↔◌}
-use Rattle.paris_desk.specs.Agreement.{InPlaces}
-use Rattle.paris_desk.proofs.agreement.are_in_places.Given as goal
-
-abbrev pub invariant-loop-receipt : goal.invariant-loop-receipt
-invariant-loop-receipt l = InPlaces l.entries l.seat 0 l.receipts ↔ InPlaces l.entries l.seat l.above (drop l.receipt-index l.receipts)

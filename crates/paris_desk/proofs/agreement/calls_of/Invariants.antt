@@ -1,6 +1,0 @@
-use Rattle.std.proofs.Common.{◌≡◌, ◌+◌, drop, ◌≤◌}
-use Rattle.paris_desk.specs.Agreement.{calls_of}
-use Rattle.paris_desk.proofs.agreement.calls_of.Given as goal
-
-abbrev pub invariant-loop-entry : goal.invariant-loop-entry
-invariant-loop-entry l = (l.count + calls_of l.seat (drop l.entry-index l.entries) ≡ calls_of l.seat l.entries) × (l.count ≤ l.entry-index)

@@ -1,0 +1,201 @@
+//! Whether events are the same, and whether replies are. Values in them are compared number by number.
+
+ghost use Rattle.std.specs.Prelude.{◌≡◌, ◌↔◌, IsTrue};
+ghost use Rattle.paris_events.specs.declared.edits.Edit.TheVariants as EditCase;
+
+use paris_events::{Edit, RowLook};
+use paris_exec::{Done, Order};
+use paris_field::SharedValue;
+use paris_machine::{Event, Reply, Shown};
+use paris_model::Instr;
+use paris_names::{Fault, Items, KeyName, Name, Spot};
+
+fn is_same_name(name: Name, other: Name) -> bool
+    ensures { IsTrue result ↔ (name ≡ other) }
+{
+    name == other
+}
+
+fn is_same_key(key: KeyName, other: KeyName) -> bool
+    ensures { IsTrue result ↔ (key ≡ other) }
+{
+    is_same_name(key.name, other.name) && key.flag == other.flag
+}
+
+fn is_same_spot(spot: Spot, other: Spot) -> bool
+    ensures { IsTrue result ↔ (spot ≡ other) }
+{
+    spot == other
+}
+
+fn is_same_fault(fault: Fault, other: Fault) -> bool
+    ensures { IsTrue result ↔ (fault ≡ other) }
+{
+    fault == other
+}
+
+fn is_same_instr(instr: Instr, other: Instr) -> bool
+    ensures { IsTrue result ↔ (instr ≡ other) }
+{
+    instr == other
+}
+
+fn are_same_axes(axes: &[u64], others: &[u64]) -> bool
+    ensures { IsTrue result ↔ (axes.now ≡ others.now) }
+{
+    axes == others
+}
+
+fn are_same_numbers(numbers: &[u128], others: &[u128]) -> bool
+    ensures { IsTrue result ↔ (numbers.now ≡ others.now) }
+{
+    numbers == others
+}
+
+fn are_same_values(values: &[SharedValue], others: &[SharedValue]) -> bool
+    ensures { IsTrue result ↔ (values.now ≡ others.now) }
+{
+    if values.len() != others.len() {
+        return false;
+    }
+    for i in 0..values.len() {
+        if !values[i].get().equals(others[i].get()) {
+            return false;
+        }
+    }
+    true
+}
+
+fn is_same_order(order: &Order, other: &Order) -> bool
+    ensures { IsTrue result ↔ (order.now ≡ other.now) }
+{
+    order.id() == other.id()
+        && order.edition() == other.edition()
+        && order.plan().equals(other.plan())
+        && are_same_values(order.inputs(), other.inputs())
+}
+
+fn is_same_done(done: &Done, other: &Done) -> bool
+    ensures { IsTrue result ↔ (done.now ≡ other.now) }
+{
+    is_same_order(done.order(), other.order())
+}
+
+fn are_same_looks(looks: &[RowLook], others: &[RowLook]) -> bool
+    ensures { IsTrue result ↔ (looks.now ≡ others.now) }
+{
+    looks == others
+}
+
+/// Whether an edit declares a field of this name, set and width.
+fn is_field(edit: &Edit, name: Name, set: Name, width: u64) -> bool
+    ensures { IsTrue result ↔ (EditCase.AddField name set width ≡ edit.now) }
+{
+    match edit {
+        Edit::AddField {
+            name: other,
+            set: other_set,
+            width: other_width,
+        } => {
+            is_same_name(name, *other) && is_same_name(set, *other_set) && width == *other_width
+        }
+        _ => false,
+    }
+}
+
+/// Whether an edit gives a key these values from a processor on.
+fn is_input(edit: &Edit, key: KeyName, from: u64, values: &Items<u128>) -> bool
+    ensures { IsTrue result ↔ (EditCase.Input key from values.now ≡ edit.now) }
+{
+    match edit {
+        Edit::Input {
+            key: other,
+            from: other_from,
+            values: others,
+        } => {
+            is_same_key(key, *other)
+                && from == *other_from
+                && are_same_numbers(values.as_slice(), others.as_slice())
+        }
+        _ => false,
+    }
+}
+
+fn is_same_edit(edit: &Edit, other: &Edit) -> bool
+    ensures { IsTrue result ↔ (edit.now ≡ other.now) }
+{
+    match (edit, other) {
+        (
+            Edit::AddSet { name, axes },
+            Edit::AddSet {
+                name: other,
+                axes: others,
+            },
+        ) => { is_same_name(*name, *other) && are_same_axes(axes.as_slice(), others.as_slice()) }
+        (Edit::AddField { name, set, width }, _) => is_field(other, *name, *set, *width),
+        (Edit::Input { key, from, values }, _) => is_input(other, *key, *from, values),
+        (
+            Edit::Insert { spot, instr },
+            Edit::Insert {
+                spot: other_spot,
+                instr: other,
+            },
+        ) => is_same_spot(*spot, *other_spot) && is_same_instr(*instr, *other),
+        (Edit::Delete(row), Edit::Delete(other)) => row == other,
+        (
+            Edit::Replace { row, instr },
+            Edit::Replace {
+                row: other_row,
+                instr: other,
+            },
+        ) => row == other_row && is_same_instr(*instr, *other),
+        _ => false,
+    }
+}
+
+/// Whether both events are the same.
+pub fn is_same_event(event: &Event, other: &Event) -> bool
+    ensures { IsTrue result ↔ (event.now ≡ other.now) }
+{
+    match (event, other) {
+        (Event::Edit(edit), Event::Edit(other)) => is_same_edit(edit, other),
+        (Event::Take, Event::Take) => true,
+        (Event::Bring(done), Event::Bring(other)) => is_same_done(done, other),
+        (Event::Release, Event::Release) => true,
+        (Event::Show(key, spot), Event::Show(other, other_spot)) => {
+            is_same_key(*key, *other) && is_same_spot(*spot, *other_spot)
+        }
+        (Event::List, Event::List) => true,
+        _ => false,
+    }
+}
+
+fn is_same_shown(shown: &Shown, other: &Shown) -> bool
+    ensures { IsTrue result ↔ (shown.now ≡ other.now) }
+{
+    match (shown, other) {
+        (Shown::Settled(value), Shown::Settled(other)) => value.get().equals(other.get()),
+        (Shown::Pending(row), Shown::Pending(other)) => row == other,
+        _ => false,
+    }
+}
+
+/// Whether both replies are the same.
+pub fn is_same_reply(reply: &Reply, other: &Reply) -> bool
+    ensures { IsTrue result ↔ (reply.now ≡ other.now) }
+{
+    match (reply, other) {
+        (Reply::Edit(Ok(answer)), Reply::Edit(Ok(other))) => answer == other,
+        (Reply::Edit(Err(fault)), Reply::Edit(Err(other))) => is_same_fault(*fault, *other),
+        (Reply::Take(None), Reply::Take(None)) => true,
+        (Reply::Take(Some(order)), Reply::Take(Some(other))) => is_same_order(order, other),
+        (Reply::Bring(verdict), Reply::Bring(other)) => verdict == other,
+        (Reply::Release, Reply::Release) => true,
+        (Reply::Show(Ok(shown)), Reply::Show(Ok(other))) => is_same_shown(shown, other),
+        (Reply::Show(Err(fault)), Reply::Show(Err(other))) => is_same_fault(*fault, *other),
+        (Reply::List(looks), Reply::List(others)) => {
+            are_same_looks(looks.as_slice(), others.as_slice())
+        }
+        _ => false,
+    }
+}
