@@ -2,11 +2,14 @@
 
 import importlib.machinery
 import importlib.util
+import json
 import os
 import shutil
 import sys
-from collections.abc import Callable
+import tempfile
+from collections.abc import Callable, Iterator
 from concurrent.futures import FIRST_COMPLETED, Future, ThreadPoolExecutor, wait
+from contextlib import contextmanager
 from pathlib import Path
 from types import ModuleType
 from typing import Any
@@ -117,3 +120,32 @@ def in_lanes(tasks: dict[Any, Task], lanes: int, memory: int) -> dict[Any, bool]
             for done in wait(running, return_when=FIRST_COMPLETED).done if running else ():
                 ended[running.pop(done)[0]] = done.result()
     return ended
+
+
+def sums(log: str) -> dict[str, dict[str, Any]]:
+    """The seconds, by crate, of its proof, of its tests and of its must-fail edits, and the megabytes of the largest call."""
+    found: dict[str, dict[str, Any]] = {}
+    for call in map(json.loads, Path(log).read_text(encoding="utf-8").splitlines()):
+        words = call["words"]
+        if "--crate-name" in words:
+            crate = found.setdefault(words[words.index("--crate-name") + 1], {"proof": 0, "tests": 0, "edits": 0, "megabytes": 0})
+            is_own = call["folder"].startswith(f"{ROOT}/")
+            part = "edits" if not is_own else "tests" if "--test" in words else "proof"
+            crate[part] = round(crate[part] + call["seconds"], 1)
+            crate["megabytes"] = max(crate["megabytes"], call["megabytes"])
+    return found
+
+
+@contextmanager
+def measured(gate: ModuleType) -> Iterator[None]:
+    """Measures each call of the prover, and leaves what the crates took in COSTS, where checks/gate/costs reads it."""
+    with tempfile.TemporaryDirectory(prefix="costs-") as room:
+        os.environ["TIMED_PROGRAM"], os.environ["TIMED_LOG"] = gate.rtlib.RATTLE, f"{room}/log"
+        Path(room, "log").touch()
+        gate.rtlib.RATTLE = str(Path(__file__).resolve().parent / "timed")
+        try:
+            yield
+        finally:
+            gate.rtlib.RATTLE = os.environ["TIMED_PROGRAM"]
+            COSTS.parent.mkdir(exist_ok=True)
+            COSTS.write_text(json.dumps(sums(f"{room}/log"), indent=1) + "\n")
