@@ -1,10 +1,10 @@
 //! Scripts in parts, whose sessions share a desk: what the program writes for them.
 
+use crate::scripts::runs;
 use crate::tests::words_in;
-use paris_cli::{Tallies, run_words};
+use std::alloc::AllocError;
 use std::process::Abort;
 use std::sync::Wait;
-use std::test::*;
 use std::thread::Threads;
 
 /// Runs a script by some words, and asserts the status, what is written, and the line that names a fault.
@@ -15,27 +15,14 @@ fn assert_run_at_desk<H: Abort + Threads + Wait + Sync + AllocGlobal>(
     status: u8,
     written: &[u8],
     said: &[u8],
-) -> Result<(), Fail> {
+) -> Result<(), AllocError> {
     let words = words_in(rt.alloc(), line)?;
-    let mut reader = script;
-    let mut out = Vec::new(rt.alloc());
-    let mut errors = Vec::new(rt.alloc());
-    let got = run_words(
-        rt,
-        words.as_slice(),
-        &mut reader,
-        &mut out,
-        &mut errors,
-        &mut Tallies::new(),
-    );
-    assert_eq!(rt; out.as_slice(), written);
-    assert_eq!(rt; errors.as_slice(), said);
-    assert_eq!(rt; got, status);
+    assert!(rt; runs(rt, words.as_slice(), script, (status, written, said)));
     Ok(())
 }
 
 #[test]
-fn two_sessions_and_two_workers(rt: HostRuntime) -> Result<(), Fail> {
+fn two_sessions_and_two_workers(rt: HostRuntime) -> Result<(), AllocError> {
     let script =
         b"set S 4\nfield a S 8\nfield b S 8\nfield c S 8\ninsert end u-add-3-1L c a b 8\nsession\ninput a 0 10 20 30 250\nsession\ninput b 0 1 2 3 10\nsession\nshow c end\nshow S.overflow end\nfaults\n";
     let written =
@@ -44,7 +31,7 @@ fn two_sessions_and_two_workers(rt: HostRuntime) -> Result<(), Fail> {
 }
 
 #[test]
-fn an_empty_session(rt: HostRuntime) -> Result<(), Fail> {
+fn an_empty_session(rt: HostRuntime) -> Result<(), AllocError> {
     let script =
         b"set S 4\nfield a S 8\nfield b S 8\ninsert end u-move-constant-1L a 1 8\ninsert end u-move-constant-1L b 2 8\nsession\nsession\nlist\n";
     let written =
@@ -53,7 +40,7 @@ fn an_empty_session(rt: HostRuntime) -> Result<(), Fail> {
 }
 
 #[test]
-fn parts_are_wrong(rt: HostRuntime) -> Result<(), Fail> {
+fn parts_are_wrong(rt: HostRuntime) -> Result<(), AllocError> {
     let one =
         b"set S 4\nfield a S 8\nfield b S 8\nfield c S 8\ninsert end u-add-3-1L c a b 8\ninput a 0 10 20 30 250\ninput b 0 1 2 3 10\nsession\nshow c end\nshow S.overflow end\nfaults\n";
     assert_run_at_desk(&rt, "--desk --workers 2", one, 2, b"", b"wrong parts\n")?;
@@ -66,7 +53,7 @@ fn parts_are_wrong(rt: HostRuntime) -> Result<(), Fail> {
 
 /// A session that has a seat settles nothing, and takes and brings orders of its own. The last part is as any script.
 #[test]
-fn sessions_take_and_bring(rt: HostRuntime) -> Result<(), Fail> {
+fn sessions_take_and_bring(rt: HostRuntime) -> Result<(), AllocError> {
     let script =
         b"set S 4\nfield a S 8\n# a row\ninsert end u-move-constant-1L a 7 8\nsettle\ntake\nbring 1\nbring 2\nshow a end\nshow b end\nlist\nfaults\nrelease\nsession\nsession\nshow a end\nsettle\nsession \n";
     let written =
