@@ -8,7 +8,6 @@ use paris_names::{KeyName, Spot};
 use paris_view::View;
 use std::alloc::{AllocError, Global};
 use std::process::Abort;
-use std::test::*;
 
 /// A seat that only looks, and what it saw: each look as an entry, with the length of the history that was met in place of a seat.
 #[derive(Drop)]
@@ -59,6 +58,31 @@ fn look_of<L: Office>(
     }
 }
 
+/// The number of the last entry that a seat made.
+fn last_of<L: Office>(seat: &Seat<L>) -> u64 {
+    match seat.receipts().last() {
+        Some(receipt) => receipt.number,
+        None => 0,
+    }
+}
+
+/// Keeps what a look showed.
+fn keeps(
+    seen: &mut Vec<Entry>,
+    front: u64,
+    name: &KeyName,
+    spot: Spot,
+    reply: Result<Reply, AllocError>,
+) -> Result<(), AllocError> {
+    let reply = reply?;
+    seen.push(Entry {
+        seat: front,
+        event: Event::Show(*name, spot),
+        reply,
+    })?;
+    Ok(())
+}
+
 /// The second seat learns what the first one knows, and looks at a key. It meets no less than it was told.
 pub(crate) fn looks<L: Office>(
     rt: &impl Abort,
@@ -73,18 +97,9 @@ pub(crate) fn looks<L: Office>(
         return Ok(());
     };
     seat.learn_from(own);
-    let least = match own.receipts().last() {
-        Some(receipt) => receipt.number,
-        None => 0,
-    };
     let (seat, reply) = look_of(alloc, desk, seat, name, spot);
     let front = seat.front().0;
-    assert!(rt; front >= least);
+    assert!(rt; front >= last_of(own));
     eyes.seat = Some(seat);
-    eyes.seen.push(Entry {
-        seat: front,
-        event: Event::Show(*name, spot),
-        reply: reply?,
-    })?;
-    Ok(())
+    keeps(&mut eyes.seen, front, name, spot, reply)
 }

@@ -37,11 +37,23 @@ pub(crate) struct Plain {
     is_run: bool,
 }
 
+/// Adds a list of these numbers to a world.
+fn add_list(alloc: Global, world: &mut World, numbers: &[u128]) -> Result<(), AllocError> {
+    let list = Vec::from_slice(alloc, numbers)?;
+    world.push(Items::new(list))?;
+    Ok(())
+}
+
+fn add_copies(alloc: Global, world: &mut World, lists: &[Items<u128>]) -> Result<(), AllocError> {
+    for list in lists {
+        add_list(alloc, world, list.as_slice())?;
+    }
+    Ok(())
+}
+
 fn copies(alloc: Global, lists: &[Items<u128>]) -> Result<World, AllocError> {
     let mut copies = Vec::new(alloc);
-    for list in lists {
-        copies.push(Items::new(Vec::from_slice(alloc, list.as_slice())?))?;
-    }
+    add_copies(alloc, &mut copies, lists)?;
     Ok(copies)
 }
 
@@ -89,6 +101,22 @@ fn left_by(
     outcome(alloc, &inputs, &action, plan.writes())
 }
 
+/// Adds the lists of a world to a new one, with other numbers at some keys.
+fn add_lists(
+    alloc: Global,
+    new: &mut World,
+    keys: &[Key],
+    world: &[Items<u128>],
+    written: &[Key],
+    lists: &[Items<u128>],
+) -> Result<(), AllocError> {
+    for (key, old) in keys.iter().zip(world.iter()) {
+        let list = list_at(written, lists, *key).unwrap_or(old.as_slice());
+        add_list(alloc, new, list)?;
+    }
+    Ok(())
+}
+
 /// A world with other numbers at some keys.
 fn with_lists(
     alloc: Global,
@@ -98,10 +126,7 @@ fn with_lists(
     lists: &[Items<u128>],
 ) -> Result<World, AllocError> {
     let mut new = Vec::new(alloc);
-    for (key, old) in keys.iter().zip(world.iter()) {
-        let list = list_at(written, lists, *key).unwrap_or(old.as_slice());
-        new.push(Items::new(Vec::from_slice(alloc, list)?))?;
-    }
+    add_lists(alloc, &mut new, keys, world, written, lists)?;
     Ok(new)
 }
 
@@ -283,23 +308,33 @@ impl Plain {
         }
     }
 
+    /// What the row at a place leaves, and why it is refused, if it is. All rows before it are run.
+    fn after(&self, rt: &impl Abort, place: usize) -> Result<(World, Option<Refusal>), AllocError> {
+        let row = self.rows.get(place).expect(rt, "there is such a row");
+        let world = self.worlds.get(place).expect(rt, "the rows before are run");
+        self.after_row(rt, world.as_slice(), &row.plan)
+    }
+
+    /// Runs the row at a place.
+    fn run_row(&mut self, rt: &impl Abort, place: usize) -> Result<(), AllocError> {
+        let (world, cause) = self.after(rt, place)?;
+        self.worlds.push(world)?;
+        self.causes.push(cause)?;
+        Ok(())
+    }
+
     /// Runs the program once from the input data, unless that was done since the last edit.
     pub(crate) fn run(&mut self, rt: &impl Abort) -> Result<(), AllocError> {
         if self.is_run {
             return Ok(());
         }
-        let mut worlds = Vec::new(self.alloc);
-        let mut causes = Vec::new(self.alloc);
-        let mut world = copies(self.alloc, self.start.as_slice())?;
-        for row in self.rows.iter() {
-            let (after, cause) = self.after_row(rt, world.as_slice(), &row.plan)?;
-            worlds.push(world)?;
-            causes.push(cause)?;
-            world = after;
+        self.worlds.clear();
+        self.causes.clear();
+        self.worlds
+            .push(copies(self.alloc, self.start.as_slice())?)?;
+        for place in 0..self.rows.len() {
+            self.run_row(rt, place)?;
         }
-        worlds.push(world)?;
-        self.worlds = worlds;
-        self.causes = causes;
         self.is_run = true;
         Ok(())
     }

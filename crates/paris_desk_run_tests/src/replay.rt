@@ -9,7 +9,6 @@ use paris_machine::{Event, Reply, Shown};
 use paris_names::{Fault, Key, KeyName, Spot};
 use std::alloc::{AllocError, Global};
 use std::process::Abort;
-use std::test::*;
 
 /// How often the replies of each kind were met.
 #[derive(Clone, Copy)]

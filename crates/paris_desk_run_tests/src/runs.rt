@@ -18,7 +18,6 @@ use std::marker::Brand;
 use std::process::Abort;
 use std::sync::Wait;
 use std::sync::atomic::AtomicU64;
-use std::test::*;
 use std::thread::{Threads, for_each_mut};
 use std::time::Clock;
 
@@ -135,47 +134,80 @@ fn player_of<L: Office>(alloc: Global, seat: Seat<L>, run: Run) -> Player<L> {
     }
 }
 
+/// Gives a seat to the player at a place, to look for it.
+fn gives_eyes<L: Office>(players: &mut [Player<L>], place: u64, seat: Seat<L>) {
+    if let Some(player) = players.get_mut(place as usize) {
+        player.eyes.seat = Some(seat);
+    }
+}
+
+/// Adds a seat to the players: as one that plays, or as one that looks for another.
+fn sits_down<L: Office>(
+    rt: &impl Abort,
+    alloc: Global,
+    players: &mut Vec<Player<L>>,
+    seat: Seat<L>,
+    run: Run,
+) {
+    match seat.number().checked_sub(run.players) {
+        None => {
+            let player = player_of(alloc, seat, run);
+            players.push(player).ok().expect(rt, "there is memory");
+        }
+        Some(place) => gives_eyes(players.as_mut_slice(), place, seat),
+    }
+}
+
 /// The seats with what their threads keep. The first ones play, and the others look for the first ones.
 fn players_of<L: Office>(
+    rt: &impl Abort,
     alloc: Global,
     seats: Vec<Seat<L>>,
     run: Run,
-) -> Result<Vec<Player<L>>, AllocError> {
+) -> Vec<Player<L>> {
     let mut players = Vec::new(alloc);
     for seat in seats {
-        let place = seat.number().checked_sub(run.players);
-        match place {
-            None => players.push(player_of(alloc, seat, run))?,
-            Some(place) => {
-                if let Some(player) = players.get_mut(place as usize) {
-                    player.eyes.seat = Some(seat);
-                }
-            }
-        }
+        sits_down(rt, alloc, &mut players, seat, run);
     }
-    Ok(players)
+    players
 }
 
-/// All looks so far, and those of a player.
-fn add_looks(seen: &mut Vec<Entry>, more: Vec<Entry>) -> Result<(), AllocError> {
+/// Adds a seat to others.
+fn gives_seat<L: Office>(rt: &impl Abort, seats: &mut Vec<Seat<L>>, seat: Seat<L>) {
+    seats.push(seat).ok().expect(rt, "there is memory");
+}
+
+/// Adds the looks of a player to others.
+fn add_looks(rt: &impl Abort, seen: &mut Vec<Entry>, more: Vec<Entry>) {
     for look in more {
-        seen.push(look)?;
+        seen.push(look).ok().expect(rt, "there is memory");
     }
-    Ok(())
 }
 
-/// Adds the seats of a player to others, and what was seen.
+/// Adds the seat that looked for a player to others, and what it saw.
+fn gives_eyes_back<L: Office>(
+    rt: &impl Abort,
+    eyes: Eyes<L>,
+    seats: &mut Vec<Seat<L>>,
+    seen: &mut Vec<Entry>,
+) {
+    let Eyes { seat, seen: more } = eyes;
+    if let Some(seat) = seat {
+        gives_seat(rt, seats, seat);
+    }
+    add_looks(rt, seen, more);
+}
+
+/// Adds the seats of a player who met no fault to others, and what was seen.
 fn gives_back<L: Office>(
+    rt: &impl Abort,
     player: Player<L>,
     seats: &mut Vec<Seat<L>>,
     seen: &mut Vec<Entry>,
-) -> Result<(), AllocError> {
-    seats.push(player.seat)?;
-    let Eyes { seat, seen: more } = player.eyes;
-    if let Some(seat) = seat {
-        seats.push(seat)?;
-    }
-    add_looks(seen, more)
+) {
+    assert!(rt; player.fault.is_none());
+    gives_seat(rt, seats, player.seat);
+    gives_eyes_back(rt, player.eyes, seats, seen);
 }
 
 /// The seats of players who met no fault, and what was seen.
@@ -183,13 +215,12 @@ fn left_by<L: Office>(
     rt: &impl Abort,
     alloc: Global,
     players: Vec<Player<L>>,
-) -> Result<(Vec<Seat<L>>, Vec<Entry>), AllocError> {
+) -> (Vec<Seat<L>>, Vec<Entry>) {
     let (mut seats, mut seen) = (Vec::new(alloc), Vec::new(alloc));
     for player in players {
-        assert!(rt; player.fault.is_none());
-        gives_back(player, &mut seats, &mut seen)?;
+        gives_back(rt, player, &mut seats, &mut seen);
     }
-    Ok((seats, seen))
+    (seats, seen)
 }
 
 /// The first seat declares a set and makes calls of each kind.
@@ -237,18 +268,28 @@ fn ends<L: Office>(
 }
 
 /// The first seat declares a set and makes calls of each kind, then all seats play, each in a thread, and then the first one finishes.
+fn play_all<L: Office + Send + Sync, R: Abort + Threads + Wait + Clock + Sync>(
+    rt: &R,
+    alloc: Global,
+    desk: &Desk<L>,
+    players: &mut [Player<L>],
+    run: Run,
+) -> Result<(), Fault> {
+    starts(rt, alloc, desk, players, run.shape)?;
+    play_at_once(rt, alloc, desk, players, run);
+    ends(rt, alloc, desk, players)
+}
+
+/// All seats play, and what they leave.
 fn plays_at<L: Office + Send + Sync, R: Abort + Threads + Wait + Clock + Sync>(
     rt: &R,
     alloc: Global,
     desk: &Desk<L>,
     seats: Vec<Seat<L>>,
     run: Run,
-) -> Result<(Vec<Seat<L>>, Vec<Entry>), AllocError> {
-    let mut players = players_of(alloc, seats, run)?;
-    let all = players.as_mut_slice();
-    assert!(rt; starts(rt, alloc, desk, all, run.shape).is_ok());
-    play_at_once(rt, alloc, desk, all, run);
-    assert!(rt; ends(rt, alloc, desk, all).is_ok());
+) -> (Vec<Seat<L>>, Vec<Entry>) {
+    let mut players = players_of(rt, alloc, seats, run);
+    assert!(rt; play_all(rt, alloc, desk, players.as_mut_slice(), run).is_ok());
     left_by(rt, alloc, players)
 }
 
@@ -281,13 +322,8 @@ fn opens<L: Office + Send + Sync, R: Abort + Threads + Wait + Clock + Sync>(
     requires limit { (limit ≡ L.limit) × (limit ≤ MAX_HISTORY) }
 {
     let (desk, seats) = Desk::<L>::new(rt, alloc, opening, run.seats, limit)?;
-    match plays_at(rt, alloc, &desk, seats, run) {
-        Ok((seats, seen)) => Ok((left_of(rt, desk, seats), seen)),
-        Err(fault) => {
-            desk.discard(rt);
-            Err(fault)
-        }
-    }
+    let (seats, seen) = plays_at(rt, alloc, &desk, seats, run);
+    Ok((left_of(rt, desk, seats), seen))
 }
 
 /// History and receipts agree, and each reply is what the definitions give, and so is what was seen with no lock.
@@ -331,51 +367,51 @@ fn plays_runs<R: Abort + Threads + Wait + Clock + Sync>(
 }
 
 #[test]
-fn the_first_hundred_runs_agree(rt: HostRuntime) -> Result<(), Fail> {
-    Ok(plays_runs(&rt, rt.alloc(), 1)?)
+fn the_first_hundred_runs_agree(rt: HostRuntime) -> Result<(), AllocError> {
+    plays_runs(&rt, rt.alloc(), 1)
 }
 
 #[test]
-fn the_second_hundred_runs_agree(rt: HostRuntime) -> Result<(), Fail> {
-    Ok(plays_runs(&rt, rt.alloc(), 101)?)
+fn the_second_hundred_runs_agree(rt: HostRuntime) -> Result<(), AllocError> {
+    plays_runs(&rt, rt.alloc(), 101)
 }
 
 #[test]
-fn the_third_hundred_runs_agree(rt: HostRuntime) -> Result<(), Fail> {
-    Ok(plays_runs(&rt, rt.alloc(), 201)?)
+fn the_third_hundred_runs_agree(rt: HostRuntime) -> Result<(), AllocError> {
+    plays_runs(&rt, rt.alloc(), 201)
 }
 
 #[test]
-fn the_fourth_hundred_runs_agree(rt: HostRuntime) -> Result<(), Fail> {
-    Ok(plays_runs(&rt, rt.alloc(), 301)?)
+fn the_fourth_hundred_runs_agree(rt: HostRuntime) -> Result<(), AllocError> {
+    plays_runs(&rt, rt.alloc(), 301)
 }
 
 #[test]
-fn the_fifth_hundred_runs_agree(rt: HostRuntime) -> Result<(), Fail> {
-    Ok(plays_runs(&rt, rt.alloc(), 401)?)
+fn the_fifth_hundred_runs_agree(rt: HostRuntime) -> Result<(), AllocError> {
+    plays_runs(&rt, rt.alloc(), 401)
 }
 
 #[test]
-fn the_sixth_hundred_runs_agree(rt: HostRuntime) -> Result<(), Fail> {
-    Ok(plays_runs(&rt, rt.alloc(), 501)?)
+fn the_sixth_hundred_runs_agree(rt: HostRuntime) -> Result<(), AllocError> {
+    plays_runs(&rt, rt.alloc(), 501)
 }
 
 #[test]
-fn the_seventh_hundred_runs_agree(rt: HostRuntime) -> Result<(), Fail> {
-    Ok(plays_runs(&rt, rt.alloc(), 601)?)
+fn the_seventh_hundred_runs_agree(rt: HostRuntime) -> Result<(), AllocError> {
+    plays_runs(&rt, rt.alloc(), 601)
 }
 
 #[test]
-fn the_eighth_hundred_runs_agree(rt: HostRuntime) -> Result<(), Fail> {
-    Ok(plays_runs(&rt, rt.alloc(), 701)?)
+fn the_eighth_hundred_runs_agree(rt: HostRuntime) -> Result<(), AllocError> {
+    plays_runs(&rt, rt.alloc(), 701)
 }
 
 #[test]
-fn the_ninth_hundred_runs_agree(rt: HostRuntime) -> Result<(), Fail> {
-    Ok(plays_runs(&rt, rt.alloc(), 801)?)
+fn the_ninth_hundred_runs_agree(rt: HostRuntime) -> Result<(), AllocError> {
+    plays_runs(&rt, rt.alloc(), 801)
 }
 
 #[test]
-fn the_tenth_hundred_runs_agree(rt: HostRuntime) -> Result<(), Fail> {
-    Ok(plays_runs(&rt, rt.alloc(), 901)?)
+fn the_tenth_hundred_runs_agree(rt: HostRuntime) -> Result<(), AllocError> {
+    plays_runs(&rt, rt.alloc(), 901)
 }

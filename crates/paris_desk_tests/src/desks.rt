@@ -18,7 +18,6 @@ use std::alloc::Global;
 use std::marker::Brand;
 use std::process::Abort;
 use std::sync::Wait;
-use std::test::*;
 use std::thread::{Threads, join};
 
 const SUM: Text = b"u-add-3-1L c a b 8";
@@ -42,8 +41,24 @@ fn lists_often<L: Office>(
         desk.release(rt, seat)?;
         desk.list(rt, seat)?;
     }
-    assert_eq!(rt; seat.receipts().len(), 20);
+    assert!(rt; seat.receipts().len() == 20);
     Ok(())
+}
+
+/// Two seats make twenty calls each, at once.
+fn both_list<L: Office + Send + Sync, R: Abort + Threads + Wait + Sync>(
+    rt: &R,
+    desk: &Desk<L>,
+    one: &mut Seat<L>,
+    two: &mut Seat<L>,
+) -> Result<(), Fault> {
+    let (first, second) = join(
+        rt,
+        || lists_often(rt, desk, &mut *one),
+        || lists_often(rt, desk, &mut *two),
+    );
+    first?;
+    second
 }
 
 /// Two seats call at once: each has its own receipts, and a later call counts all.
@@ -51,19 +66,13 @@ fn calls_at_once<L: Office + Send + Sync, R: Abort + Threads + Wait + Sync>(
     rt: &R,
     desk: &Desk<L>,
     seats: &mut [Seat<L>],
-) -> Result<(), Fail> {
+) -> Result<(), Fault> {
     let (one, rest) = seats.split_first_mut().expect(rt, "there is a seat");
     let two = rest.first_mut().expect(rt, "there are two seats");
-    let (first, second) = join(
-        rt,
-        || lists_often(rt, desk, &mut *one),
-        || lists_often(rt, desk, &mut *two),
-    );
-    first?;
-    second?;
+    both_list(rt, desk, one, two)?;
     one.learn(two.front());
     desk.release(rt, one)?;
-    assert_eq!(rt; one.front().0, 41);
+    assert!(rt; one.front().0 == 41);
     Ok(())
 }
 
@@ -73,13 +82,14 @@ fn follows<L: Office + Send + Sync, R: Abort + Threads + Wait + Sync>(
     desk: &Desk<L>,
     seats: &mut [Seat<L>],
     script: Script,
-) -> Result<(), Fail> {
+) -> Result<(), Fault> {
     match script {
         Script::Plays(steps) => plays(rt, alloc, desk, seats, steps),
         Script::CallsAtOnce => calls_at_once(rt, desk, seats),
     }
 }
 
+/// Whether a script is followed at a desk, and the desk is ended as it must be.
 fn opens<L: Office + Send + Sync, R: Abort + Threads + Wait + Sync>(
     rt: &R,
     alloc: Global,
@@ -87,7 +97,7 @@ fn opens<L: Office + Send + Sync, R: Abort + Threads + Wait + Sync>(
     size: (u64, u64),
     script: Script,
     ending: Ending,
-) -> Result<(), Fail>
+) -> Result<bool, Fault>
     requires opening { (opening.blank.name ≡ L.name) × (opening.blank.parts ≡ L.parts) × (opening.seen.book ≡ L.log) }
     requires seats { (size.0 ≡ L.parts) × (size.0 ≡ L.seats) }
     requires few { (1 ≤ size.0) × (size.0 ≤ MAX_SEATS) }
@@ -96,9 +106,9 @@ fn opens<L: Office + Send + Sync, R: Abort + Threads + Wait + Sync>(
     let (desk, mut seats) = Desk::<L>::new(rt, alloc, opening, size.0, size.1)?;
     match follows(rt, alloc, &desk, &mut seats, script) {
         Ok(()) => ends(rt, alloc, desk, seats, ending),
-        Err(fail) => {
+        Err(fault) => {
             desk.discard(rt);
-            Err(fail)
+            Err(fault)
         }
     }
 }
@@ -110,15 +120,18 @@ fn tries<R: Abort + Threads + Wait + Sync>(
     size: (u64, u64),
     script: Script,
     ending: Ending,
-) -> Result<(), Fail>
+) -> Result<(), Fault>
     requires few { (1 ≤ size.0) × (size.0 ≤ MAX_SEATS) }
     requires limit { size.1 ≤ MAX_HISTORY }
 {
-    opens::<Brand, R>(rt, alloc, Opening::new(size.0), size, script, ending)
+    let opening = Opening::new(size.0);
+    let is_ended = opens::<Brand, R>(rt, alloc, opening, size, script, ending)?;
+    assert!(rt; is_ended);
+    Ok(())
 }
 
 #[test]
-fn a_desk_is_full_at_its_limit(rt: HostRuntime) -> Result<(), Fail> {
+fn a_desk_is_full_at_its_limit(rt: HostRuntime) -> Result<(), Fault> {
     const STEPS: &[(usize, Step)] = &[
         (0, Lists(&[])),
         (0, Lists(&[])),
@@ -130,7 +143,7 @@ fn a_desk_is_full_at_its_limit(rt: HostRuntime) -> Result<(), Fail> {
 }
 
 #[test]
-fn a_false_front_is_refused(rt: HostRuntime) -> Result<(), Fail> {
+fn a_false_front_is_refused(rt: HostRuntime) -> Result<(), Fault> {
     const STEPS: &[(usize, Step)] = &[
         (0, Learns(99)),
         (0, Refuses(Delete(1), Fault::StrangeSeat(99, 0))),
@@ -159,19 +172,19 @@ const TWO_SEATS: &[(usize, Step)] = &[
 ];
 
 #[test]
-fn a_desk_is_closed_with_its_last_seat(rt: HostRuntime) -> Result<(), Fail> {
+fn a_desk_is_closed_with_its_last_seat(rt: HostRuntime) -> Result<(), Fault> {
     let script = Script::Plays(TWO_SEATS);
     tries(&rt, rt.alloc(), (2, 100), script, Misses(1, &[9, 3]))
 }
 
 #[test]
-fn the_least_missing_seat_is_told(rt: HostRuntime) -> Result<(), Fail> {
+fn the_least_missing_seat_is_told(rt: HostRuntime) -> Result<(), Fault> {
     let script = Script::Plays(TWO_SEATS);
     tries(&rt, rt.alloc(), (2, 100), script, Misses(0, &[9, 3]))
 }
 
 #[test]
-fn a_first_script_on_one_seat(rt: HostRuntime) -> Result<(), Fail> {
+fn a_first_script_on_one_seat(rt: HostRuntime) -> Result<(), Fault> {
     const STEPS: &[(usize, Step)] = &[
         (0, Accepts(Set(&[4]))),
         (0, Accepts(Field(b"a"))),
@@ -190,7 +203,7 @@ fn a_first_script_on_one_seat(rt: HostRuntime) -> Result<(), Fail> {
 }
 
 #[test]
-fn rows_that_are_out_on_one_seat(rt: HostRuntime) -> Result<(), Fail> {
+fn rows_that_are_out_on_one_seat(rt: HostRuntime) -> Result<(), Fault> {
     const STEPS: &[(usize, Step)] = &[
         (0, Accepts(Set(&[4]))),
         (0, Accepts(Field(b"a"))),
@@ -212,7 +225,7 @@ fn rows_that_are_out_on_one_seat(rt: HostRuntime) -> Result<(), Fail> {
 }
 
 #[test]
-fn refused_edits_are_recorded(rt: HostRuntime) -> Result<(), Fail> {
+fn refused_edits_are_recorded(rt: HostRuntime) -> Result<(), Fault> {
     const STEPS: &[(usize, Step)] = &[
         (0, Refuses(Field(b"a"), Fault::NoSet)),
         (1, Refuses(Delete(7), Fault::NoRow)),
@@ -224,13 +237,13 @@ fn refused_edits_are_recorded(rt: HostRuntime) -> Result<(), Fail> {
 }
 
 #[test]
-fn two_seats_call_at_once(rt: HostRuntime) -> Result<(), Fail> {
+fn two_seats_call_at_once(rt: HostRuntime) -> Result<(), Fault> {
     let ending = Closes(&[21, 20]);
     tries(&rt, rt.alloc(), (2, 100), Script::CallsAtOnce, ending)
 }
 
 #[test]
-fn an_audit_finds_each_change(rt: HostRuntime) -> Result<(), Fail> {
+fn an_audit_finds_each_change(rt: HostRuntime) -> Result<(), Fault> {
     let script = Script::Plays(TWO_SEATS);
     for change in [
         TradesLists,

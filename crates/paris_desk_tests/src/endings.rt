@@ -7,7 +7,6 @@ use paris_names::Fault;
 use std::alloc::Global;
 use std::process::Abort;
 use std::sync::Wait;
-use std::test::*;
 
 /// A change to what is left of a closed desk, by which history and receipts don't agree any more.
 #[derive(Clone, Copy)]
@@ -92,22 +91,28 @@ fn left_at_last<L: Office>(
     left_of(rt, desk, seats)
 }
 
-fn is_agreed(alloc: Global, closed: &Closed) -> Result<bool, Fail> {
+/// Whether the lists have so many receipts, and the history has no other entries.
+fn has_counts(closed: &Closed, counts: &[usize]) -> bool {
+    let mut left = closed.history.len();
+    if closed.receipts.len() != counts.len() {
+        return false;
+    }
+    for (receipts, count) in closed.receipts.iter().zip(counts.iter()) {
+        if receipts.len() != *count || receipts.len() > left {
+            return false;
+        }
+        left -= receipts.len();
+    }
+    left == 0
+}
+
+fn is_agreed(alloc: Global, closed: &Closed) -> Result<bool, Fault> {
     Ok(audit(alloc, &closed.history, &closed.receipts)?)
 }
 
-/// The lists have so many receipts, and they agree with the history, which has no other entries.
-fn agrees(rt: &impl Abort, alloc: Global, closed: &Closed, counts: &[usize]) -> Result<(), Fail> {
-    let mut left = closed.history.len();
-    assert_eq!(rt; closed.receipts.len(), counts.len());
-    for (receipts, count) in closed.receipts.iter().zip(counts.iter()) {
-        assert_eq!(rt; receipts.len(), *count);
-        assert!(rt; receipts.len() <= left);
-        left -= receipts.len();
-    }
-    assert_eq!(rt; left, 0);
-    assert!(rt; is_agreed(alloc, closed)?);
-    Ok(())
+/// Whether the lists have so many receipts, and agree with the history, which has no other entries.
+fn agrees(alloc: Global, closed: &Closed, counts: &[usize]) -> Result<bool, Fault> {
+    Ok(is_agreed(alloc, closed)? && has_counts(closed, counts))
 }
 
 /// The last seat's last receipt.
@@ -153,29 +158,35 @@ fn make_change(rt: &impl Abort, closed: &mut Closed, change: Spoil) {
     }
 }
 
-/// Ends a desk.
+/// Whether history and receipts agree, and with a change don't.
+fn is_found(
+    rt: &impl Abort,
+    alloc: Global,
+    closed: &mut Closed,
+    change: Spoil,
+) -> Result<bool, Fault> {
+    let was_agreed = is_agreed(alloc, closed)?;
+    make_change(rt, closed, change);
+    Ok(was_agreed && !is_agreed(alloc, closed)?)
+}
+
+/// Ends a desk, and says whether what is left is as it must be.
 pub(crate) fn ends<L: Office>(
     rt: &(impl Abort + Wait),
     alloc: Global,
     desk: Desk<L>,
     seats: Vec<Seat<L>>,
     ending: Ending,
-) -> Result<(), Fail> {
+) -> Result<bool, Fault> {
     match ending {
         Ending::IsDiscarded => {
             desk.discard(rt);
-            Ok(())
+            Ok(true)
         }
-        Ending::Closes(counts) => agrees(rt, alloc, &left_of(rt, desk, seats), counts),
+        Ending::Closes(counts) => agrees(alloc, &left_of(rt, desk, seats), counts),
         Ending::Misses(place, counts) => {
-            agrees(rt, alloc, &left_at_last(rt, desk, seats, place), counts)
+            agrees(alloc, &left_at_last(rt, desk, seats, place), counts)
         }
-        Ending::IsSpoilt(change) => {
-            let mut closed = left_of(rt, desk, seats);
-            assert!(rt; is_agreed(alloc, &closed)?);
-            make_change(rt, &mut closed, change);
-            assert!(rt; !is_agreed(alloc, &closed)?);
-            Ok(())
-        }
+        Ending::IsSpoilt(change) => is_found(rt, alloc, &mut left_of(rt, desk, seats), change),
     }
 }

@@ -2,14 +2,13 @@
 
 use crate::spellings::{Text, instr_of, key, name};
 use paris_desk::{Desk, Front, Office, Seat};
-use paris_events::{Edit, EditReply, Verdict};
-use paris_exec::{Done, execute};
+use paris_events::{Edit, EditReply, RowLook, Verdict};
+use paris_exec::{Done, Order, execute};
 use paris_machine::Shown;
 use paris_names::{Edition, Fault, Items, RowId, Spot};
 use std::alloc::{AllocError, Global};
 use std::process::Abort;
 use std::sync::Wait;
-use std::test::*;
 
 /// An edit, as a table has it. Its set is `S`, and its fields have width 8.
 #[derive(Clone, Copy)]
@@ -87,6 +86,7 @@ fn edit_of(rt: &impl Abort, alloc: Global, change: Change) -> Result<Edit, Alloc
     }
 }
 
+/// Whether an edit is answered so.
 fn edits<L: Office>(
     rt: &(impl Abort + Wait),
     alloc: Global,
@@ -94,12 +94,29 @@ fn edits<L: Office>(
     seat: &mut Seat<L>,
     change: Change,
     answer: Result<EditReply, Fault>,
-) -> Result<(), Fail> {
+) -> Result<bool, Fault> {
     let edit = edit_of(rt, alloc, change)?;
-    assert_eq!(rt; desk.edit(rt, seat, edit), answer);
+    Ok(desk.edit(rt, seat, edit) == answer)
+}
+
+/// Whether an order is for the row of this id, with this edition.
+fn is_order_for(order: &Order, row: (u64, u64)) -> bool {
+    order.id() == RowId(row.0) && order.edition() == Edition(row.1)
+}
+
+/// Executes an order, and keeps its result in hand.
+fn executes(
+    rt: &impl Abort,
+    alloc: Global,
+    hand: &mut Vec<Done>,
+    order: Order,
+) -> Result<(), AllocError> {
+    let done = execute(alloc, order).ok().expect(rt, "there is memory");
+    hand.push(done)?;
     Ok(())
 }
 
+/// Whether an order is taken that is for this row.
 fn takes<L: Office>(
     rt: &(impl Abort + Wait),
     alloc: Global,
@@ -107,13 +124,14 @@ fn takes<L: Office>(
     seat: &mut Seat<L>,
     hand: &mut Vec<Done>,
     row: (u64, u64),
-) -> Result<(), Fail> {
+) -> Result<bool, Fault> {
     let order = desk.take(rt, seat)?.expect(rt, "a row is ready");
-    assert!(rt; order.id() == RowId(row.0) && order.edition() == Edition(row.1));
-    hand.push(execute(alloc, order).ok().expect(rt, "there is memory"))?;
-    Ok(())
+    let is_wanted = is_order_for(&order, row);
+    executes(rt, alloc, hand, order)?;
+    Ok(is_wanted)
 }
 
+/// Whether a result in hand is judged so.
 fn brings<L: Office>(
     rt: &(impl Abort + Wait),
     desk: &Desk<L>,
@@ -121,26 +139,62 @@ fn brings<L: Office>(
     hand: &[Done],
     place: usize,
     verdict: Verdict,
-) -> Result<(), Fail> {
+) -> Result<bool, Fault> {
     let done = hand.get(place).expect(rt, "it is in hand").copy()?;
-    assert_eq!(rt; desk.bring(rt, seat, done).ok(), Some(verdict));
-    Ok(())
+    Ok(desk.bring(rt, seat, done).ok() == Some(verdict))
 }
 
+/// The orders that are out are given up.
+fn releases<L: Office>(
+    rt: &(impl Abort + Wait),
+    desk: &Desk<L>,
+    seat: &mut Seat<L>,
+) -> Result<bool, Fault> {
+    desk.release(rt, seat)?;
+    Ok(true)
+}
+
+/// Whether these are the rows of these ids.
+fn are_rows(looks: &[RowLook], ids: &[u64]) -> bool {
+    if looks.len() != ids.len() {
+        return false;
+    }
+    for (look, id) in looks.iter().zip(ids.iter()) {
+        if look.id != RowId(*id) {
+            return false;
+        }
+    }
+    true
+}
+
+/// Whether just the rows of these ids are listed.
 fn lists<L: Office>(
     rt: &(impl Abort + Wait),
     desk: &Desk<L>,
     seat: &mut Seat<L>,
     ids: &[u64],
-) -> Result<(), Fail> {
+) -> Result<bool, Fault> {
     let looks = desk.list(rt, seat)?;
-    assert_eq!(rt; looks.len(), ids.len());
-    for (look, id) in looks.as_slice().iter().zip(ids.iter()) {
-        assert_eq!(rt; look.id, RowId(*id));
-    }
-    Ok(())
+    Ok(are_rows(looks.as_slice(), ids))
 }
 
+/// Whether what is shown is settled, and these numbers.
+fn is_settled(shown: &Shown, numbers: &[u128]) -> Result<bool, Fault> {
+    match shown {
+        Shown::Settled(value) => Ok(value.get().numbers()?.as_slice() == numbers),
+        Shown::Pending(_) => Ok(false),
+    }
+}
+
+/// Whether what is shown is pending, for the row of this id.
+fn is_pending(shown: &Shown, id: u64) -> bool {
+    match shown {
+        Shown::Settled(_) => false,
+        Shown::Pending(row) => *row == RowId(id),
+    }
+}
+
+/// Whether a key is settled at a spot, and these numbers.
 fn shows<L: Office>(
     rt: &(impl Abort + Wait),
     desk: &Desk<L>,
@@ -148,14 +202,12 @@ fn shows<L: Office>(
     field: Text,
     spot: Spot,
     numbers: &[u128],
-) -> Result<(), Fail> {
-    match desk.show(rt, seat, key(rt, field), spot)? {
-        Shown::Settled(value) => assert_eq!(rt; value.get().numbers()?.as_slice(), numbers),
-        Shown::Pending(_) => assert!(rt; false),
-    }
-    Ok(())
+) -> Result<bool, Fault> {
+    let shown = desk.show(rt, seat, key(rt, field), spot)?;
+    is_settled(&shown, numbers)
 }
 
+/// Whether a key is pending at a spot, for the row of this id.
 fn waits<L: Office>(
     rt: &(impl Abort + Wait),
     desk: &Desk<L>,
@@ -163,25 +215,23 @@ fn waits<L: Office>(
     field: Text,
     spot: Spot,
     id: u64,
-) -> Result<(), Fail> {
-    match desk.show(rt, seat, key(rt, field), spot)? {
-        Shown::Settled(_) => assert!(rt; false),
-        Shown::Pending(row) => assert_eq!(rt; row, RowId(id)),
-    }
-    Ok(())
+) -> Result<bool, Fault> {
+    let shown = desk.show(rt, seat, key(rt, field), spot)?;
+    Ok(is_pending(&shown, id))
 }
 
-fn has<L: Office>(
-    rt: &(impl Abort + Wait),
-    seat: &Seat<L>,
-    receipts: usize,
-    front: u64,
-) -> Result<(), Fail> {
-    assert_eq!(rt; seat.receipts().len(), receipts);
-    assert_eq!(rt; seat.front(), Front(front));
-    Ok(())
+/// A seat is told of so many entries.
+fn learns<L: Office>(seat: &mut Seat<L>, count: u64) -> bool {
+    seat.learn(Front(count));
+    true
 }
 
+/// Whether a seat has so many receipts, and was told of so many entries.
+fn has<L: Office>(seat: &Seat<L>, receipts: usize, front: u64) -> bool {
+    seat.receipts().len() == receipts && seat.front() == Front(front)
+}
+
+/// Whether a step gives what must come of it.
 fn makes<L: Office>(
     rt: &(impl Abort + Wait),
     alloc: Global,
@@ -189,7 +239,7 @@ fn makes<L: Office>(
     seat: &mut Seat<L>,
     hand: &mut Vec<Done>,
     step: Step,
-) -> Result<(), Fail> {
+) -> Result<bool, Fault> {
     match step {
         Step::Accepts(change) => edits(rt, alloc, desk, seat, change, Ok(EditReply::Accepted)),
         Step::Inserts(text, id) => {
@@ -199,20 +249,31 @@ fn makes<L: Office>(
         Step::Refuses(change, fault) => edits(rt, alloc, desk, seat, change, Err(fault)),
         Step::Takes(id, edition) => takes(rt, alloc, desk, seat, hand, (id, edition)),
         Step::Brings(place, verdict) => brings(rt, desk, seat, hand.as_slice(), place, verdict),
-        Step::Releases => Ok(desk.release(rt, seat)?),
+        Step::Releases => releases(rt, desk, seat),
         Step::Lists(ids) => lists(rt, desk, seat, ids),
-        Step::MayNotList(fault) => {
-            assert_eq!(rt; desk.list(rt, seat).err(), Some(fault));
-            Ok(())
-        }
+        Step::MayNotList(fault) => Ok(desk.list(rt, seat).err() == Some(fault)),
         Step::Shows(field, spot, numbers) => shows(rt, desk, seat, field, spot, numbers),
         Step::Waits(field, spot, id) => waits(rt, desk, seat, field, spot, id),
-        Step::Learns(count) => {
-            seat.learn(Front(count));
-            Ok(())
-        }
-        Step::Has(receipts, front) => has(rt, seat, receipts, front),
+        Step::Learns(count) => Ok(learns(seat, count)),
+        Step::Has(receipts, front) => Ok(has(seat, receipts, front)),
     }
+}
+
+/// The steps of a table, each of the seat at its place, with results in hand.
+fn plays_with<L: Office>(
+    rt: &(impl Abort + Wait),
+    alloc: Global,
+    desk: &Desk<L>,
+    seats: &mut [Seat<L>],
+    hand: &mut Vec<Done>,
+    steps: &[(usize, Step)],
+) -> Result<(), Fault> {
+    for (number, (place, step)) in steps.iter().enumerate() {
+        let seat = seats.get_mut(*place).expect(rt, "there is such a seat");
+        let is_made = makes(rt, alloc, desk, seat, hand, *step)?;
+        assert!(rt; is_made, "step {number}");
+    }
+    Ok(())
 }
 
 /// The steps of a table, each of the seat at its place.
@@ -222,11 +283,23 @@ pub(crate) fn plays<L: Office>(
     desk: &Desk<L>,
     seats: &mut [Seat<L>],
     steps: &[(usize, Step)],
-) -> Result<(), Fail> {
+) -> Result<(), Fault> {
     let mut hand = Vec::new(alloc);
-    for (place, step) in steps {
-        let seat = seats.get_mut(*place).expect(rt, "there is such a seat");
-        makes(rt, alloc, desk, seat, &mut hand, *step)?;
+    plays_with(rt, alloc, desk, seats, &mut hand, steps)
+}
+
+/// The steps of a table, all of one seat, with results in hand.
+fn plays_alone_with<L: Office>(
+    rt: &(impl Abort + Wait),
+    alloc: Global,
+    desk: &Desk<L>,
+    seat: &mut Seat<L>,
+    hand: &mut Vec<Done>,
+    steps: &[Step],
+) -> Result<(), Fault> {
+    for (number, step) in steps.iter().enumerate() {
+        let is_made = makes(rt, alloc, desk, seat, hand, *step)?;
+        assert!(rt; is_made, "step {number}");
     }
     Ok(())
 }
@@ -238,10 +311,7 @@ pub(crate) fn plays_alone<L: Office>(
     desk: &Desk<L>,
     seat: &mut Seat<L>,
     steps: &[Step],
-) -> Result<(), Fail> {
+) -> Result<(), Fault> {
     let mut hand = Vec::new(alloc);
-    for step in steps {
-        makes(rt, alloc, desk, seat, &mut hand, *step)?;
-    }
-    Ok(())
+    plays_alone_with(rt, alloc, desk, seat, &mut hand, steps)
 }

@@ -11,13 +11,12 @@ use crate::steps::{Step, plays_alone};
 use paris_desk::{Desk, Office, Opening, Seat, work};
 use paris_exec::{Gate, OpenGate};
 use paris_names::Spot::End;
-use paris_names::{Edition, RowId};
+use paris_names::{Edition, Fault, RowId};
 use std::alloc::Global;
 use std::marker::Brand;
 use std::process::Abort;
 use std::sync::Wait;
 use std::sync::atomic::{AtomicBool, AtomicU64, Ordering};
-use std::test::*;
 use std::thread;
 use std::thread::{Threads, join};
 use std::time::{Clock, Duration};
@@ -84,6 +83,28 @@ const RESULTS: &[Step] = &[
     Shows(b"b", End, &[2, 2, 2, 2]),
 ];
 
+/// Whether two seats that work at once run one row each, and both rows are in execution at once.
+fn both_work<L: Office + Send + Sync, R: Abort + Threads + Wait + Sync, C: Clock + Sync>(
+    rt: &R,
+    alloc: Global,
+    desk: &Desk<L>,
+    one: &mut Seat<L>,
+    two: &mut Seat<L>,
+    gate: &TwoAtOnce<'_, C>,
+) -> bool {
+    let (first, second) = join(
+        rt,
+        || work(rt, alloc, desk, &mut *one, gate, 10),
+        || work(rt, alloc, desk, &mut *two, gate, 10),
+    );
+    first == Ok(1) && second == Ok(1) && gate.has_let_two_through()
+}
+
+/// Whether a seat has so many receipts more than it had.
+fn has_more<L: Office>(seat: &Seat<L>, before: usize, more: usize) -> bool {
+    seat.receipts().len().checked_sub(before) == Some(more)
+}
+
 /// Two seats work: each runs one of two independent rows, and both rows are in execution at once.
 fn two_work<L: Office + Send + Sync, R: Abort + Threads + Wait + Sync, C: Clock + Sync>(
     rt: &R,
@@ -92,21 +113,28 @@ fn two_work<L: Office + Send + Sync, R: Abort + Threads + Wait + Sync, C: Clock 
     one: &mut Seat<L>,
     two: &mut Seat<L>,
     gate: &TwoAtOnce<'_, C>,
-) -> Result<(), Fail> {
+) -> Result<(), Fault> {
     plays_alone(rt, alloc, desk, one, TWO_ROWS)?;
     let before = one.receipts().len();
-    let (first, second) = join(
-        rt,
-        || work(rt, alloc, desk, &mut *one, gate, 10),
-        || work(rt, alloc, desk, &mut *two, gate, 10),
-    );
-    assert_eq!(rt; first, Ok(1));
-    assert_eq!(rt; second, Ok(1));
-    assert!(rt; gate.has_let_two_through());
-    assert_eq!(rt; one.receipts().len(), before + 3);
-    assert_eq!(rt; two.receipts().len(), 3);
+    assert!(rt; both_work(rt, alloc, desk, one, two, gate));
+    assert!(rt; has_more(one, before, 3) && has_more(two, 0, 3));
     one.learn(two.front());
     plays_alone(rt, alloc, desk, one, RESULTS)
+}
+
+/// Whether a seat that is asked for so many orders runs so many, and has so many receipts more then.
+fn runs<L: Office>(
+    rt: &(impl Abort + Wait),
+    alloc: Global,
+    desk: &Desk<L>,
+    seat: &mut Seat<L>,
+    asked: u64,
+    ran: u64,
+    more: usize,
+) -> bool {
+    let before = seat.receipts().len();
+    let answer = work(rt, alloc, desk, seat, &OpenGate, asked);
+    answer == Ok(ran) && has_more(seat, before, more)
 }
 
 /// A seat runs no more orders than it is asked for, and stops where no row is ready.
@@ -115,15 +143,11 @@ fn one_works<L: Office>(
     alloc: Global,
     desk: &Desk<L>,
     seat: &mut Seat<L>,
-) -> Result<(), Fail> {
+) -> Result<(), Fault> {
     plays_alone(rt, alloc, desk, seat, TWO_ROWS)?;
-    let before = seat.receipts().len();
-    assert_eq!(rt; work(rt, alloc, desk, seat, &OpenGate, 0), Ok(0));
-    assert_eq!(rt; seat.receipts().len(), before);
-    assert_eq!(rt; work(rt, alloc, desk, seat, &OpenGate, 1), Ok(1));
-    assert_eq!(rt; seat.receipts().len(), before + 2);
-    assert_eq!(rt; work(rt, alloc, desk, seat, &OpenGate, 5), Ok(1));
-    assert_eq!(rt; seat.receipts().len(), before + 5);
+    assert!(rt; runs(rt, alloc, desk, seat, 0, 0, 0));
+    assert!(rt; runs(rt, alloc, desk, seat, 1, 1, 2));
+    assert!(rt; runs(rt, alloc, desk, seat, 5, 1, 3));
     plays_alone(rt, alloc, desk, seat, RESULTS)
 }
 
@@ -133,7 +157,7 @@ fn works_with<L: Office + Send + Sync, R: Abort + Threads + Wait + Sync, C: Cloc
     desk: &Desk<L>,
     seats: &mut [Seat<L>],
     gate: &TwoAtOnce<'_, C>,
-) -> Result<(), Fail> {
+) -> Result<(), Fault> {
     let (one, rest) = seats.split_first_mut().expect(rt, "there is a seat");
     match rest.first_mut() {
         None => one_works(rt, alloc, desk, one),
@@ -141,6 +165,7 @@ fn works_with<L: Office + Send + Sync, R: Abort + Threads + Wait + Sync, C: Cloc
     }
 }
 
+/// Whether seats work at a desk, and the desk is ended as it must be.
 fn opens<L: Office + Send + Sync, R: Abort + Threads + Wait + Sync, C: Clock + Sync>(
     rt: &R,
     alloc: Global,
@@ -149,7 +174,7 @@ fn opens<L: Office + Send + Sync, R: Abort + Threads + Wait + Sync, C: Clock + S
     limit: u64,
     gate: &TwoAtOnce<'_, C>,
     ending: Ending,
-) -> Result<(), Fail>
+) -> Result<bool, Fault>
     requires opening { (opening.blank.name ≡ L.name) × (opening.blank.parts ≡ L.parts) × (opening.seen.book ≡ L.log) }
     requires seats { (seats ≡ L.parts) × (seats ≡ L.seats) }
     requires few { (1 ≤ seats) × (seats ≤ MAX_SEATS) }
@@ -158,9 +183,9 @@ fn opens<L: Office + Send + Sync, R: Abort + Threads + Wait + Sync, C: Clock + S
     let (desk, mut all) = Desk::<L>::new(rt, alloc, opening, seats, limit)?;
     match works_with(rt, alloc, &desk, &mut all, gate) {
         Ok(()) => ends(rt, alloc, desk, all, ending),
-        Err(fail) => {
+        Err(fault) => {
             desk.discard(rt);
-            Err(fail)
+            Err(fault)
         }
     }
 }
@@ -171,19 +196,22 @@ fn works<R: Abort + Threads + Wait + Clock + Sync>(
     alloc: Global,
     seats: u64,
     ending: Ending,
-) -> Result<(), Fail>
+) -> Result<(), Fault>
     requires { (1 ≤ seats) × (seats ≤ MAX_SEATS) }
 {
     let gate = TwoAtOnce::new(rt);
-    opens::<Brand, R, R>(rt, alloc, Opening::new(seats), seats, 100, &gate, ending)
+    let opening = Opening::new(seats);
+    let is_ended = opens::<Brand, R, R>(rt, alloc, opening, seats, 100, &gate, ending)?;
+    assert!(rt; is_ended);
+    Ok(())
 }
 
 #[test]
-fn independent_rows_are_executed_at_once(rt: HostRuntime) -> Result<(), Fail> {
+fn independent_rows_are_executed_at_once(rt: HostRuntime) -> Result<(), Fault> {
     works(&rt, rt.alloc(), 2, Closes(&[10, 3]))
 }
 
 #[test]
-fn a_limit_is_kept(rt: HostRuntime) -> Result<(), Fail> {
+fn a_limit_is_kept(rt: HostRuntime) -> Result<(), Fault> {
     works(&rt, rt.alloc(), 1, Closes(&[12]))
 }

@@ -6,17 +6,16 @@ ghost use Rattle.paris_records.specs.declared.limits.TheConstants.{MAX_HISTORY, 
 use crate::spellings::{Text, instr_of, key, name};
 use paris_audit::audit;
 use paris_book::Look;
-use paris_desk::{CloseFault, Desk, Front, Office, Opening, Seat, close};
+use paris_desk::{CloseFault, Closed, Desk, Front, Office, Opening, Seat, close};
 use paris_events::{Edit, Verdict};
 use paris_exec::execute;
 use paris_names::Spot::{After, End};
-use paris_names::{Fault, Items, RowId, Spot};
+use paris_names::{Fault, Items, KeyName, RowId, Spot};
 use paris_view::View;
 use std::alloc::{AllocError, Global};
 use std::marker::Brand;
 use std::process::Abort;
 use std::sync::Wait;
-use std::test::*;
 
 /// What a look answers.
 #[derive(Clone, Copy)]
@@ -40,6 +39,31 @@ fn is_wanted(look: &Look<'_>, wanted: Sight) -> Result<bool, AllocError> {
     }
 }
 
+/// Whether a refusal is what is wanted.
+fn is_refusal(fault: Fault, wanted: Sight) -> bool {
+    match wanted {
+        Sight::Refused(other) => fault == other,
+        _ => false,
+    }
+}
+
+/// A seat looks at a key, and says whether it sees what is wanted.
+fn looks_at<L: Office>(
+    desk: &Desk<L>,
+    seat: Seat<L>,
+    name: KeyName,
+    spot: Spot,
+    wanted: Sight,
+) -> (Seat<L>, bool) {
+    match View::new(desk).look(seat, name, spot) {
+        Ok(held) => {
+            let is_met = is_wanted(&held.look(), wanted);
+            (held.end(), is_met.unwrap_or(false))
+        }
+        Err((seat, fault)) => (seat, is_refusal(fault, wanted)),
+    }
+}
+
 /// A seat looks at a key, and sees what is wanted. It was told of so many entries then.
 fn sees<L: Office>(
     rt: &impl Abort,
@@ -49,20 +73,8 @@ fn sees<L: Office>(
     wanted: Sight,
     front: u64,
 ) -> Seat<L> {
-    let (seat, is_met) = match View::new(desk).look(seat, key(rt, place.0), place.1) {
-        Ok(held) => {
-            let is_met = is_wanted(&held.look(), wanted);
-            (held.end(), is_met.ok())
-        }
-        Err((seat, fault)) => {
-            match wanted {
-                Sight::Refused(other) => (seat, Some(fault == other)),
-                _ => (seat, None),
-            }
-        }
-    };
-    assert_eq!(rt; is_met, Some(true));
-    assert_eq!(rt; seat.front(), Front(front));
+    let (seat, is_met) = looks_at(desk, seat, key(rt, place.0), place.1, wanted);
+    assert!(rt; is_met && seat.front() == Front(front));
     seat
 }
 
@@ -87,13 +99,13 @@ fn field_of(rt: &impl Abort, field: Text) -> Edit {
     }
 }
 
-/// A seat declares a set of four processors with fields of width 8, gives two of them numbers, and puts in a row that adds them.
-fn begins<L: Office>(
+/// A seat declares a set of four processors with fields of width 8.
+fn declares<L: Office>(
     rt: &(impl Abort + Wait),
     alloc: Global,
     desk: &Desk<L>,
     seat: &mut Seat<L>,
-) -> Result<(), Fail> {
+) -> Result<(), Fault> {
     let set = Edit::AddSet {
         name: name(rt, b"S"),
         axes: Items::new(Vec::from_slice(alloc, &[4])?),
@@ -102,10 +114,29 @@ fn begins<L: Office>(
     for field in [b"a", b"b", b"c"] {
         desk.edit(rt, seat, field_of(rt, field))?;
     }
-    let first = input_of(rt, alloc, b"a", &[10, 20, 30, 250])?;
-    desk.edit(rt, seat, first)?;
-    let second = input_of(rt, alloc, b"b", &[1, 2, 3, 10])?;
-    desk.edit(rt, seat, second)?;
+    Ok(())
+}
+
+/// A seat gives a field numbers.
+fn gives<L: Office>(
+    rt: &(impl Abort + Wait),
+    alloc: Global,
+    desk: &Desk<L>,
+    seat: &mut Seat<L>,
+    field: Text,
+    numbers: &[u128],
+) -> Result<(), Fault> {
+    let input = input_of(rt, alloc, field, numbers)?;
+    desk.edit(rt, seat, input)?;
+    Ok(())
+}
+
+/// A seat puts in a row that adds two fields.
+fn adds<L: Office>(
+    rt: &(impl Abort + Wait),
+    desk: &Desk<L>,
+    seat: &mut Seat<L>,
+) -> Result<(), Fault> {
     let row = Edit::Insert {
         spot: End,
         instr: instr_of(rt, b"u-add-3-1L c a b 8"),
@@ -114,17 +145,29 @@ fn begins<L: Office>(
     Ok(())
 }
 
-/// A seat takes an order, executes it and brings the result.
+/// A seat declares a set of four processors with fields of width 8, gives two of them numbers, and puts in a row that adds them.
+fn begins<L: Office>(
+    rt: &(impl Abort + Wait),
+    alloc: Global,
+    desk: &Desk<L>,
+    seat: &mut Seat<L>,
+) -> Result<(), Fault> {
+    declares(rt, alloc, desk, seat)?;
+    gives(rt, alloc, desk, seat, b"a", &[10, 20, 30, 250])?;
+    gives(rt, alloc, desk, seat, b"b", &[1, 2, 3, 10])?;
+    adds(rt, desk, seat)
+}
+
+/// Whether a seat takes an order, executes it and brings the result, which is kept.
 fn works<L: Office>(
     rt: &(impl Abort + Wait),
     alloc: Global,
     desk: &Desk<L>,
     seat: &mut Seat<L>,
-) -> Result<(), Fail> {
+) -> Result<bool, Fault> {
     let order = desk.take(rt, seat)?.expect(rt, "a row is ready");
     let done = execute(alloc, order).ok().expect(rt, "there is memory");
-    assert_eq!(rt; desk.bring(rt, seat, done).ok(), Some(Verdict::Kept));
-    Ok(())
+    Ok(desk.bring(rt, seat, done).ok() == Some(Verdict::Kept))
 }
 
 /// What is settled at the end.
@@ -153,42 +196,28 @@ fn looks<L: Office>(
     desk: &Desk<L>,
     first: Seat<L>,
     second: Seat<L>,
-) -> Result<(Seat<L>, Seat<L>), Fail> {
+) -> (Seat<L>, Seat<L>) {
     let (mut first, mut second) = (first, second);
     let unknown = Sight::Refused(Fault::NoField);
     second = sees(rt, desk, second, (b"c", End), unknown, 0);
-    begins(rt, alloc, desk, &mut first)?;
+    assert!(rt; begins(rt, alloc, desk, &mut first).is_ok());
     first = sees(rt, desk, first, (b"c", End), Sight::Pending(1), 7);
     second.learn_from(&first);
-    assert_eq!(rt; second.front(), Front(7));
+    assert!(rt; second.front() == Front(7));
     second = sees(rt, desk, second, (b"c", End), Sight::Pending(1), 7);
-    works(rt, alloc, desk, &mut second)?;
+    assert!(rt; works(rt, alloc, desk, &mut second) == Ok(true));
     second = sees_behind(rt, desk, second);
     second.learn(Front(99));
     let short = Sight::Refused(Fault::StrangeSeat(99, 9));
     second = sees(rt, desk, second, (b"c", End), short, 99);
     first = sees(rt, desk, first, (b"c", End), SUM, 9);
-    Ok((first, second))
+    (first, second)
 }
 
-/// A desk is closed with two seats, of which one made seven calls and the other two. History and receipts agree.
-fn closes<L: Office>(
-    rt: &(impl Abort + Wait),
-    alloc: Global,
-    desk: Desk<L>,
-    seats: Vec<Seat<L>>,
-) -> Result<(), Fail> {
+/// What is left of a desk that is closed with all its seats.
+fn left_of<L: Office>(rt: &(impl Abort + Wait), desk: Desk<L>, seats: Vec<Seat<L>>) -> Closed {
     match close(rt, desk, seats) {
-        Ok(closed) => {
-            let counts = [7, 2];
-            assert_eq!(rt; closed.history.len(), 9);
-            assert_eq!(rt; closed.receipts.len(), counts.len());
-            for (receipts, count) in closed.receipts.iter().zip(counts.iter()) {
-                assert_eq!(rt; receipts.len(), *count);
-            }
-            assert!(rt; audit(alloc, &closed.history, &closed.receipts)?);
-            Ok(())
-        }
+        Ok(closed) => closed,
         Err(fault) => {
             let CloseFault {
                 desk,
@@ -196,47 +225,75 @@ fn closes<L: Office>(
                 cause: _,
             } = fault;
             desk.discard(rt);
-            Err(Fail::from("it is closed"))
+            None.expect(rt, "it is closed")
         }
     }
 }
 
+/// Whether there are two lists, of so many receipts.
+fn has_counts(closed: &Closed, counts: [usize; 2]) -> bool {
+    match closed.receipts.as_slice() {
+        [first, second] => first.len() == counts[0] && second.len() == counts[1],
+        _ => false,
+    }
+}
+
+/// Whether of two seats one made seven calls and the other two, and history and receipts agree.
+fn agrees(alloc: Global, closed: &Closed) -> Result<bool, AllocError> {
+    let is_agreed = audit(alloc, &closed.history, &closed.receipts)?;
+    Ok(is_agreed && closed.history.len() == 9 && has_counts(closed, [7, 2]))
+}
+
+/// The two seats of a desk.
+fn both_of<L: Office>(rt: &impl Abort, all: &mut Vec<Seat<L>>) -> (Seat<L>, Seat<L>) {
+    let second = all.pop().expect(rt, "there is a seat");
+    let first = all.pop().expect(rt, "there are two seats");
+    (first, second)
+}
+
+fn gives_back<L: Office>(rt: &impl Abort, all: &mut Vec<Seat<L>>, seat: Seat<L>) {
+    all.push(seat).ok().expect(rt, "there is memory");
+}
+
+/// Both seats of a desk look, and then it is closed.
+fn looks_and_closes<L: Office>(
+    rt: &(impl Abort + Wait),
+    alloc: Global,
+    desk: Desk<L>,
+    all: Vec<Seat<L>>,
+) -> Closed {
+    let mut all = all;
+    let (first, second) = both_of(rt, &mut all);
+    let (first, second) = looks(rt, alloc, &desk, first, second);
+    gives_back(rt, &mut all, first);
+    gives_back(rt, &mut all, second);
+    left_of(rt, desk, all)
+}
+
+/// Whether two seats look at a desk, and what is left of it is right.
 fn opens<L: Office, R: Abort + Wait>(
     rt: &R,
     alloc: Global,
     opening: Opening,
     seats: u64,
     limit: u64,
-) -> Result<(), Fail>
+) -> Result<bool, AllocError>
     requires opening { (opening.blank.name ≡ L.name) × (opening.blank.parts ≡ L.parts) × (opening.seen.book ≡ L.log) }
     requires seats { (seats ≡ L.parts) × (seats ≡ L.seats) }
     requires few { (1 ≤ seats) × (seats ≤ MAX_SEATS) }
     requires limit { (limit ≡ L.limit) × (limit ≤ MAX_HISTORY) }
 {
-    let (desk, mut all) = Desk::<L>::new(rt, alloc, opening, seats, limit)?;
-    let (Some(second), Some(first)) = (all.pop(), all.pop()) else {
-        desk.discard(rt);
-        return Err(Fail::from("there are two seats"));
-    };
-    let looked = looks(rt, alloc, &desk, first, second).and_then(|(first, second)| {
-        all.push(first)?;
-        all.push(second)?;
-        Ok(())
-    });
-    match looked {
-        Ok(()) => closes(rt, alloc, desk, all),
-        Err(fail) => {
-            desk.discard(rt);
-            Err(fail)
-        }
-    }
+    let (desk, all) = Desk::<L>::new(rt, alloc, opening, seats, limit)?;
+    agrees(alloc, &looks_and_closes(rt, alloc, desk, all))
 }
 
-fn tries<R: Abort + Wait>(rt: &R, alloc: Global) -> Result<(), Fail> {
-    opens::<Brand, R>(rt, alloc, Opening::new(2), 2, 100)
+fn tries<R: Abort + Wait>(rt: &R, alloc: Global) -> Result<(), AllocError> {
+    let is_right = opens::<Brand, R>(rt, alloc, Opening::new(2), 2, 100)?;
+    assert!(rt; is_right);
+    Ok(())
 }
 
 #[test]
-fn two_seats_look(rt: HostRuntime) -> Result<(), Fail> {
+fn two_seats_look(rt: HostRuntime) -> Result<(), AllocError> {
     tries(&rt, rt.alloc())
 }
