@@ -1,6 +1,6 @@
 -- A part is played line by line.
-use Rattle.std.proofs.Common.{◌≡◌, ℕ, ◌+◌, ◌<◌, ◌≤◌, Bool, true, false, List, [], ◌∷◌, ◌++◌, length, get_or, take, map, Some, None, Err, Vec, Global, refl, sym, ap, ◌∙◌, subst, arith, append_assoc, append-nil}
-use Rattle.std.specs.Prelude.{MatchBool, Option, if◌then◌else◌}
+use Rattle.std.proofs.Common.{◌≡◌, ℕ, ◌+◌, ◌<◌, ◌≤◌, Bool, true, false, List, [], ◌∷◌, ◌++◌, length, get_or, take, map, Some, None, Ok, Err, Vec, Global, refl, sym, ap, ◌∙◌, subst, arith, append_assoc, append-nil}
+use Rattle.std.specs.Prelude.{IfOk, MatchBool, Option, Result, if◌then◌else◌}
 use Rattle.paris_names.specs.declared.faults.Fault.{Fault}
 use Rattle.paris_names.specs.declared.faults.Fault.TheVariants as faults
 use Rattle.paris_names.specs.declared.ids.Spot.{Spot}
@@ -24,7 +24,7 @@ use Rattle.paris_desk.specs.Seats.{Sitting}
 use Rattle.paris_view.specs.Looks.{Looked, Missed}
 use Rattle.paris_cuts.specs.Hands.{Hand, asked_by_line, empty_hand, faults_among, is_skipped, read_by, refused, told, with_command}
 use Rattle.paris_parts.specs.Hands.{Answers, AnswersAsked, Plays, plainly}
-use Rattle.paris_parts.specs.Moving.{Answered, HasAnswered, HasPlayed, Moves, is_unmet}
+use Rattle.paris_parts.specs.Moving.{Answered, HasAnswered, HasPlayed, is_unmet}
 use Rattle.paris_parts.specs.Seeing.{Glimpses, IsInTime}
 
 -- a call answers what is asked for
@@ -80,6 +80,12 @@ asked_by_test false Sees h m h' line text asked rs same answers =
 pub line_asked : (s s' : Sitting) (h m h' : Hand) (line text : List ℕ) (asked : Asked) → (m, Some asked) ≡ read_by h line → Answered s s' m asked h' text → HasAnswered s s' h line h' text
 line_asked s s' h m h' line text asked read (rs, moved, answers) =
     (rs, moved, asked_by_test (is_skipped line) (Glimpses s.past s' s.receipts) h m h' line text asked rs read answers)
+
+-- the same of what came of answering
+pub line_if : {X : Type 0} (result : Result X Fault) (seat_of : X → Sitting) (text_of : X → List ℕ) (s : Sitting) (h m h' : Hand) (line : List ℕ) (asked : Asked) → (m, Some asked) ≡ read_by h line
+    → IfOk result (λ x. Answered s (seat_of x) m asked h' (text_of x)) → IfOk result (λ x. HasAnswered s (seat_of x) h line h' (text_of x))
+line_if (Ok x) seat_of text_of s h m h' line asked read answered = line_asked s (seat_of x) h m h' line (text_of x) asked read answered
+line_if (Err fault) seat_of text_of s h m h' line asked read answered = tt
 
 -- a look is refused
 pub missed_so : (name : KeyName) (spot : Spot) (s s' : Sitting) (fault : Fault) → is_unmet fault ≡ false → Missed name spot s s' fault

@@ -1,6 +1,6 @@
 -- What comes of all that is done at the seats of a desk.
-use Rattle.std.proofs.Common.{◌≡◌, ℕ, zero, suc, ◌+◌, ◌-◌, ◌<◌, ◌≤◌, Bool, true, false, List, [], ◌∷◌, ◌++◌, length, get_or, take, drop, map, Option, None, Some, refl, sym, ap, ◌∙◌, subst, inl, inr, arith, length-append}
-use Rattle.std.specs.Prelude.{◌==◌, slice_get, if◌then◌else◌, MatchOption}
+use Rattle.std.proofs.Common.{◌≡◌, ℕ, zero, suc, ◌+◌, ◌-◌, ◌<◌, ◌≤◌, true, false, List, [], ◌∷◌, ◌++◌, length, get_or, take, drop, map, Option, None, Some, refl, sym, ap, ◌∙◌, subst, inl, inr, arith, length-append}
+use Rattle.std.specs.Prelude.{◌==◌, slice_get, MatchOption}
 use Rattle.std.specs.List.{All, AllZip}
 use mathlib.Core.List.{IsPrefix}
 use Rattle.std.proofs.lemmas.Bool.{cases_lt}
@@ -19,7 +19,6 @@ use Rattle.paris_desk.specs.Pasts.{Learned}
 use Rattle.paris_desk.specs.Seats.{Sitting, sitting, fresh}
 use Rattle.paris_desk.specs.Work.{Gained, Worked}
 use Rattle.paris_desk.proofs.Lists.{by_number_at}
-use Rattle.paris_desk.proofs.Prefixes.{prefix_self}
 use Rattle.paris_cuts.specs.Hands.{empty_hand}
 use Rattle.paris_cuts.specs.Parts.{IsShort}
 use Rattle.paris_parts.specs.Hands.{Plays}
@@ -28,7 +27,7 @@ use Rattle.paris_parts.specs.Seeing.{Glimpses, IsInTime, Sees}
 use Rattle.paris_parts.specs.Texts.{at_seat}
 use Rattle.paris_parts.specs.Run.{EachDone}
 use Rattle.paris_parts.proofs.Playing.{plays_so}
-use Rattle.paris_parts.proofs.Sights.{UpTo, all_both, seen_so}
+use Rattle.paris_parts.proofs.Sights.{all_both, seen_so}
 
 pub fresh_length : (n : ℕ) → length (fresh n) ≡ n
 fresh_length zero = refl

@@ -1,5 +1,5 @@
 -- What is done at a desk by its seats, each in a thread of its own: it plays a part, or works.
-use Rattle.std.specs.Prelude.{◌≡◌, ◌<◌, ◌≤◌, ℕ, List, [], ◌∷◌, length, slice_get, MatchOption, Result, Ok, IfOk}
+use Rattle.std.specs.Prelude.{◌≡◌, ◌≤◌, ℕ, List, [], ◌∷◌, length, slice_get, MatchOption, Result, Ok, IfOk}
 use Rattle.std.specs.List.{AllZip}
 use Rattle.paris_names.specs.declared.faults.Fault.{Fault}
 use Rattle.paris_records.specs.declared.limits.TheConstants.{MAX_HISTORY}

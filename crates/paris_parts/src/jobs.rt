@@ -1,6 +1,6 @@
 //! What the seats of a desk do at once: some play a part, the others work.
 
-ghost use Rattle.std.specs.Prelude.{◌≡◌, ◌<◌, ◌≤◌, ◌++◌, ◌∷◌, ℕ, [], Result, Ok, length, map, option_map, slice_get, slice_index_or, IfOk, OnOk};
+ghost use Rattle.std.specs.Prelude.{◌≡◌, ◌<◌, ◌≤◌, ◌++◌, ◌∷◌, ℕ, [], Result, Ok, length, map, option_map, slice_get, slice_index_or, IfOk, IfSome, OnOk};
 ghost use Rattle.std.specs.List.{All};
 ghost use Rattle.paris_names.specs.declared.faults.Fault.{Fault};
 ghost use Rattle.paris_desk.specs.Pasts.{Learned};
@@ -37,7 +37,9 @@ impl<L: Office> Model for Job<L> {
 
 /// The part of a number, if there is one.
 fn part_of(parts: &[Part], number: u64) -> Option<&Part>
-    ensures { option_map (λ part. part.now) result ≡ slice_get parts.now number }
+    requires { All IsShort parts.now }
+    ensures part { option_map (λ part. part.now) result ≡ slice_get parts.now number }
+    ensures short { IfSome result (λ part. IsShort part.now) }
 {
     parts.get(number as usize)
 }

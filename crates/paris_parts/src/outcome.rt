@@ -59,7 +59,11 @@ fn seats_of<L: Office>(alloc: Global, jobs: Vec<Job<L>>) -> Result<Vec<Seat<L>>,
 }
 
 /// What jobs leave, of which the first so many played parts.
-fn ended<L: Office>(alloc: Global, jobs: Vec<Job<L>>, count: usize) -> Result<Ended<L>, AllocError>
+fn gathered<L: Office>(
+    alloc: Global,
+    jobs: Vec<Job<L>>,
+    count: usize,
+) -> Result<Ended<L>, AllocError>
     requires count { (count ≤ length jobs.items) × (count ≤ MAX_SEATS) }
     requires few { (n : ℕ) → n < count → (at_seat jobs.items n).hand.commands < 2 ^ 50 }
     ensures left { IfOk result (λ ended. LeftBy jobs.items count ended.seats.items ended.text.items ended.summary) }
@@ -91,5 +95,5 @@ pub(crate) fn play_parts<L: Office + Send + Sync, R: Threads + Wait + Sync, G: G
     ensures few { IfOk result (λ ended. (ended.summary.commands < 2 ^ 62) × (ended.summary.refusals < 2 ^ 62)) }
 {
     let jobs = run_all(rt, alloc, desk, seats, parts, gate)?;
-    Ok(ended(alloc, jobs, parts.len())?)
+    Ok(gathered(alloc, jobs, parts.len())?)
 }

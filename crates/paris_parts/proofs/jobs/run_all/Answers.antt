@@ -1,4 +1,4 @@
-use Rattle.std.proofs.Common.{◌≡◌, List, ◌∷◌, ◌++◌, Ok, drop, length, take, sym, ap, ◌∙◌, subst}
+use Rattle.std.proofs.Common.{List, ◌∷◌, Ok, sym, ap, ◌∙◌, subst}
 use Rattle.std.specs.Prelude.{Result, IfOk}
 use Rattle.std.specs.List.{All}
 use Rattle.paris_names.specs.declared.faults.Fault.{Fault}

@@ -1,4 +1,4 @@
-use Rattle.std.proofs.Common.{◌≡◌, ◌≤◌, ap, ◌∙◌, sym, subst, arith, ℕ, List, length}
+use Rattle.std.proofs.Common.{◌≤◌, sym, subst, arith, List, length}
 use Rattle.std.specs.List.{All}
 use Rattle.paris_desk.specs.Seats.{Sitting, fresh}
 use Rattle.paris_parts.specs.Jobs.{AreDone, IsNew}
@@ -13,20 +13,20 @@ run_all-requires-clause-seats g c κs within =
       subst (All IsNew) (sym c.requires.seats.0) (fresh_new c.args.count),
     )
 
-pub ended-requires-clause-count : goal.ended-requires-clause-count
-ended-requires-clause-count g c =
+pub gathered-requires-clause-count : goal.gathered-requires-clause-count
+gathered-requires-clause-count g c =
     let done : AreDone c.args.parts.now (fresh c.args.count) c.in_ok-jobs.jobs.items = subst (λ (l : List Sitting). AreDone c.args.parts.now l c.in_ok-jobs.jobs.items) c.requires.seats.0 c.in_ok-jobs.ensures in
     let long = all_long c.args.parts.now c.args.count c.in_ok-jobs.jobs.items done in (
       omega (arith, long, c.requires.seats.3),
       omega (arith, c.requires.seats.2, c.requires.seats.3),
     )
 
-pub ended-requires-clause-few : goal.ended-requires-clause-few
-ended-requires-clause-few g c =
+pub gathered-requires-clause-few : goal.gathered-requires-clause-few
+gathered-requires-clause-few g c =
     let done : AreDone c.args.parts.now (fresh c.args.count) c.in_ok-jobs.jobs.items = subst (λ (l : List Sitting). AreDone c.args.parts.now l c.in_ok-jobs.jobs.items) c.requires.seats.0 c.in_ok-jobs.ensures in
     all_few c.args.parts.now c.args.count c.in_ok-jobs.jobs.items c.requires.parts c.requires.seats.3 done
 
-pub returns-in_ok-ended-clause-done : goal.returns-in_ok-ended-clause-done
-returns-in_ok-ended-clause-done g c =
+pub returns-clause-done : goal.returns-clause-done
+returns-clause-done g c =
     let done : AreDone c.args.parts.now (fresh c.args.count) c.in_ok-jobs.jobs.items = subst (λ (l : List Sitting). AreDone c.args.parts.now l c.in_ok-jobs.jobs.items) c.requires.seats.0 c.in_ok-jobs.ensures in
-    (c.in_ok-jobs.jobs.items, done, c.in_ok-ended.ensures.left)
+    (c.in_ok-jobs.jobs.items, done, c.in_ok-gathered.ensures.left)

@@ -1,4 +1,4 @@
-use Rattle.std.proofs.Common.{◌≡◌, ℕ, List, Err, sym, ap, ◌∙◌, subst}
+use Rattle.std.proofs.Common.{ℕ, List, sym, ap, ◌∙◌, subst}
 use Rattle.paris_machine.specs.Show.{show_reply}
 use Rattle.paris_machine.specs.declared.events.Reply.TheVariants as reply
 use Rattle.paris_records.specs.History.{state_of}

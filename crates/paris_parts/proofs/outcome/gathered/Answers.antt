@@ -1,8 +1,8 @@
-use Rattle.std.proofs.Common.{◌≡◌, ◌≤◌, ◌<◌, ap, ◌∙◌, sym, subst, arith, ℕ, List, length}
+use Rattle.std.proofs.Common.{◌<◌, ap, ◌∙◌, sym, subst, List}
 use Rattle.paris_session.specs.declared.answers.Summary.{Summary}
 use Rattle.paris_parts.specs.Jobs.{Doing}
 use Rattle.paris_parts.specs.Texts.{at_seat, commands_in, parts_text, refusals_in}
-use Rattle.paris_parts.proofs.outcome.ended.Goals as goal
+use Rattle.paris_parts.proofs.outcome.gathered.Goals as goal
 
 pub counted-summary-requires-clause-few : goal.counted-summary-requires-clause-few
 counted-summary-requires-clause-few g c =
