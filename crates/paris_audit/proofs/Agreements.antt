@@ -12,7 +12,7 @@ use Rattle.paris_machine.specs.declared.events.Event.{Event}
 use Rattle.paris_machine.specs.declared.events.Reply.{Reply}
 use Rattle.paris_records.specs.declared.records.Entry.{Entry}
 use Rattle.paris_records.specs.declared.records.Receipt.{Receipt}
-use Rattle.paris_records.specs.History.{Legal, LegalFrom, entry}
+use Rattle.paris_records.specs.History.{LegalFrom, entry}
 use Rattle.paris_records.specs.Agreement.{Accounted, InPlace, InPlaces, calls_of, list_of}
 
 pub turn : {X : Type 0} (i : ℕ) (xs : List X) (x : X) → i < length xs → x ≡ get_or xs i x → drop i xs ≡ x ∷ drop (i + 1) xs
@@ -21,21 +21,24 @@ turn i xs x lt is = rw add-one (drop-cons xs i x lt ∙ ap (λ z. z ∷ drop (su
 pub not_true : ¬ (IsTrue false)
 not_true h = let e : false ≡ true = h in cc
 
--- the reply is another one: the history is not legal
-pub legal_stops : (i : ℕ) (h : List Entry) (e : Entry) (s : State) (event : Event) (r : Reply) → i < length h → e ≡ get_or h i e → (Legal h ↔ LegalFrom s (drop i h)) → event ≡ e.event → r ≡ reply_to s event → r ≢ e.reply → ¬ (Legal h)
-legal_stops i h e s event r lt is left same answer apart legal =
-    let l : LegalFrom s (e ∷ drop (i + 1) h) = subst (λ zs. LegalFrom s zs) (turn i h e lt is) (left.0 legal) in
-    apart (answer ∙ ap (λ z. reply_to s z) same ∙ sym l.0)
+-- a reply that is compared with the entry's
+pub answered : (s : State) (event : Event) (r : Reply) (e : Entry) (b : Bool) → r ≡ reply_to s event → event ≡ e.event → (IsTrue b ↔ (r ≡ e.reply)) → IsTrue b ↔ (e.reply ≡ reply_to s e.event)
+answered s event r e b answer same is =
+    let made : r ≡ reply_to s e.event = answer ∙ ap (λ z. reply_to s z) same in
+    ((λ t. sym (is.0 t) ∙ made), (λ right. is.1 (made ∙ sym right)))
 
--- the reply is the entry's
-pub legal_goes : (i : ℕ) (h : List Entry) (e : Entry) (s s' : State) (event : Event) (r : Reply) → i < length h → e ≡ get_or h i e → (Legal h ↔ LegalFrom s (drop i h)) → event ≡ e.event → r ≡ reply_to s event → s' ≡ after s event → r ≡ e.reply
-    → Legal h ↔ LegalFrom s' (drop (i + 1) h)
-legal_goes i h e s s' event r lt is left same answer step right =
-    let t = turn i h e lt is in
-    let next : after s e.event ≡ s' = ap (λ z. after s z) (sym same) ∙ sym step in
-    let made : e.reply ≡ reply_to s e.event = sym right ∙ answer ∙ ap (λ z. reply_to s z) same in (
-      (λ legal. let l : LegalFrom s (e ∷ drop (i + 1) h) = subst (λ zs. LegalFrom s zs) t (left.0 legal) in subst (λ z. LegalFrom z (drop (i + 1) h)) next l.1),
-      (λ rest. left.1 (subst (λ zs. LegalFrom s zs) (sym t) (made, subst (λ z. LegalFrom z (drop (i + 1) h)) (sym next) rest))),
+-- an entry's reply is another one: the history is not legal
+pub legal_stops : (i : ℕ) (h : List Entry) (e : Entry) (z s : State) → i < length h → e ≡ get_or h i e → (LegalFrom z h ↔ LegalFrom s (drop i h)) → e.reply ≢ reply_to s e.event → ¬ (LegalFrom z h)
+legal_stops i h e z s lt is left apart legal =
+    let l : LegalFrom s (e ∷ drop (i + 1) h) = subst (λ zs. LegalFrom s zs) (turn i h e lt is) (left.0 legal) in apart l.0
+
+-- it is the machine's
+pub legal_goes : (i : ℕ) (h : List Entry) (e : Entry) (z s s' : State) → i < length h → e ≡ get_or h i e → (LegalFrom z h ↔ LegalFrom s (drop i h)) → e.reply ≡ reply_to s e.event → s' ≡ after s e.event
+    → LegalFrom z h ↔ LegalFrom s' (drop (i + 1) h)
+legal_goes i h e z s s' lt is left right step =
+    let t = turn i h e lt is in (
+      (λ legal. let l : LegalFrom s (e ∷ drop (i + 1) h) = subst (λ zs. LegalFrom s zs) t (left.0 legal) in subst (λ y. LegalFrom y (drop (i + 1) h)) (sym step) l.1),
+      (λ rest. left.1 (subst (λ zs. LegalFrom s zs) (sym t) (right, subst (λ y. LegalFrom y (drop (i + 1) h)) step rest))),
     )
 
 -- an entry that has a seat and a receipt's event has its reply, or is another one

@@ -1,29 +1,45 @@
 //! Whether a history and the receipts of its seats agree.
 
-ghost use Rattle.std.specs.Prelude.{◌≡◌, ◌<◌, ◌↔◌, ℕ, nat_lt, length, map, IfOk, IsTrue};
+ghost use Rattle.std.specs.Prelude.{◌≡◌, ◌<◌, ◌↔◌, ℕ, nat_lt, length, map, IfOk, IsTrue, OnOk};
 ghost use Rattle.std.specs.List.{list_all};
-ghost use Rattle.paris_records.specs.History.{Legal, entry};
+ghost use Rattle.paris_machine.specs.Events.{after, reply_to};
+ghost use Rattle.paris_records.specs.History.{Legal, LegalFrom, entry};
 ghost use Rattle.paris_records.specs.Agreement.{Accounted, Agree, InPlace, InPlaces, calls_of, list_of};
 
 use paris_book::Book;
 use paris_records::{Entry, Receipt, copy_of_event, is_same_event, is_same_reply};
 use std::alloc::{AllocError, Global};
 
+/// Whether an entry's reply is what a book answers to its event. The book makes the event.
+fn is_answered(alloc: Global, book: &mut Book, entry: &Entry) -> Result<bool, AllocError>
+    ensures reply { IfOk result (λ same. IsTrue same ↔ (entry.now.reply ≡ reply_to book.old entry.now.event)) }
+    ensures state { OnOk result (book.new ≡ after book.old entry.now.event) }
+{
+    let event = copy_of_event(alloc, &entry.event)?;
+    match book.step(event) {
+        Ok(reply) => Ok(is_same_reply(&reply, &entry.reply)),
+        Err(_) => Err(AllocError),
+    }
+}
+
+/// Whether each reply is what a book answers, which makes the events one by one.
+fn are_answered(alloc: Global, book: &mut Book, entries: &[Entry]) -> Result<bool, AllocError>
+    ensures { IfOk result (λ answer. IsTrue answer ↔ LegalFrom book.old entries.now) }
+{
+    for entry in entries {
+        if !is_answered(alloc, book, entry)? {
+            return Ok(false);
+        }
+    }
+    Ok(true)
+}
+
 /// Whether each reply is what the book answers: the events are made again, one by one, from an empty book on.
 fn is_legal(alloc: Global, entries: &[Entry]) -> Result<bool, AllocError>
     ensures { IfOk result (λ answer. IsTrue answer ↔ Legal entries.now) }
 {
     let mut book = Book::new(alloc);
-    for entry in entries {
-        let event = copy_of_event(alloc, &entry.event)?;
-        let Ok(reply) = book.step(event) else {
-            return Err(AllocError);
-        };
-        if !is_same_reply(&reply, &entry.reply) {
-            return Ok(false);
-        }
-    }
-    Ok(true)
+    are_answered(alloc, &mut book, entries)
 }
 
 /// Whether an entry has a seat and a receipt's event and reply.

@@ -1,7 +1,0 @@
-use Rattle.std.proofs.Common.{drop}
-use Rattle.std.specs.Prelude.{◌↔◌}
-use Rattle.paris_records.specs.History.{Legal, LegalFrom}
-use Rattle.paris_audit.proofs.agreement.is_legal.Given as goal
-
-abbrev pub invariant-loop-entry : goal.invariant-loop-entry
-invariant-loop-entry l = Legal l.entries ↔ LegalFrom l.book (drop l.entry-index l.entries)
