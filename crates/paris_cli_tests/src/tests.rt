@@ -2,15 +2,15 @@
 
 ghost use Rattle.std.specs.Prelude.{Some};
 
-use crate::scripts::{runs, status_of};
 use paris_calls::Tally;
-use paris_cli::read_words;
+use paris_cli::{Tallies, read_words, run_words};
 use paris_session::{Alone, RunFault, Summary, run_counted, transcript};
-use std::alloc::{AllocError, Global};
+use std::alloc::Global;
 use std::io;
 use std::io::{ErrorKind, Read, Write};
 use std::process::Abort;
 use std::sync::Wait;
+use std::test::*;
 use std::thread::Threads;
 
 /// Gives at most `step` bytes a call. Call `fails` fails, and each odd call is interrupted where `interrupts`.
@@ -86,14 +86,6 @@ fn slow_reader(bytes: &[u8], step: usize) -> Slow<'_> {
     }
 }
 
-fn narrow_writer(alloc: Global, fails: u64) -> Narrow {
-    Narrow {
-        taken: Vec::new(alloc),
-        calls: 0,
-        fails,
-    }
-}
-
 /// Runs a script, and asserts the status and what is written. Nothing is written for a fault.
 pub(crate) fn assert_run<H: Abort + Threads + Wait + Sync + AllocGlobal>(
     rt: &H,
@@ -101,7 +93,21 @@ pub(crate) fn assert_run<H: Abort + Threads + Wait + Sync + AllocGlobal>(
     status: u8,
     want: &[u8],
 ) {
-    assert!(rt; runs(rt, &[], script, (status, want, b"")));
+    let words = Vec::new(rt.alloc());
+    let mut reader = script;
+    let mut out = Vec::new(rt.alloc());
+    let mut errors = Vec::new(rt.alloc());
+    let got = run_words(
+        rt,
+        words.as_slice(),
+        &mut reader,
+        &mut out,
+        &mut errors,
+        &mut Tallies::new(),
+    );
+    assert_eq!(rt; out.as_slice(), want);
+    assert_eq!(rt; got, status);
+    assert!(rt; errors.is_empty());
 }
 
 #[test]
@@ -149,42 +155,17 @@ fn edits_rows_by_id(rt: HostRuntime) {
     assert_run(&rt, script, 1, want);
 }
 
-fn add_word(alloc: Global, words: &mut Vec<String>, word: &str) -> Result<(), AllocError> {
-    let word = String::from_str(alloc, word)?;
-    words.push(word)?;
-    Ok(())
-}
-
 /// The words of a command line that is cut at spaces.
-fn words_in(alloc: Global, line: &str) -> Result<Vec<String>, AllocError> {
+fn words_in(alloc: Global, line: &str) -> Result<Vec<String>, Fail> {
     let mut words = Vec::new(alloc);
     for word in line.split(' ') {
-        add_word(alloc, &mut words, word)?;
+        words.push(String::from_str(alloc, word)?)?;
     }
     Ok(words)
 }
 
-/// Whether words ask for so many workers, and for no desk.
-fn ask_for(alloc: Global, words: &[String], number: usize) -> bool {
-    match read_words(alloc, words) {
-        Ok(wanted) => wanted.workers == number && !wanted.desk,
-        Err(_) => false,
-    }
-}
-
-/// Whether a line asks for so many workers, and a script is run by it.
-fn takes<H: Threads + Wait + Sync + AllocGlobal>(
-    rt: &H,
-    line: &str,
-    number: usize,
-) -> Result<bool, AllocError> {
-    let words = words_in(rt.alloc(), line)?;
-    let is_run = runs(rt, words.as_slice(), b"settle\n", (0, b"settled 0\n", b""));
-    Ok(is_run && ask_for(rt.alloc(), words.as_slice(), number))
-}
-
 #[test]
-fn takes_a_number_of_workers(rt: HostRuntime) -> Result<(), AllocError> {
+fn takes_a_number_of_workers(rt: HostRuntime) -> Result<(), Fail> {
     for (line, number) in [
         ("--workers 16", 16usize),
         ("--workers=1", 1),
@@ -192,33 +173,32 @@ fn takes_a_number_of_workers(rt: HostRuntime) -> Result<(), AllocError> {
         ("--workers 007", 7),
         ("--", 2),
     ] {
-        assert!(rt; takes(&rt, line, number)?, "at {line}");
+        let words = words_in(rt.alloc(), line)?;
+        let wanted = read_words(rt.alloc(), words.as_slice());
+        assert!(rt;
+            matches!(wanted, Ok(wanted) if wanted.workers == number && !wanted.desk),
+            "at {line}"
+        );
+        let mut reader = b"settle\n".as_slice();
+        let mut out = Vec::new(rt.alloc());
+        let mut errors = Vec::new(rt.alloc());
+        let status = run_words(
+            &rt,
+            words.as_slice(),
+            &mut reader,
+            &mut out,
+            &mut errors,
+            &mut Tallies::new(),
+        );
+        assert_eq!(rt; status, 0, "at {line}");
+        assert_eq!(rt; out.as_slice(), b"settled 0\n".as_slice(), "at {line}");
+        assert!(rt; errors.is_empty(), "at {line}");
     }
     Ok(())
 }
 
-/// Whether words are refused: nothing is read, nothing is written, and something is said.
-fn are_refused<H: Threads + Wait + Sync + AllocGlobal>(
-    rt: &H,
-    words: &[String],
-    out: &mut Vec<u8>,
-    errors: &mut Vec<u8>,
-) -> bool {
-    let mut reader = b"take\n".as_slice();
-    let status = status_of(rt, words, &mut reader, out, errors);
-    status == 2 && out.is_empty() && reader.len() == 5 && !errors.is_empty()
-}
-
-/// Whether the words of a line are refused.
-fn refuses<H: Threads + Wait + Sync + AllocGlobal>(rt: &H, line: &str) -> Result<bool, AllocError> {
-    let words = words_in(rt.alloc(), line)?;
-    let mut out = Vec::new(rt.alloc());
-    let mut errors = Vec::new(rt.alloc());
-    Ok(are_refused(rt, words.as_slice(), &mut out, &mut errors))
-}
-
 #[test]
-fn refuses_other_words(rt: HostRuntime) -> Result<(), AllocError> {
+fn refuses_other_words(rt: HostRuntime) -> Result<(), Fail> {
     for line in [
         "--workers 17",
         "--workers 0",
@@ -231,115 +211,126 @@ fn refuses_other_words(rt: HostRuntime) -> Result<(), AllocError> {
         "",
         "--help",
     ] {
-        assert!(rt; refuses(&rt, line)?, "at {line}");
+        let words = words_in(rt.alloc(), line)?;
+        let mut reader = b"take\n".as_slice();
+        let mut out = Vec::new(rt.alloc());
+        let mut errors = Vec::new(rt.alloc());
+        let status = run_words(
+            &rt,
+            words.as_slice(),
+            &mut reader,
+            &mut out,
+            &mut errors,
+            &mut Tallies::new(),
+        );
+        assert_eq!(rt; status, 2, "at {line}");
+        assert!(rt; out.is_empty(), "at {line}");
+        assert_eq!(rt; reader.len(), 5, "at {line}");
+        assert!(rt; !errors.is_empty(), "at {line}");
     }
     Ok(())
 }
 
-/// Whether a script is answered whose reader is interrupted, as is the writer.
-fn goes_on<H: Threads + Wait + Sync + AllocGlobal>(
-    rt: &H,
-    out: &mut Narrow,
-    errors: &mut Vec<u8>,
-) -> bool {
-    let mut input = slow_reader(b"set S 4\ntake\nshw", 1);
-    input.interrupts = true;
-    let status = status_of(rt, &[], &mut input, out, errors);
-    status == 1 && out.taken.as_slice() == b"ok\nnothing\nrefused 20 1\n".as_slice()
-}
-
 #[test]
 fn goes_on_after_interruptions(rt: HostRuntime) {
-    let mut out = narrow_writer(rt.alloc(), 0);
+    let words = Vec::new(rt.alloc());
     let mut errors = Vec::new(rt.alloc());
-    assert!(rt; goes_on(&rt, &mut out, &mut errors));
-}
-
-/// Whether a script stops where the read of this number fails.
-fn stops_at_read<H: Threads + Wait + Sync + AllocGlobal>(
-    rt: &H,
-    fails: u64,
-    out: &mut Vec<u8>,
-    errors: &mut Vec<u8>,
-) -> bool {
-    let mut input = slow_reader(b"set S 4\ntake", 1);
-    input.fails = fails;
-    let status = status_of(rt, &[], &mut input, out, errors);
-    let answered = if fails > 8 {
-        b"ok\n".as_slice()
-    } else {
-        b"".as_slice()
+    let mut out = Narrow {
+        taken: Vec::new(rt.alloc()),
+        calls: 0,
+        fails: 0,
     };
-    let is_said = errors.as_slice() == b"read fault\n".as_slice();
-    status == 3 && is_said && out.as_slice() == answered
+    let mut input = slow_reader(b"set S 4\ntake\nshw", 1);
+    input.interrupts = true;
+    let status = run_words(
+        &rt,
+        words.as_slice(),
+        &mut input,
+        &mut out,
+        &mut errors,
+        &mut Tallies::new(),
+    );
+    assert_eq!(rt;
+        out.taken.as_slice(),
+        b"ok\nnothing\nrefused 20 1\n".as_slice()
+    );
+    assert_eq!(rt; status, 1);
 }
 
 #[test]
 fn stops_at_each_failed_read(rt: HostRuntime) {
+    let words = Vec::new(rt.alloc());
     for fails in 1..14u64 {
         let mut out = Vec::new(rt.alloc());
         let mut errors = Vec::new(rt.alloc());
-        assert!(rt;
-            stops_at_read(&rt, fails, &mut out, &mut errors),
-            "at {fails}"
+        let mut input = slow_reader(b"set S 4\ntake", 1);
+        input.fails = fails;
+        let status = run_words(
+            &rt,
+            words.as_slice(),
+            &mut input,
+            &mut out,
+            &mut errors,
+            &mut Tallies::new(),
         );
+        let answered = if fails > 8 {
+            b"ok\n".as_slice()
+        } else {
+            b"".as_slice()
+        };
+        assert_eq!(rt; status, 3);
+        assert_eq!(rt; errors.as_slice(), b"read fault\n".as_slice());
+        assert_eq!(rt; out.as_slice(), answered);
     }
-}
-
-/// Whether a script stops where a write fails.
-fn stops_at_write<H: Threads + Wait + Sync + AllocGlobal>(
-    rt: &H,
-    out: &mut Narrow,
-    errors: &mut Vec<u8>,
-) -> bool {
-    let whole = b"ok\nnothing\n".as_slice();
-    let mut input = b"set S 4\ntake".as_slice();
-    let status = status_of(rt, &[], &mut input, out, errors);
-    let is_said = errors.as_slice() == b"write fault\n".as_slice();
-    status == 3 && is_said && whole.starts_with(out.taken.as_slice())
 }
 
 #[test]
 fn stops_at_each_failed_write(rt: HostRuntime) {
+    let words = Vec::new(rt.alloc());
+    let whole = b"ok\nnothing\n".as_slice();
     for fails in 1..22u64 {
-        let mut out = narrow_writer(rt.alloc(), fails);
         let mut errors = Vec::new(rt.alloc());
-        assert!(rt; stops_at_write(&rt, &mut out, &mut errors), "at {fails}");
+        let mut out = Narrow {
+            taken: Vec::new(rt.alloc()),
+            calls: 0,
+            fails,
+        };
+        let mut input = b"set S 4\ntake".as_slice();
+        let status = run_words(
+            &rt,
+            words.as_slice(),
+            &mut input,
+            &mut out,
+            &mut errors,
+            &mut Tallies::new(),
+        );
+        assert_eq!(rt; status, 3);
+        assert_eq!(rt; errors.as_slice(), b"write fault\n".as_slice());
+        assert!(rt; whole.starts_with(out.taken.as_slice()));
     }
-}
-
-/// Whether a failed read is told by the status, where it can't be said.
-fn is_told<H: Threads + Wait + Sync + AllocGlobal>(
-    rt: &H,
-    out: &mut Vec<u8>,
-    errors: &mut Narrow,
-) -> bool {
-    let mut input = slow_reader(b"take", 4);
-    input.fails = 1;
-    let status = status_of(rt, &[], &mut input, out, errors);
-    status == 3 && errors.taken.as_slice() == b"r".as_slice()
 }
 
 #[test]
 fn a_fault_of_the_error_writer_changes_no_status(rt: HostRuntime) {
+    let words = Vec::new(rt.alloc());
     let mut out = Vec::new(rt.alloc());
-    let mut errors = narrow_writer(rt.alloc(), 4);
-    assert!(rt; is_told(&rt, &mut out, &mut errors));
-}
-
-/// Whether a script ends so where reads are bounded, behind just so many of them.
-fn counts(
-    rt: &(impl Abort + Wait),
-    alloc: Global,
-    out: &mut Vec<u8>,
-    bound: u64,
-    want: Result<Summary, RunFault>,
-) -> bool {
-    assert!(rt; bound <= 10);
-    let mut tally = Tally::new();
-    let mut input = slow_reader(b"take\n", 1);
-    let summary = run_counted(rt, &Alone, alloc, &mut input, out, bound, &mut tally);
-    summary == want && tally.reads() == bound
+    let mut errors = Narrow {
+        taken: Vec::new(rt.alloc()),
+        calls: 0,
+        fails: 4,
+    };
+    let mut input = slow_reader(b"take", 4);
+    input.fails = 1;
+    let status = run_words(
+        &rt,
+        words.as_slice(),
+        &mut input,
+        &mut out,
+        &mut errors,
+        &mut Tallies::new(),
+    );
+    assert_eq!(rt; status, 3);
+    assert_eq!(rt; errors.taken.as_slice(), b"r".as_slice());
 }
 
 #[test]
@@ -355,19 +346,21 @@ fn counts_read_calls(rt: HostRuntime) {
         ),
     ] {
         let mut out = Vec::new(rt.alloc());
-        assert!(rt;
-            counts(&rt, rt.alloc(), &mut out, bound, want),
-            "at {bound}"
-        );
+        let mut tally = Tally::new();
+        let mut input = slow_reader(b"take\n", 1);
+        let alloc = rt.alloc();
+        let summary = run_counted(&rt, &Alone, alloc, &mut input, &mut out, bound, &mut tally);
+        assert_eq!(rt; summary, want);
+        assert_eq!(rt; tally.reads(), bound);
     }
 }
 
 #[test]
-fn tells_a_whole_script_at_once(rt: HostRuntime) -> Result<(), AllocError> {
+fn tells_a_whole_script_at_once(rt: HostRuntime) -> Result<(), Fail> {
     let script =
         b"set S 4\nfield a S 8\n\ninsert end u-move-constant-1L a 5 8\nsettle\n# note\nshow a end\nset S 4\ntake";
     let want = b"ok\nok\nrow 1\nsettled 1\nvalues 5 5 5 5\nrefused 3\nnothing\n";
     let text = transcript(rt.alloc(), script)?;
-    assert!(rt; text.as_slice() == want.as_slice());
+    assert_eq!(rt; text.as_slice(), want.as_slice());
     Ok(())
 }

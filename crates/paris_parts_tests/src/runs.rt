@@ -4,7 +4,7 @@ use crate::waiting::TwoAtOnce;
 use paris_calls::Tally;
 use paris_exec::{Gate, OpenGate};
 use paris_names::Fault;
-use paris_parts::{DeskRunFault, Transcript, run_parts, run_sessions};
+use paris_parts::{DeskRunFault, run_parts, run_sessions};
 use paris_session::{Alone, Summary};
 use std::alloc::Global;
 use std::process::Abort;
@@ -58,46 +58,34 @@ const TWO_ROWS: &[u8] =
 const TWO_RESULTS: &[u8] =
     b"ok\nok\nok\nrow 1\nrow 2\nsession 1\nclose\nedits 5\naudit yes\nvalues 1 1 1 1\nvalues 2 2 2 2\n";
 
-/// Whether a run of a row's sessions is answered and written, behind nothing, as the row says.
-fn is_played<R: Abort + Threads + Wait + Sync, G: Gate + Sync>(
-    rt: &R,
-    alloc: Global,
-    row: Row,
-    gate: &G,
-    out: &mut Vec<u8>,
-) -> bool {
-    let (script, written, commands, refusals) = row;
-    let mut reader = script;
-    let mut tally = Tally::new();
-    let answer = run_sessions(
-        rt,
-        &Alone,
-        alloc,
-        &mut reader,
-        out,
-        WORKERS,
-        gate,
-        &mut tally,
-    );
-    let summary = Summary { commands, refusals };
-    answer == Ok(summary) && out.as_slice() == written
-}
-
-/// Whether a row's sessions are answered and written as the row says.
 fn writes<R: Abort + Threads + Wait + Sync, G: Gate + Sync>(
     rt: &R,
     alloc: Global,
     row: Row,
     gate: &G,
-) -> bool {
+) {
+    let (script, written, commands, refusals) = row;
+    let mut reader = script;
     let mut out = Vec::new(alloc);
-    is_played(rt, alloc, row, gate, &mut out)
+    let answer = run_sessions(
+        rt,
+        &Alone,
+        alloc,
+        &mut reader,
+        &mut out,
+        WORKERS,
+        gate,
+        &mut Tally::new(),
+    );
+    let summary = Summary { commands, refusals };
+    assert_eq!(rt; answer, Ok(summary));
+    assert_eq!(rt; out.as_slice(), written);
 }
 
 #[test]
 fn scripts_are_played(rt: HostRuntime) -> Result<(), Fail> {
-    for (number, row) in ROWS.iter().enumerate() {
-        assert!(rt; writes(&rt, rt.alloc(), *row, &OpenGate), "script {number}");
+    for row in ROWS {
+        writes(&rt, rt.alloc(), *row, &OpenGate);
     }
     Ok(())
 }
@@ -105,28 +93,9 @@ fn scripts_are_played(rt: HostRuntime) -> Result<(), Fail> {
 #[test]
 fn independent_rows_are_executed_at_once(rt: HostRuntime) -> Result<(), Fail> {
     let gate = TwoAtOnce::new(&rt);
-    let is_written = writes(&rt, rt.alloc(), (TWO_ROWS, TWO_RESULTS, 7, 0), &gate);
-    assert!(rt; is_written && gate.has_let_two_through());
+    writes(&rt, rt.alloc(), (TWO_ROWS, TWO_RESULTS, 7, 0), &gate);
+    assert!(&rt; gate.has_let_two_through());
     Ok(())
-}
-
-/// What a script in parts leaves, or why it stops, where the history has room for so many entries.
-fn left_by<R: Abort + Threads + Wait + Sync>(
-    rt: &R,
-    alloc: Global,
-    script: &[u8],
-    limit: u64,
-) -> Result<Transcript, DeskRunFault> {
-    assert!(rt; script.len() <= 1_000 && limit <= 1_000);
-    run_parts(rt, &Alone, alloc, script, WORKERS, limit, &OpenGate)
-}
-
-/// Whether this was written.
-fn is_text(left: &Result<Transcript, DeskRunFault>, written: &[u8]) -> bool {
-    match left {
-        Ok(transcript) => transcript.text.as_slice() == written,
-        Err(_) => false,
-    }
 }
 
 /// A history of so many entries is long enough for a script.
@@ -137,7 +106,11 @@ fn fits<R: Abort + Threads + Wait + Sync>(
     limit: u64,
     written: &[u8],
 ) {
-    assert!(rt; is_text(&left_by(rt, alloc, script, limit), written));
+    assert!(rt; script.len() <= 1_000 && limit <= 1_000);
+    match run_parts(rt, &Alone, alloc, script, WORKERS, limit, &OpenGate) {
+        Ok(transcript) => assert_eq!(rt; transcript.text.as_slice(), written),
+        Err(_) => assert!(rt; false),
+    }
 }
 
 /// Looks are no calls: with a call of each worker, which finds nothing to do, the history has six entries.
@@ -157,7 +130,9 @@ fn stops<R: Abort + Threads + Wait + Sync>(
     limit: u64,
     fault: DeskRunFault,
 ) {
-    assert!(rt; left_by(rt, alloc, script, limit).err() == Some(fault));
+    assert!(rt; script.len() <= 1_000 && limit <= 1_000);
+    let answer = run_parts(rt, &Alone, alloc, script, WORKERS, limit, &OpenGate);
+    assert_eq!(rt; answer.err(), Some(fault));
 }
 
 #[test]
