@@ -14,6 +14,9 @@
 #include <stddef.h>
 #include <stdint.h>
 
+/* The version of this header and of the library. The soname of libparis.so ends in its first number. */
+#define PARIS_VERSION "0.1.0"
+
 #ifdef __cplusplus
 extern "C" {
 #endif
@@ -34,6 +37,12 @@ enum paris_status {
   PARIS_TOO_MANY = 105, /* the script is too long, or the session has answered as many lines as it can count */
   PARIS_TOO_WIDE = 106, /* a number is wider than a word */
   PARIS_PARTLY = 107    /* there was no memory left while rows were settled: those that ran are settled */
+};
+
+/* Why a row is refused for its data: paris_faults tells of these rows. Such a row is settled, and changes nothing. */
+enum paris_cause {
+  PARIS_COLLISION = 1, /* two messages meet at a processor */
+  PARIS_BAD_ADDRESS = 2 /* a processor holds an address outside its set */
 };
 
 /* A place of the program: its start, its end, or, by any other number, the place just after the row with that id. */
@@ -71,9 +80,24 @@ uint32_t paris_get(paris_handle *handle, const uint8_t *key, size_t key_len, uin
 /* Puts the ids of the rows in program order into a room of as many words. *count is how many they are, at PARIS_WRONG_ROOM too. */
 uint32_t paris_rows(paris_handle *handle, uint64_t *room, size_t len, size_t *count);
 
-/* Settles every row. *ran is how many rows were unsettled. At PARIS_PARTLY so many rows more are settled, the orders that were out
-   are given up, and the call can be made again. */
+/* Settles every row. *ran is how many rows were unsettled. PARIS_OK doesn't say that every row did its work: a settled row may be
+   refused for its data, and then it changes nothing. paris_faults tells which rows these are. At PARIS_PARTLY so many rows more are
+   settled, the orders that were out are given up, and the call can be made again. */
 uint32_t paris_settle(paris_handle *handle, uint64_t *ran);
+
+/* Puts the settled rows that are refused for their data, as the command `faults` lists them, into a room, in program order: three
+   words for each row, which are its id, its cause and a processor. The processor is the least one at which two messages meet, or the
+   least one that holds an address outside its set. Where the room has fewer words it has the first ones. *count is how many rows
+   these are, so 3 times as many words hold them all. */
+uint32_t paris_faults(paris_handle *handle, uint64_t *room, size_t len, size_t *count);
+
+/* Puts the text of a status into a room, or its first bytes where the room has fewer, and answers how many bytes the text has: what
+   the fault of this number is, or what stands above beside a status of the library. The text is ASCII, with no zero behind it. Any
+   other number, PARIS_OK too, has the empty text. */
+size_t paris_fault_text(uint32_t status, uint8_t *room, size_t len);
+
+/* The same of a cause. */
+size_t paris_cause_text(uint32_t cause, uint8_t *room, size_t len);
 
 #ifdef __cplusplus
 }

@@ -39,6 +39,7 @@ static void closed_handles(void) {
   WANT(paris_get(&handle, bytes("a"), 1, PARIS_END, room, 4, &told), PARIS_CLOSED);
   WANT(paris_rows(&handle, room, 4, &len), PARIS_CLOSED);
   WANT(paris_settle(&handle, &told), PARIS_CLOSED);
+  WANT(paris_faults(&handle, room, 4, &len), PARIS_CLOSED);
   WANT(len, 7);
   WANT(told, 7);
   WANT(room[0], 7);
@@ -106,6 +107,67 @@ static void sums_of_arrays(void) {
   WANT(paris_close(&handle), PARIS_OK);
 }
 
+/* A session with two sends on four processors: the first one's addresses are 0 0 1 1, so messages meet at the processors 0 and 1, and
+   the second one's 2 4 2 0, so processor 1 holds an address outside the set. */
+static void send_twice(paris_handle *handle) {
+  WANT(paris_open(handle), PARIS_OK);
+  WANT_REPLY(handle, "set s 4", "ok\n");
+  WANT_REPLY(handle, "field d s 8", "ok\n");
+  WANT_REPLY(handle, "field v s 8", "ok\n");
+  WANT_REPLY(handle, "field near s 3", "ok\n");
+  WANT_REPLY(handle, "field far s 3", "ok\n");
+  const uint64_t numbers[4] = {5, 6, 7, 8}, meet[4] = {0, 0, 1, 1}, outside[4] = {2, 4, 2, 0};
+  WANT(paris_set(handle, bytes("v"), 1, 0, numbers, 4), PARIS_OK);
+  WANT(paris_set(handle, bytes("near"), 4, 0, meet, 4), PARIS_OK);
+  WANT(paris_set(handle, bytes("far"), 3, 0, outside, 4), PARIS_OK);
+  WANT_REPLY(handle, "insert end send-1L d near v 8 none", "row 1\n");
+  WANT_REPLY(handle, "insert end send-1L d far v 8 none", "row 2\n");
+}
+
+static void want_faults(int line, paris_handle *handle, size_t words, size_t wanted_count, const uint64_t *wanted) {
+  uint64_t room[8] = {9, 9, 9, 9, 9, 9, 9, 9};
+  size_t count = 99;
+  want(line, paris_faults(handle, room, words, &count), PARIS_OK);
+  want(line, count, wanted_count);
+  for (size_t i = 0; i < 8; i++) want(line, room[i], i < words && i < 3 * wanted_count ? wanted[i] : 9);
+}
+
+static void rows_that_are_refused(void) {
+  static const uint64_t both[6] = {1, PARIS_COLLISION, 0, 2, PARIS_BAD_ADDRESS, 1};
+  paris_handle handle = {0};
+  uint64_t ran = 0, told = 0, d[4] = {9, 9, 9, 9};
+  send_twice(&handle);
+  want_faults(__LINE__, &handle, 8, 0, both);
+  WANT(paris_settle(&handle, &ran), PARIS_OK);
+  WANT(ran, 2);
+  for (size_t words = 0; words <= 8; words++) want_faults(__LINE__, &handle, words, 2, both);
+  WANT_REPLY(&handle, "faults", "faults 2\n1 collision 0\n2 bad-address 1\n");
+  WANT(paris_get(&handle, bytes("d"), 1, PARIS_END, d, 4, &told), PARIS_OK);
+  for (size_t i = 0; i < 4; i++) WANT(d[i], 0);
+  WANT_REPLY(&handle, "replace 1 send-with-u-add-1L d near v 8 none", "ok\n");
+  WANT(paris_settle(&handle, &ran), PARIS_OK);
+  want_faults(__LINE__, &handle, 8, 1, both + 3);
+  WANT(paris_get(&handle, bytes("d"), 1, 1, d, 4, &told), PARIS_OK);
+  WANT(d[0], 5 + 6);
+  WANT(d[1], 7 + 8);
+  WANT(paris_close(&handle), PARIS_OK);
+}
+
+static void texts_and_short_rooms(void) {
+  uint8_t room[32] = {0};
+  WANT(paris_fault_text(PARIS_CLOSED, room, sizeof room), strlen("the handle is closed"));
+  WANT(strcmp((const char *)room, "the handle is closed"), 0);
+  memset(room, 'x', sizeof room);
+  WANT(paris_fault_text(PARIS_NO_KEY, room, 8), strlen("the word is no key"));
+  WANT(memcmp(room, "the wordxxxx", 12), 0);
+  WANT(paris_cause_text(PARIS_COLLISION, room, 3), strlen("two messages meet at a processor"));
+  WANT(memcmp(room, "two wordxxxx", 12), 0);
+  WANT(paris_fault_text(PARIS_OK, room, sizeof room), 0);
+  WANT(paris_fault_text(UINT32_MAX, room, sizeof room), 0);
+  WANT(paris_cause_text(0, room, sizeof room), 0);
+  WANT(memcmp(room, "two wordxxxx", 12), 0);
+}
+
 static void scripts_and_short_rooms(void) {
   uint8_t room[8] = "xxxxxxx";
   size_t len = 0;
@@ -148,6 +210,8 @@ int main(void) {
   closed_handles();
   open_twice_and_close_twice();
   sums_of_arrays();
+  rows_that_are_refused();
+  texts_and_short_rooms();
   scripts_and_short_rooms();
   a_thousand_handles();
   a_thousand_handles_at_once();

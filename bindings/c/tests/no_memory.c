@@ -118,6 +118,15 @@ static void rows(paris_handle *handle, const char *none, struct told *told) {
   put_room(told, room);
 }
 
+static void faults(paris_handle *handle, const char *none, struct told *told) {
+  (void)none;
+  uint64_t room[NUMBERS] = {1, 1, 1, 1, 1, 1, 1, 1};
+  size_t count = 0;
+  told->status = paris_faults(handle, room, NUMBERS, &count);
+  put_room(told, room);
+  if (!told->status) put(told, &count, sizeof count);
+}
+
 static void script(paris_handle *handle, const char *text, struct told *told) {
   (void)handle;
   uint8_t room[64] = {0};
@@ -175,6 +184,7 @@ static const struct step STEPS[] = {
     {"list", answer},
     {"settle", settle_line},
     {"faults", answer},
+    {"", faults},
     {"# a remark", answer},
     {"no such command", answer},
     {"a", set},

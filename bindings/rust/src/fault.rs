@@ -130,3 +130,16 @@ impl Display for Fault {
 }
 
 impl Error for Fault {}
+
+#[cfg(test)]
+mod tests {
+    use super::Fault;
+    use crate::sys::texts;
+
+    #[test]
+    fn faults_have_the_texts_of_the_library() {
+        for fault in Fault::ALL {
+            assert_eq!(texts::of_status(fault.number()), fault.to_string());
+        }
+    }
+}

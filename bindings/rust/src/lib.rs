@@ -15,11 +15,15 @@
 //!     session.set("a", 0, &[1, 2, 3, 250])?;
 //!     assert_eq!(session.answer("insert end u-add-3-1L a a a 8")?, "row 1\n");
 //!     assert_eq!(session.settle()?, 1);
+//!     assert_eq!(session.faults()?, []);
 //!     assert_eq!(session.get("a", Place::End)?, [2, 4, 6, 244]);
 //!     assert_eq!(session.get("a", Place::Start)?, [1, 2, 3, 250]);
 //!     Ok(())
 //! }
 //! ```
+//!
+//! A settled row may be refused for its data, as a plain send in which two messages meet:
+//! [`Session::faults`] tells of such rows.
 //!
 //! The library is that of the folder which the variable `PARIS_LIB_DIR` names as the package is
 //! built, else that of `bindings/c/out`, where `bindings/c/build` or `bindings/c/unpack` of the repository puts it.
@@ -28,10 +32,12 @@
 mod error;
 mod fault;
 mod place;
+mod refused;
 mod session;
 mod sys;
 
 pub use error::Error;
 pub use fault::Fault;
 pub use place::Place;
+pub use refused::{Cause, RowFault};
 pub use session::{transcript, Session};

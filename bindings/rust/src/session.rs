@@ -1,7 +1,11 @@
 use crate::error::Error;
 use crate::place::Place;
+use crate::refused::RowFault;
 use crate::sys::{self, Handle};
 use std::fmt::{self, Debug, Formatter};
+
+/// So many refused rows are told by one call of the library, and more of them by two.
+const FEW_ROWS: usize = 32;
 
 /// A session: a program, its input data, what is settled of it, and the orders that were taken.
 ///
@@ -79,8 +83,49 @@ impl Session {
 
     /// Settles every row, and answers how many were unsettled: the command `settle` without its
     /// text, which leaves the orders that were taken.
+    ///
+    /// That a row is settled doesn't say that it did its work: it may be refused for its data, and
+    /// then it changes nothing. [`Session::faults`] tells which rows these are.
+    ///
+    /// ```
+    /// # use paris::{Cause, Place, Session};
+    /// # fn main() -> Result<(), paris::Error> {
+    /// let mut session = Session::new()?;
+    /// session.answer("set s 4")?;
+    /// session.answer("field address s 2")?;
+    /// session.answer("field a s 8")?;
+    /// session.answer("field d s 8")?;
+    /// session.set("address", 0, &[0, 0, 1, 2])?;
+    /// session.set("a", 0, &[1, 2, 3, 4])?;
+    /// session.answer("insert end send-1L d address a 8 none")?;
+    ///
+    /// // Both messages of the processors 0 and 1 are for processor 0.
+    /// assert_eq!(session.settle()?, 1);
+    /// assert_eq!(session.get("d", Place::End)?, [0; 4]);
+    /// let fault = session.faults()?[0];
+    /// assert_eq!((fault.row, fault.cause, fault.processor), (1, Cause::Collision, 0));
+    /// assert_eq!(fault.to_string(), "row 1: two messages meet at processor 0");
+    /// # Ok(())
+    /// # }
+    /// ```
     pub fn settle(&mut self) -> Result<u64, Error> {
         self.0.settle()
+    }
+
+    /// The settled rows that are refused for their data, in program order: the command `faults`
+    /// without its text.
+    pub fn faults(&self) -> Result<Vec<RowFault>, Error> {
+        let mut words = vec![0; RowFault::WORDS * FEW_ROWS];
+        let count = self.0.faults(&mut words)?;
+        words.resize(RowFault::WORDS * count, 0);
+        if count > FEW_ROWS {
+            self.0.faults(&mut words)?;
+        }
+        Ok(words
+            .chunks_exact(RowFault::WORDS)
+            .map(|told| RowFault::of_words(told[0], told[1], told[2]))
+            .map(|fault| fault.expect("the library has two causes"))
+            .collect())
     }
 }
 

@@ -56,6 +56,11 @@ extern "C" {
     ) -> u32;
     fn paris_rows(handle: *mut Words, room: *mut u64, len: usize, count: *mut usize) -> u32;
     fn paris_settle(handle: *mut Words, ran: *mut u64) -> u32;
+    fn paris_faults(handle: *mut Words, room: *mut u64, len: usize, count: *mut usize) -> u32;
+    #[cfg(test)]
+    fn paris_fault_text(status: u32, room: *mut u8, len: usize) -> usize;
+    #[cfg(test)]
+    fn paris_cause_text(cause: u32, room: *mut u8, len: usize) -> usize;
 }
 
 /// What became of a call that told this number.
@@ -138,6 +143,16 @@ impl Handle {
         outcome(status, count as u64)
     }
 
+    /// Puts the words of refused rows into a room, as many of them as there is room for, and says how
+    /// many rows these are.
+    pub(crate) fn faults(&self, room: &mut [u64]) -> Result<usize, Error> {
+        let mut count = 0;
+        // SAFETY: the handle is in no other call, and the room is a slice.
+        let status =
+            unsafe { paris_faults(self.0.get(), room.as_mut_ptr(), room.len(), &mut count) };
+        outcome(status, 0).map(|()| count)
+    }
+
     pub(crate) fn settle(&mut self) -> Result<u64, Error> {
         let mut ran = 0;
         // SAFETY: the handle is in no other call.
@@ -171,4 +186,25 @@ pub(crate) fn script(script: &[u8], room: &mut [u8]) -> Result<usize, Error> {
         )
     };
     outcome(status, 0).map(|()| len)
+}
+
+/// The library's texts, for the tests: those of this package are the same.
+#[cfg(test)]
+pub(crate) mod texts {
+    const ROOM: usize = 128;
+
+    fn text_of(call: unsafe extern "C" fn(u32, *mut u8, usize) -> usize, number: u32) -> String {
+        let mut room = [0; ROOM];
+        // SAFETY: the room is an array.
+        let size = unsafe { call(number, room.as_mut_ptr(), room.len()) };
+        String::from_utf8_lossy(&room[..size]).into_owned()
+    }
+
+    pub(crate) fn of_status(status: u32) -> String {
+        text_of(super::paris_fault_text, status)
+    }
+
+    pub(crate) fn of_cause(cause: u32) -> String {
+        text_of(super::paris_cause_text, cause)
+    }
 }

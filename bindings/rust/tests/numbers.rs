@@ -1,6 +1,6 @@
 //! The numbers of this package beside those of the library's header and of the machine's faults.
 
-use paris::{Error, Fault};
+use paris::{Cause, Error, Fault};
 use std::collections::BTreeMap;
 
 const HEADER: &str = include_str!("../../c/paris.h");
@@ -20,8 +20,15 @@ fn errors() -> BTreeMap<&'static str, Error> {
     ])
 }
 
+/// The names and the numbers of an enum of the header.
+fn declared(name: &str) -> BTreeMap<&'static str, u32> {
+    let (_, from) = HEADER.split_once(&format!("enum {name} {{")).expect(name);
+    let (body, _) = from.split_once("};").expect(name);
+    body.lines().filter_map(number_of).collect()
+}
+
 /// The name and the number of a line of the header, as `  PARIS_OK = 0,`.
-fn status_of(line: &str) -> Option<(&str, u32)> {
+fn number_of(line: &str) -> Option<(&str, u32)> {
     let (name, rest) = line.strip_prefix("  PARIS_")?.split_once(" = ")?;
     let digits = rest.split(|c: char| !c.is_ascii_digit()).next()?;
     Some((name, digits.parse().ok()?))
@@ -36,13 +43,29 @@ fn fault_of(line: &str) -> Option<(&str, u32)> {
 
 #[test]
 fn statuses_are_those_of_the_header() {
-    let mut declared: BTreeMap<_, _> = HEADER.lines().filter_map(status_of).collect();
+    let mut declared = declared("paris_status");
     assert_eq!(declared.remove("OK"), Some(0));
     let known: BTreeMap<_, _> = errors()
         .into_iter()
         .map(|(name, error)| (name, error.status()))
         .collect();
     assert_eq!(known, declared);
+}
+
+#[test]
+fn causes_are_those_of_the_header() {
+    let known = BTreeMap::from([
+        ("COLLISION", Cause::Collision.number()),
+        ("BAD_ADDRESS", Cause::BadAddress.number()),
+    ]);
+    assert_eq!(known, declared("paris_cause"));
+    for number in 0..10 {
+        assert_eq!(
+            Cause::of_number(number).is_some(),
+            matches!(number, 1..=2),
+            "cause {number}"
+        );
+    }
 }
 
 #[test]

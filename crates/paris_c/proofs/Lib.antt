@@ -1,3 +1,4 @@
 mod KeptValues
 mod FaultNumbers
 mod Numbers
+mod FaultWords

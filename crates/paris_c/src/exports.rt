@@ -3,12 +3,15 @@
 ghost use Rattle.std.specs.Prelude.{◌≡◌, ◌≢◌, ◌⊎◌, ◌≤◌, ◌^◌, None, length};
 ghost use Rattle.paris_text.specs.Words.{key_word};
 ghost use Rattle.paris_session.specs.Transcript.{transcript};
-ghost use Rattle.paris_c.specs.Calls.{filled, looked, IsFresh, IsAnswered, IsFull, IsPartlyAnswered, IsReply, IsSet, IsSetFault, ShowsNumbers, ShowsCount, ShowsPending, ShowsFault, ShowsWide, HasRows, CountsRows, IsSettled, IsPartlySettled};
+ghost use Rattle.paris_c.specs.Calls.{filled, looked, IsFresh, IsAnswered, IsFull, IsPartlyAnswered, IsReply, IsSet, IsSetFault, ShowsNumbers, ShowsCount, ShowsPending, ShowsFault, ShowsWide, HasRows, CountsRows, HasFaults, CountsFaults, IsSettled, IsPartlySettled};
+ghost use Rattle.paris_c.specs.Texts.{cause_text, status_text};
 ghost use Rattle.paris_c.specs.declared.statuses.TheConstants.{OK, NO_MEMORY, CLOSED, NO_KEY, PENDING, WRONG_ROOM, TOO_MANY, TOO_WIDE, PARTLY};
 
 use crate::desk::Desk;
 use crate::handle::Handle;
+use crate::rooms::fill;
 use crate::statuses::{CLOSED, NO_MEMORY, OK, TOO_MANY};
+use crate::texts::{cause_text, status_text};
 use std::alloc::Global;
 
 /// Opens a session in a handle, and drops what it held.
@@ -83,14 +86,6 @@ pub extern "C" fn paris_reply(alloc: Global, handle: &mut Handle, room: &mut [u8
     fill(room, desk.reply.as_slice());
     handle.put(desk);
     OK
-}
-
-/// Copies a text to a room, as much of it as there is room for.
-fn fill(room: &mut [u8], text: &[u8])
-    ensures { room.new ≡ filled room.old text.now }
-{
-    let fit = text.len().min(room.len());
-    room[..fit].copy_from_slice(&text[..fit]);
 }
 
 /// Writes the transcript of a script to a room, as much of it as there is room for, and says its length.
@@ -218,4 +213,51 @@ pub extern "C" fn paris_settle(alloc: Global, handle: &mut Handle, ran: &mut u64
     let status = desk.settle(ran);
     handle.put(desk);
     status
+}
+
+/// Puts the settled rows that are refused for their data, in program order, into a room, as many words of them as there is room for,
+/// and says how many these rows are. Each is three words: its id, its cause and the processor.
+#[unsafe(no_mangle)]
+pub extern "C" fn paris_faults(
+    alloc: Global,
+    handle: &mut Handle,
+    room: &mut [u64],
+    count: &mut usize,
+) -> u32
+    ensures faults { result ≡ OK → HasFaults handle.old.kept.value room.old room.new }
+    ensures count { result ≡ OK → CountsFaults handle.old.kept.value count.new }
+    ensures closed { handle.old.kept.value ≡ None → result ≡ CLOSED }
+    ensures was_closed { result ≡ CLOSED → handle.old.kept.value ≡ None }
+    ensures status { (result ≡ OK) ⊎ ((result ≡ CLOSED) ⊎ (result ≡ NO_MEMORY)) }
+    ensures room { result ≢ OK → room.new ≡ room.old }
+    ensures kept { handle.new.kept.value ≡ handle.old.kept.value }
+{
+    let Some(desk) = handle.take(alloc) else {
+        return CLOSED;
+    };
+    let status = desk.faults(alloc, room, count);
+    handle.put(desk);
+    status
+}
+
+/// Puts the text of a status into a room, as much of it as there is room for, and says its length.
+#[unsafe(no_mangle)]
+pub extern "C" fn paris_fault_text(status: u32, room: &mut [u8]) -> usize
+    ensures text { room.new ≡ filled room.old (status_text status) }
+    ensures len { result ≡ length (status_text status) }
+{
+    let text = status_text(status);
+    fill(room, text);
+    text.len()
+}
+
+/// Puts the text of a cause into a room, as much of it as there is room for, and says its length.
+#[unsafe(no_mangle)]
+pub extern "C" fn paris_cause_text(cause: u32, room: &mut [u8]) -> usize
+    ensures text { room.new ≡ filled room.old (cause_text cause) }
+    ensures len { result ≡ length (cause_text cause) }
+{
+    let text = cause_text(cause);
+    fill(room, text);
+    text.len()
 }

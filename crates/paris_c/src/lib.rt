@@ -3,7 +3,10 @@
 
 mod desk;
 mod exports;
+mod faults;
 mod handle;
 mod inputs;
 mod looks;
+mod rooms;
 mod statuses;
+mod texts;

@@ -32,6 +32,12 @@ pub(crate) const TOO_WIDE: u32 = 106;
 /// Memory was refused while rows were settled. Those that ran are settled.
 pub(crate) const PARTLY: u32 = 107;
 
+/// The cause of a row that is refused for its data: two messages meet at a processor.
+pub(crate) const COLLISION: u32 = 1;
+
+/// The cause of a row that is refused for its data: a processor holds an address outside its set.
+pub(crate) const BAD_ADDRESS: u32 = 2;
+
 /// The status of a call that is refused by a fault.
 #[tactic(auto, using(crate::proofs::FaultNumbers::number_small))]
 pub(crate) fn of_fault(fault: Fault) -> u32
