@@ -2,14 +2,18 @@
 
 from pevudlo import paris
 from pevudlo.hints.explanation import Explanation, Refusal
+from pevudlo.lang.causes import RefusedRows
 from pevudlo.lang.places import END, START, Place, after
 from pevudlo.lang.replies import Cause, OrderTaken, Row, RowFault, Status, Verdict, Word
 from pevudlo.machine import Machine, RowList
 from pevudlo.values.shaped import Pending, ValueList, WrongShape, signed, unsigned
+from pevudlo.version import release
 from pevudlo.wire.library import Library
 from pevudlo.wire.library_places import find_library
 from pevudlo.wire.pipe import Ended, OutOfTurn, Pipe, PipeError
 from pevudlo.wire.program import NotFound, find
+
+__version__ = release()
 
 __all__ = [
     "END",
@@ -27,6 +31,7 @@ __all__ = [
     "PipeError",
     "Place",
     "Refusal",
+    "RefusedRows",
     "Row",
     "RowFault",
     "RowList",
@@ -35,6 +40,7 @@ __all__ = [
     "Verdict",
     "Word",
     "WrongShape",
+    "__version__",
     "after",
     "find",
     "find_library",

@@ -8,6 +8,7 @@ from typing import NoReturn
 from pevudlo.draw.visible import visible
 
 MOST_WORKERS = 16
+USUAL_WORKERS = 2
 
 
 class Arguments(argparse.ArgumentParser):
@@ -19,16 +20,23 @@ class Arguments(argparse.ArgumentParser):
         does: str,
         more: str | None = None,
         formatter: type[argparse.HelpFormatter] = argparse.HelpFormatter,
+        usual_workers: int | None = USUAL_WORKERS,
     ) -> None:
         super().__init__(
             prog=f"paris {command}", description=does, epilog=more, formatter_class=formatter, allow_abbrev=False
         )
-        said = "how many threads settle rows (default: %(default)s)"
-        self.add_argument("--workers", type=workers, default=2, metavar=f"1-{MOST_WORKERS}", help=said)
+        said = f"how many threads settle rows (default: {USUAL_WORKERS})"
+        self.add_argument("--workers", type=workers, default=usual_workers, metavar=f"1-{MOST_WORKERS}", help=said)
 
     def error(self, message: str) -> NoReturn:
         """Says what is wrong, below the usage."""
         super().error(visible(message))
+
+
+def add_quiet(parser: argparse.ArgumentParser, also: str = "") -> None:
+    """Adds the word that turns the line of progress off, and what it does also."""
+    said = "say nothing of how far it is, on a terminal" + (f", and {also}" if also else "")
+    parser.add_argument("--quiet", action="store_true", help=said)
 
 
 def workers(word: str) -> int:

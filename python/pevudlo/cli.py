@@ -10,8 +10,10 @@ import importlib
 import os
 import sys
 
+from pevudlo.version import release
+
 COMMANDS = {
-    "explain": "pevudlo.explain",
+    "explain": "pevudlo.explain.command",
     "prompt": "pevudlo.prompt.command",
     "page": "pevudlo.page.command",
     "live": "pevudlo.live.command",
@@ -21,6 +23,7 @@ COMMANDS = {
 def arguments() -> argparse.ArgumentParser:
     """The reader of the words: a command, and those that it reads itself."""
     parser = argparse.ArgumentParser(prog="pevudlo", description="Paris programs, for people.", allow_abbrev=False)
+    parser.add_argument("--version", action="version", version=f"%(prog)s {release()}")
     parser.add_argument("command", choices=COMMANDS, help="`pevudlo COMMAND --help` says what it does and takes")
     parser.add_argument("words", nargs=argparse.REMAINDER, metavar="...", help="the words of the command")
     return parser

@@ -3,16 +3,18 @@
 from __future__ import annotations
 
 import os
-from collections.abc import Mapping
+import warnings
+from collections.abc import Mapping, Sequence
 from pathlib import Path
 from types import MappingProxyType, TracebackType
+from typing import SupportsIndex, overload
 
 from pevudlo.data import ArrayData, LineData
 from pevudlo.draw.grids import Grid
 from pevudlo.lang.board import Board, Declared
+from pevudlo.lang.causes import MOST_WARNED, RefusedRows, causes
 from pevudlo.lang.places import END, Place, spelled
 from pevudlo.lang.replies import (
-    Faults,
     NoReply,
     Nothing,
     Ok,
@@ -25,8 +27,9 @@ from pevudlo.lang.replies import (
     Verdict,
 )
 from pevudlo.talk import Talk, of_kind
+from pevudlo.values.indices import Index, first_of, shown_part, split
 from pevudlo.values.notebook import rows_html
-from pevudlo.values.shaped import Pending, Shown, check_shape, flat, shaped
+from pevudlo.values.shaped import Pending, Shown, check_shape, flat, shaped, whole
 from pevudlo.wire.library import Library
 from pevudlo.wire.library_places import find_library
 from pevudlo.wire.pipe import Pipe
@@ -34,11 +37,13 @@ from pevudlo.wire.program import find
 
 
 class RowList(tuple[Row, ...]):
-    """Rows in program order."""
+    """Rows in program order. `refused` has the ids of those that are refused for their data."""
+
+    refused: frozenset[int] = frozenset()
 
     def _repr_html_(self) -> str:
         """A table of the rows with their states."""
-        return rows_html(self)
+        return rows_html(self, self.refused)
 
 
 class Machine:
@@ -132,8 +137,16 @@ class Machine:
         self._talk.ask(f"replace {row} {text}", Ok)
 
     def settle(self) -> int:
-        """Runs all rows that are unsettled, and says how many they were."""
-        return self._talk.ask("settle", Settled).count
+        """Runs all rows that are unsettled, and says how many they were.
+
+        Where rows ran and some are refused for their data, a warning RefusedRows names them, once for the settle.
+        """
+        count = self._talk.ask("settle", Settled).count
+        faults = self.faults() if count else ()
+        if faults:
+            words = causes(faults[:MOST_WARNED], self._board, self._look)
+            warnings.warn(RefusedRows(faults, words), stacklevel=2)
+        return count
 
     def take(self) -> OrderTaken | None:
         """Takes an order for the first ready row. None where no waiting row is ready."""
@@ -141,7 +154,10 @@ class Machine:
         return None if isinstance(reply, Nothing) else of_kind(reply, OrderTaken)
 
     def bring(self, order: int | OrderTaken) -> Verdict:
-        """Executes an order, and brings its result: the verdict says what became of it."""
+        """Executes an order, and brings its result: the verdict says what became of it.
+
+        It warns of nothing. Where it is kept and the row is refused for its data, `faults` has the row.
+        """
         return self._talk.ask(f"bring {order.order if isinstance(order, OrderTaken) else order}", Verdict)
 
     def release(self) -> None:
@@ -150,6 +166,79 @@ class Machine:
 
     def show(self, key: str, at: Place = END) -> Shown | Pending:
         """The numbers of a key at a place, in the shape of its set, or the row that has to be settled first."""
+        grid = self._grid(key, at)
+        return grid if isinstance(grid, Pending) else shaped(grid)
+
+    def rows(self) -> RowList:
+        """The rows in program order."""
+        rows = RowList(self._talk.ask("list", Rows).rows)
+        rows.refused = frozenset(fault.row for fault in self.faults())
+        return rows
+
+    def faults(self) -> tuple[RowFault, ...]:
+        """The settled rows that were refused for their data when they ran, in program order. Each stores nothing."""
+        return self._talk.faults()
+
+    def causes(self) -> dict[int, str]:
+        """Why the rows of `faults` are refused for their data, in words, by their ids in program order.
+
+        The bad addresses of the first twelve are looked at; of others the processor alone is named.
+        """
+        return causes(self.faults(), self._board, self._look)
+
+    def raw(self, line: str) -> list[str]:
+        """The lines of the reply to a line of a script, as they come; a refusal is a reply here. None for a comment."""
+        answer = self._talk.tell(line)
+        return [] if answer is None else list(answer.lines)
+
+    @overload
+    def __getitem__(self, index: str) -> Shown | Pending:
+        ...
+
+    @overload
+    def __getitem__(self, index: tuple[str, SupportsIndex]) -> int | Pending:
+        ...
+
+    @overload
+    def __getitem__(self, index: tuple[str, slice]) -> Shown | list[int] | Pending:
+        ...
+
+    def __getitem__(self, index: Index) -> int | Shown | list[int] | Pending:
+        """The numbers of a key at the end of the program.
+
+        `machine["a"]` are all of them, `machine["a", 3:]` those from a processor on, one after another, and
+        `machine["a", 3]` is one. Raises IndexError where the set has no such processor, ValueError for a step, and
+        TypeError for another index.
+        """
+        key, part = split(index)
+        grid = self._grid(key, END)
+        if isinstance(grid, Pending):
+            return grid
+        return shaped(grid) if part is None else shown_part(grid, part)
+
+    def __setitem__(self, index: Index, values: object) -> None:
+        """Gives a key its input data.
+
+        `machine["a"] = values` gives a number for each processor, `machine["a", 3:] = values` gives them from a
+        processor on, and `machine["a", 3] = value` gives one. Many numbers go in several lines, each of them an edit.
+        Where one of the lines would be refused, it is asked first, so that a refusal changes nothing.
+        Raises WrongShape where whole values don't fit the set, IndexError for a processor below 0, TypeError for
+        another index, and what `flat` raises.
+        """
+        key, part = split(index)
+        numbers, shape = flat([whole(values)] if isinstance(part, int) else values)
+        if part is None:
+            axes = self._board.axes_of(key)
+            if axes is not None:
+                check_shape(shape, key, axes)
+            self._data.give(key, 0, numbers)
+        else:
+            name = self._board.set_of(key)
+            processors = 0 if name is None else self._board.processors(name)
+            self._data.give(key, first_of(key, part, len(numbers), processors), numbers)
+
+    def _grid(self, key: str, at: Place) -> Grid | Pending:
+        """The numbers of a key at a place, as a grid."""
         if not isinstance(key, str):
             raise TypeError(f"a key is a name, and not {type(key).__name__}: machine['a'][0] is a number of a")
         numbers = self._data.look(key, spelled(at))
@@ -158,60 +247,13 @@ class Machine:
         axes, width = self._board.axes_of(key), self._board.width_of(key)
         if axes is None or width is None:
             raise NoReply(f"numbers of {key}, which isn't declared")
-        return shaped(Grid(key, axes, width, numbers, place=at.text))
-
-    def rows(self) -> RowList:
-        """The rows in program order."""
-        return RowList(self._talk.ask("list", Rows).rows)
-
-    def faults(self) -> tuple[RowFault, ...]:
-        """The settled rows that were refused when they ran, in program order."""
-        return self._talk.ask("faults", Faults).faults
-
-    def raw(self, line: str) -> list[str]:
-        """The lines of the reply to a line of a script, as they come; a refusal is a reply here. None for a comment."""
-        answer = self._talk.tell(line)
-        return [] if answer is None else list(answer.lines)
-
-    def __getitem__(self, key: str) -> Shown | Pending:
-        """The numbers of a key at the end of the program."""
-        return self.show(key)
-
-    def __setitem__(self, key: str | tuple[str, slice | int], values: object) -> None:
-        """Gives a key its input data.
-
-        `machine["a"] = values` gives a number for each processor, `machine["a", 3:] = values` gives them from a
-        processor on, and `machine["a", 3] = value` gives one. Many numbers go in several lines, each of them an edit.
-        Where one of the lines would be refused, it is asked first, so that a refusal changes nothing.
-        Raises WrongShape where whole values don't fit the set, and what `flat` raises.
-        """
-        if isinstance(key, str):
-            numbers, shape = flat(values)
-            axes = self._board.axes_of(key)
-            if axes is not None:
-                check_shape(shape, key, axes)
-            self._data.give(key, 0, numbers)
-        else:
-            name, where = key
-            numbers, _ = flat([values] if isinstance(where, int) else values)
-            self._data.give(name, self._first(name, where, len(numbers)), numbers)
+        return Grid(key, axes, width, numbers, place=at.text)
 
     @property
     def _board(self) -> Board:
         return self._talk.board
 
-    def _first(self, key: str, where: slice | int, count: int) -> int:
-        """The first processor of an index. Raises IndexError for one below 0, and ValueError for a wrong slice."""
-        name = self._board.set_of(key)
-        processors = 0 if name is None else self._board.processors(name)
-        first = where if isinstance(where, int) else where.start or 0
-        first += processors if first < 0 else 0
-        if first < 0:
-            raise IndexError(f"{key} has no processor {first - processors}")
-        if isinstance(where, slice):
-            stop = first + count if where.stop is None else where.stop + (processors if where.stop < 0 else 0)
-            if where.step not in (None, 1) or stop != first + count:
-                raise ValueError(
-                    f"{count} values don't fill {key}[{first}:{stop}]: give a first processor, and no step"
-                )
-        return first
+    def _look(self, key: str, place: str) -> Sequence[int] | None:
+        """The numbers of a key at a place as they come, or None where it is pending."""
+        numbers = self._data.look(key, place)
+        return None if isinstance(numbers, Pending) else numbers

@@ -5,6 +5,7 @@ from __future__ import annotations
 from collections.abc import Callable
 from typing import Any
 
+from selenium.common.exceptions import StaleElementReferenceException
 from selenium.webdriver.common.by import By
 from selenium.webdriver.remote.webdriver import WebDriver
 from selenium.webdriver.remote.webelement import WebElement
@@ -21,8 +22,8 @@ def evaluated(driver: WebDriver, script: str, *words: object) -> Any:
 
 
 def until(driver: WebDriver, what: Callable[[], bool]) -> None:
-    """Waits until something holds, and fails where it doesn't in time."""
-    WebDriverWait(driver, PATIENCE, 0.05).until(lambda _: what())
+    """Waits until something holds, and fails where it doesn't in time. What looks at an element that was replaced looks again."""
+    WebDriverWait(driver, PATIENCE, 0.05, [StaleElementReferenceException]).until(lambda _: what())
 
 
 def one(driver: WebDriver, selector: str) -> WebElement:

@@ -9,7 +9,7 @@ from dataclasses import dataclass, field
 from pevudlo.wire.program import ROOT
 
 TOLD = ("show", "list", "faults", "take", "bring", "settle")
-"""The commands behind which a comment says what is answered."""
+"""The commands after which a comment says what is answered."""
 
 
 @dataclass
@@ -59,12 +59,12 @@ def commands_of(name: str) -> list[str]:
 
 
 def before(block: Block, earlier: list[Block], all_parts: list[Part]) -> list[str]:
-    """The commands that a block stands behind: an example, the blocks of a part, or those of its own script so far."""
+    """The commands that a block comes after: an example, the blocks of a part, or those of its own script so far."""
     if block.begins_anew:
         return []
-    if example := re.search(r"behind `examples/([\w-]+)\.paris`", block.above, re.I):
+    if example := re.search(r"after `examples/([\w-]+)\.paris`", block.above, re.I):
         return commands_of(example[1])
-    if part := re.search(r"behind part (\d)", block.above, re.I):
+    if part := re.search(r"after part (\d)", block.above, re.I):
         (named,) = (each for each in all_parts if each.heading.startswith(f"{part[1]}."))
         return [line for each in named.blocks for line in each.lines if not line.startswith("#")]
     lines = before(earlier[-1], earlier[:-1], all_parts)

@@ -32,9 +32,20 @@ def children_of(process: int) -> list[int]:
 
 
 class Terminal:
-    """A prompt that a user types to. `seen` is all that came out, without the terminal's own signs."""
+    """A prompt that a user types to. `seen` is all that came out, without the terminal's own signs.
 
-    def __init__(self, state: Path, *words: str, program: Path | None = None, inputrc: str = "") -> None:
+    A quiet one says nothing of how far it is, which it would say where it is slow.
+    """
+
+    def __init__(
+        self,
+        state: Path,
+        *words: str,
+        program: Path | None = None,
+        inputrc: str = "",
+        columns: int = 220,
+        is_quiet: bool = True,
+    ) -> None:
         rc = state / "inputrc"
         rc.write_text(inputrc)
         environment = {
@@ -45,11 +56,11 @@ class Terminal:
             "INPUTRC": str(rc),
             "TERM": "xterm",
         }
-        arguments = [sys.executable, "-P", "-m", "pevudlo", "prompt", *words]
+        arguments = [sys.executable, "-P", "-m", "pevudlo", "prompt", *["--quiet"] * is_quiet, *words]
         self.process, self.end = pty.fork()
         if self.process == 0:
             os.execve(sys.executable, arguments, environment)
-        fcntl.ioctl(self.end, termios.TIOCSWINSZ, struct.pack("HHHH", 50, 220, 0, 0))
+        fcntl.ioctl(self.end, termios.TIOCSWINSZ, struct.pack("HHHH", 50, columns, 0, 0))
         self.seen = ""
         self.status: int | None = None
 

@@ -39,9 +39,11 @@ def test_bench_measures() -> None:
     find()
     ran = subprocess.run([sys.executable, REPOSITORY / "bench/pipe", "1"], capture_output=True, text=True, timeout=60)
     assert ran.returncode in (0, 1) and ran.stderr == ""
-    head, _, *lines = ran.stdout.splitlines()
-    assert head.startswith("| what |") and len(lines) == 4
-    assert all(re.fullmatch(r"\|[^|]+\|( \d+\.\d (us|ms) \|){3} 200 (us|ms) \|", line) for line in lines)
+    times, rows = (table.splitlines() for table in ran.stdout.split("\n\n"))
+    assert times[0].startswith("| what |") and len(times) == 6
+    assert all(re.fullmatch(r"\|[^|]+\|( \d+\.\d (us|ms) \|){3} 200 (us|ms) \|", line) for line in times[2:])
+    assert rows[0].startswith("| a row is put in |") and len(rows) in (4, 6)
+    assert all(re.fullmatch(r"\|[^|]+\|( \d+\.\d µs \|){2} \*\*\d+\.\d+\*\* \|", line) for line in rows[2:])
 
 
 def test_bench_measures_arrays(libparis: Path) -> None:
@@ -69,6 +71,22 @@ def test_explain_writes_what_the_document_says(tmp_path: Path) -> None:
     words = [str(REPOSITORY / "paris"), "explain", "wrong.paris"]
     ran = subprocess.run(words, capture_output=True, text=True, timeout=60, cwd=tmp_path)
     assert (ran.stdout, ran.stderr, ran.returncode) == (written, "", 1)
+
+
+def test_explain_tells_of_refused_rows_what_the_document_says(tmp_path: Path) -> None:
+    text = (REPOSITORY / "docs/PEOPLE.md").read_text(encoding="utf-8").split("In the script `meet.paris`")[1]
+    script, written = re.findall(r"```\n(.*?)```", text, re.S)[:2]
+    (tmp_path / "meet.paris").write_text(script)
+    as_json = next(block for block in re.findall(r"```\n(.*?)```", text, re.S) if block.startswith("{"))
+    for option, end in (("", written), ("--json", as_json)):
+        ran = subprocess.run(
+            [str(REPOSITORY / "paris"), "explain", "meet.paris", *option.split()],
+            capture_output=True,
+            text=True,
+            timeout=60,
+            cwd=tmp_path,
+        )
+        assert ran.stdout.endswith("\n" + end) and (ran.stderr, ran.returncode) == ("", 0)
 
 
 def test_the_readme_shows_lines_that_explain_writes() -> None:

@@ -58,6 +58,13 @@ def replies_of(transcript: list[str]) -> list[list[str]]:
     return replies
 
 
+def plain_replies(path: Path) -> list[list[str]]:
+    """The replies of the program itself to a script, and last that to `faults`."""
+    asked = path.read_bytes().rstrip(b"\n") + b"\nfaults\n"
+    plain = subprocess.run([find()], input=asked, capture_output=True, timeout=60)
+    return replies_of(plain.stdout.decode("ascii").splitlines())
+
+
 def numbered_commands(lines: list[str]) -> list[tuple[int, str]]:
     return [(number, line) for number, line in enumerate(lines, start=1) if line and not line.startswith("#")]
 
@@ -88,12 +95,18 @@ def refused_lines(lines: list[str], replies: list[list[str]]) -> list[int]:
     return [number for (number, _), reply in zip(numbered_commands(lines), replies) if reply[0].startswith("refused")]
 
 
-def last_line(commands: int, refused: list[int]) -> str:
+def last_line(commands: int, refused: list[int], faults: list[str] | None = None) -> str:
+    """How `explain` ends. `faults` are lines of the reply to `faults` at the script's end."""
     count = "1 command" if commands == 1 else f"{commands} commands"
+    rows = [line.split(" ")[0] for line in faults or ()]
+    many = (
+        f"{len(rows)} rows are refused for their data: rows" if len(rows) > 1 else "1 row is refused for its data: row"
+    )
+    data = f"; {many} {', '.join(rows[:12])}{', ..' if len(rows) > 12 else ''}" if rows else ""
     if not refused:
-        return f"{count}, none refused"
+        return f"{count}, none refused{data}"
     where = "line" if len(refused) == 1 else "lines"
-    return f"{count}, {len(refused)} refused: {where} {', '.join(map(str, refused))}"
+    return f"{count}, {len(refused)} refused: {where} {', '.join(map(str, refused))}{data}"
 
 
 @pytest.mark.parametrize("path", SCRIPTS, ids=lambda path: str(path.relative_to(REPOSITORY)))
@@ -105,15 +118,16 @@ def test_each_script_has_the_replies_of_its_transcript(path: Path) -> None:
     assert_matches(ran.stdout, lines, replies)
     refused = refused_lines(lines, replies)
     assert ran.returncode == bool(refused)
-    assert ran.stdout.split("\n")[-2] == f"{path}: {last_line(len(replies), refused)}"
+    *told, faults = plain_replies(path)
+    assert told == replies
+    assert ran.stdout.split("\n")[-2] == f"{path}: {last_line(len(replies), refused, faults[1:])}"
 
 
 def test_ten_thousand_random_lines(tmp_path: Path) -> None:
     lines = RandomLines(20).lines(10_000)
     path = tmp_path / "random.paris"
     path.write_bytes("\n".join(lines).encode("utf-8", "surrogateescape"))
-    plain = subprocess.run([find()], stdin=path.open("rb"), capture_output=True, timeout=60)
-    replies = replies_of(plain.stdout.decode("ascii").splitlines())
+    *replies, faults = plain_replies(path)
     refused = refused_lines(lines, replies)
     # The lines are worth trying: each reply comes often.
     words = [reply[0].split(" ")[0] for reply in replies]
@@ -124,8 +138,56 @@ def test_ten_thousand_random_lines(tmp_path: Path) -> None:
     ran = run(path)
     assert (ran.returncode, ran.stderr) == (1, "")
     assert_matches(ran.stdout, lines, replies)
-    assert ran.stdout.split("\n")[-2] == f"{path}: {last_line(len(replies), refused)}"
+    assert ran.stdout.split("\n")[-2] == f"{path}: {last_line(len(replies), refused, faults[1:])}"
     assert not re.search(r"[\x00-\x09\x0b-\x1f\x7f-\x9f\udc80-\udcff]", ran.stdout)
+
+
+MEETING = """set S 4
+field to S 8
+field v S 8
+field d S 8
+input to 0 0 0 1 2
+input v 0 1 2 3 9
+insert end send-1L d to v 8 none
+insert end u-add-3-1L d d v 8
+insert end get-1L d v v 8
+take
+bring 1
+settle
+faults
+"""
+MEET = "two messages meet at processor 0: `send-with-u-add-1L` combines them"
+LIES = "processor 3 holds the address 9 in `v`: `S` has 4 processors, of addresses 0 to 3"
+
+
+def test_rows_that_are_refused_for_their_data_are_told(tmp_path: Path) -> None:
+    """Where they ran, where they are asked for, and at the end."""
+    path = tmp_path / "meeting.paris"
+    path.write_text(MEETING)
+    ran = run(path)
+    assert (ran.returncode, ran.stderr) == (0, "")
+    assert ran.stdout.split("\n")[10:-1] == [
+        f"{path}:11: kept: 1 row is refused for its data: row 1",
+        f"    row 1 stores nothing, since {MEET}",
+        f"{path}:12: settled 2: 2 rows are refused for their data: rows 1, 3",
+        f"    row 1 stores nothing, since {MEET}",
+        f"    row 3 stores nothing, since {LIES}",
+        f"{path}:13: faults 2",
+        f"    1 collision 0: {MEET}",
+        f"    3 bad-address 3: {LIES}",
+        f"{path}: 13 commands, none refused; 2 rows are refused for their data: rows 1, 3",
+    ]
+
+
+def test_of_many_rows_that_are_refused_the_first_are_told(tmp_path: Path) -> None:
+    path = tmp_path / "many.paris"
+    rows = "insert end send-1L d to v 8 none\n" * 20
+    path.write_text(f"set S 4\nfield to S 2\nfield v S 8\nfield d S 8\n{rows}settle\n")
+    said = run(path).stdout.split("\n")
+    named = ", ".join(map(str, range(1, 13)))
+    assert said[24] == f"{path}:25: settled 20: 20 rows are refused for their data: rows {named}, .."
+    assert said[25:37] == [f"    row {row} stores nothing, since {MEET}" for row in range(1, 13)]
+    assert said[37] == "    `faults` lists them all"
 
 
 def test_stop_ends_at_the_first_refusal(tmp_path: Path) -> None:

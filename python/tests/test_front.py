@@ -51,7 +51,39 @@ def test_a_terminal_is_told_what_is_waited_for() -> None:
 def test_wrong_words(words: str) -> None:
     ran = paris(*words.split())
     assert (ran.returncode, ran.stdout) == (2, "")
-    assert "usage: " in ran.stderr and ran.stderr.count("\n") == 1
+    *usage, error = ran.stderr.splitlines()
+    assert usage == usage_lines(paris("--help").stdout) and error.startswith("paris: error: ")
+
+
+@pytest.mark.parametrize("number", ["99", "0", "17", "-1", "x", "", "1 2", "\x1b[2J"])
+def test_the_launcher_and_its_commands_say_one_thing_of_workers(number: str) -> None:
+    said = paris("--workers", number)
+    assert (said.returncode, said.stdout) == (2, "")
+    assert said.stderr == paris(f"--workers={number}").stderr and "\x1b" not in said.stderr
+    assert said.stderr.startswith("usage: paris [--workers 1-16] ")
+    if number.isalnum():
+        error = f"error: argument --workers: `{number}` is no number from 1 to 16"
+        assert said.stderr.splitlines()[-1] == f"paris: {error}"
+        for command in COMMANDS:
+            ran = paris(command, "--workers", number, FIRST)
+            assert ran.stderr.splitlines()[-1] == f"paris {command}: {error}"
+
+
+def test_the_launcher_s_usage_has_that_of_each_command() -> None:
+    said = paris("--help").stdout
+    assert max(map(len, said.splitlines())) <= 80
+    for command in COMMANDS:
+        own = " ".join(usage_lines(paris(command, "--help").stdout)).replace("usage: ", "").replace(" [-h]", "")
+        assert " ".join(own.split()) in [line.strip() for line in usage_lines(said)]
+    assert "--workers 1-16  how many threads settle rows (default: 2)" in said
+
+
+def usage_lines(said: str) -> list[str]:
+    """The lines of a usage, up to the first empty one."""
+    return said.split("\n\n")[0].splitlines()
+
+
+COMMANDS = ("explain", "prompt", "page", "live")
 
 
 @pytest.mark.parametrize("words", ["explain --nope x", "explain", "prompt a b", "page", "live --port"])
@@ -63,10 +95,37 @@ def test_wrong_words_behind_a_command(words: str) -> None:
 def test_help_and_where() -> None:
     ran = paris("--help")
     assert ran.returncode == 0 and ran.stdout.startswith("usage: paris ")
-    for word in ("explain FILE", "prompt [FILE]", "page FILE", "live [FILE]", "--workers N", "--where"):
-        assert word in ran.stdout.split("\n")[0]
+    assert len(usage_lines(ran.stdout)) == 6 and "--where" in usage_lines(ran.stdout)[-1]
     ran = paris("--where")
     assert ran.returncode == 0 and os.access(ran.stdout.strip(), os.X_OK)
+
+
+def on_a_terminal(*words: str | Path) -> tuple[int, bytes, bytes]:
+    """The exit status, what is written, and what is said where standard error is a terminal."""
+    ours, theirs = pty.openpty()
+    with subprocess.Popen([PARIS, *words], stdout=subprocess.PIPE, stderr=theirs, stdin=subprocess.DEVNULL) as child:
+        os.close(theirs)
+        written, _ = child.communicate(timeout=60)
+    os.set_blocking(ours, False)
+    try:
+        said = os.read(ours, 100_000)
+    except OSError:
+        said = b""
+    os.close(ours)
+    return child.returncode, written, said
+
+
+def test_a_long_script_is_told_of_on_a_terminal(tmp_path: Path) -> None:
+    script = tmp_path / "sort.paris"
+    sort = subprocess.run(
+        [REPOSITORY / "examples/large/radix-sort", "script"], capture_output=True, text=True, check=True
+    )
+    script.write_text(sort.stdout + "input key 0 5\nsettle\ninput key 0 6\nsettle\n" * 4)
+    told, quiet = on_a_terminal(script), on_a_terminal("--quiet", script)
+    assert told[:2] == quiet[:2] == (0, quiet[1]) and quiet[1].count(b"settled") == 10
+    assert b" commands answered" in told[2] and quiet[2] == b""
+    # A short one is run as it is.
+    assert on_a_terminal(FIRST) == (0, TRANSCRIPT.encode(), b"")
 
 
 def test_a_file_that_cannot_be_read() -> None:
@@ -119,13 +178,30 @@ def test_files_of_the_current_folder_are_no_modules(tmp_path: Path) -> None:
     assert ran.returncode == 0
 
 
+@pytest.mark.parametrize("has_numpy", [True, False])
+def test_a_python_with_numpy_comes_first(tmp_path: Path, has_numpy: bool) -> None:
+    """The python3 on the PATH has none here, so it runs the package only where the system's has none either."""
+    if has_numpy and subprocess.run(["/usr/bin/python3", "-c", "import numpy"], capture_output=True).returncode:
+        pytest.skip("the system's Python has no numpy")
+    first, ran = tmp_path / "python3", tmp_path / "ran"
+    first.write_text(f'#!/bin/sh\n[ "$3" != pevudlo ] || touch {ran}\nexec /usr/bin/python3 -S "$@"\n')
+    front = PARIS.read_text() if has_numpy else PARIS.read_text().replace(" /usr/bin/python3;", ";")
+    copy = tmp_path / "paris"
+    copy.write_text(front.replace('root=$(cd "${here%/*}/" && pwd)', f"root={REPOSITORY}"))
+    for script in (first, copy):
+        script.chmod(0o755)
+    environment = {**os.environ, "PATH": f"{tmp_path}:{os.environ['PATH']}"}
+    said = subprocess.run([copy, "explain", FIRST], capture_output=True, text=True, timeout=60, env=environment)
+    assert said.stdout.endswith(f"{FIRST}: 11 commands, none refused\n") and ran.exists() != has_numpy
+
+
 def test_without_a_python_from_3_11_on(tmp_path: Path) -> None:
     """Scripts run without Python; explain says what it wants."""
     (tmp_path / "python3").write_text("#!/bin/sh\nexit 1\n")
     (tmp_path / "python3").chmod(0o755)
     front = PARIS.read_text().replace("/usr/bin/python3", str(tmp_path / "python3"))
     copy = tmp_path / "paris"
-    copy.write_text(front.replace('root=$(cd "$(dirname', f'root={REPOSITORY} # $(cd "$(dirname'))
+    copy.write_text(front.replace('root=$(cd "${here%/*}/" && pwd)', f"root={REPOSITORY}"))
     copy.chmod(0o755)
     environment = {**os.environ, "PATH": f"{tmp_path}:{os.environ['PATH']}"}
     ran = subprocess.run([copy, FIRST], capture_output=True, text=True, timeout=60, env=environment)

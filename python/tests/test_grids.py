@@ -10,14 +10,15 @@ from html.parser import HTMLParser
 
 import pytest
 
-from pevudlo.draw.grids import Grid, differing, html_of, style, summary_of, text_of
-from pevudlo.draw.pictures import GAP, STEPS, picture_of
+from pevudlo.draw.arrays import STEPS, differing
+from pevudlo.draw.grids import Grid, html_of, style, summary_of, text_of
+from pevudlo.draw.pictures import GAP, picture_of
 from pevudlo.draw.shapes import sheets_of
 from pevudlo.draw.units import Unit, spelled
 
 
 def indices_of(address: str) -> list[list[int]]:
-    """The places in the palette of a PNG with filter 0, line by line."""
+    """The places in the palette of a PNG with filters 0 and 2, line by line."""
     data = base64.b64decode(address.removeprefix("data:image/png;base64,"))
     assert data[:8] == b"\x89PNG\r\n\x1a\n"
     place, body = 8, b""
@@ -33,8 +34,14 @@ def indices_of(address: str) -> list[list[int]]:
             body += chunk
         place += 12 + length
     raw, (width, height) = zlib.decompress(body), size
-    assert len(raw) == height * (width + 1) and all(raw[line * (width + 1)] == 0 for line in range(height))
-    return [list(raw[line * (width + 1) + 1 : (line + 1) * (width + 1)]) for line in range(height)]
+    assert len(raw) == height * (width + 1)
+    lines, above = [], [0] * width
+    for start in range(0, len(raw), width + 1):
+        kind_of_filter, told = raw[start], raw[start + 1 : start + 1 + width]
+        assert kind_of_filter in (0, 2)
+        above = [(byte + kind_of_filter // 2 * over) % 256 for byte, over in zip(told, above)]
+        lines.append(above)
+    return lines
 
 
 class Cells(HTMLParser):
@@ -203,7 +210,7 @@ def test_summary_counts_marks() -> None:
 
 
 def test_differing() -> None:
-    assert differing((1, 2, 3), (1, 0, 4)) == {1, 2}
+    assert set(differing((1, 2, 3), (1, 0, 4))) == {1, 2}
 
 
 def test_all_rules_of_the_style_are_scoped() -> None:

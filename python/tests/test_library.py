@@ -33,7 +33,8 @@ SCRIPTS = sorted([*ROOT.glob("examples/*.paris"), *ROOT.glob("checks/rows/*/*.pa
 
 
 def test_the_outcomes_are_those_of_the_header() -> None:
-    listed = re.findall(r"^  PARIS_([A-Z_]+) = (\d+)", HEADER.read_text(), re.M)
+    statuses = HEADER.read_text().partition("enum paris_status {")[2].partition("};")[0]
+    listed = re.findall(r"^  PARIS_([A-Z_]+) = (\d+)", statuses, re.M)
     assert {outcome.name: outcome.value for outcome in Outcome} == {name: int(number) for name, number in listed}
 
 

@@ -76,7 +76,7 @@ def test_the_page_and_its_state(server: Server) -> None:
     assert headers["Cache-Control"] == "no-store" and headers["Referrer-Policy"] == "no-referrer"
     status, data, _ = asked(server, "GET", page(server, "state"))
     state = json.loads(data)
-    assert status == 200 and state["orders"]["rows"] == ["row-1"]
+    assert status == 200 and state["orders"]["rows"] == [[1, 1]]
     status, data, _ = asked(server, "GET", page(server, f"state?seen={state['version']}"))
     assert json.loads(data)["html"] == {}
 

@@ -6,13 +6,27 @@ import os
 import signal
 import subprocess
 import sys
+import warnings
 from pathlib import Path
-from typing import Any, Iterator
+from typing import Any, Callable, Iterator
 
 import numpy
 import pytest
 
-from pevudlo import START, Ended, Machine, Pending, Refusal, Row, Status, WrongShape, after, signed, unsigned
+from pevudlo import (
+    START,
+    Ended,
+    Machine,
+    Pending,
+    RefusedRows,
+    Refusal,
+    Row,
+    Status,
+    WrongShape,
+    after,
+    signed,
+    unsigned,
+)
 from pevudlo.draw.grids import Grid
 from pevudlo.lang.replies import Cause, OrderTaken, RowFault, Verdict, Word
 from pevudlo.values.arrays import ValueArray
@@ -89,6 +103,96 @@ def test_values_from_a_processor_on(machine: Machine) -> None:
     assert numbers(machine["a"]) == before
 
 
+def test_numbers_of_numpy_are_processors_and_values(machine: Machine) -> None:
+    machine["a"] = [1, 2, 3, 4]
+    machine["a", numpy.int64(1)] = 4
+    machine["a", numpy.array(2)] = numpy.uint8(5)
+    machine["a", 3] = numpy.array(6)
+    assert numbers(machine["a"]) == [1, 4, 5, 6]
+    machine["a", slice(numpy.int8(2), None)] = [8, 9]
+    assert numbers(machine["a"]) == [1, 4, 8, 9]
+    machine["S.context"] = [numpy.bool_(True), False, numpy.array(True), numpy.array(0)]
+    machine["S.context", 3] = numpy.bool_(True)
+    assert numbers(machine["S.context"]) == [1, 0, 1, 1]
+
+
+@pytest.mark.parametrize("where", [True, False, 1.0, "1", None, numpy.bool_(True), numpy.float64(1), numpy.arange(2)])
+def test_indices_that_are_no_processors(machine: Machine, where: Any) -> None:
+    machine["a"] = [1, 2, 3, 4]
+    ends = () if where is None else (slice(where, None), slice(0, where), slice(0, 1, where))
+    for index in (where, *ends):
+        with pytest.raises(TypeError, match="a processor is a whole number, and not "):
+            machine["a", index] = [7]
+        with pytest.raises(TypeError, match="a processor is a whole number, and not "):
+            machine["a", index]
+    assert numbers(machine["a"]) == [1, 2, 3, 4] and machine.close() == 0
+
+
+@pytest.mark.parametrize("value", [[5], (5, 6), numpy.array([5]), 1.0, None, "5", numpy.float64(5)])
+def test_one_processor_takes_one_whole_number(machine: Machine, value: Any) -> None:
+    with pytest.raises(TypeError, match="values are whole numbers, and not "):
+        machine["a", 1] = value
+    assert numbers(machine["a"]) == [0] * 4
+
+
+def test_a_part_reads_as_it_writes(library: bool) -> None:
+    with Machine(library=library) as machine:
+        machine.set("G", 4, 2)
+        machine.field("x", "G", 8)
+        machine["x"] = [[1, 2, 3, 4], [5, 6, 7, 8]]
+        for first in (2, -3):
+            machine["x", first:] = range(10, 10 - first if first < 0 else 18 - first)
+            assert numbers(machine["x", first:]) == list(range(10, 10 - first if first < 0 else 18 - first))
+        machine["x"] = range(1, 9)
+        wanted: list[tuple[Any, int]] = [(0, 1), (5, 6), (-1, 8), (numpy.int64(2), 3)]
+        for place, number in wanted:
+            assert machine["x", place] == number and type(machine["x", place]) is int
+            machine["x", place] = number + 100
+            assert machine["x", place] == number + 100
+        machine["x"] = range(1, 9)
+        assert numbers(machine["x", 2:4]) == [3, 4] and numbers(machine["x", -6:-4]) == [3, 4]
+        assert numbers(machine["x", :]) == list(range(1, 9))
+        beyond: list[Any] = [8, -9, slice(8, None), slice(0, 9), slice(-9, None)]
+        for index in beyond:
+            with pytest.raises(IndexError, match="x has no processor"):
+                machine["x", index]
+        with pytest.raises(ValueError, match="no step"):
+            machine["x", ::2]
+        with pytest.raises(Refusal):
+            machine["zz", 1]
+
+
+def test_arrays_that_lie_oddly_in_memory(machine: Machine) -> None:
+    packed = numpy.zeros(4, dtype=[("byte", "u1"), ("word", "u8")])
+    packed["word"] = [1, 2, 3, 4]
+    shifted = numpy.frombuffer(b"x" + numpy.array([4, 3, 2, 1], dtype=numpy.uint64).tobytes(), numpy.uint8)[1:]
+    for values, wanted in ((packed["word"], [1, 2, 3, 4]), (shifted.view(numpy.uint64), [4, 3, 2, 1])):
+        assert not values.flags.aligned
+        machine["a"] = values
+        assert numbers(machine["a"]) == wanted
+    with pytest.raises(TypeError, match="values are whole numbers"):
+        machine["a"] = packed
+
+
+def test_masked_values_are_no_numbers(machine: Machine) -> None:
+    masked_array: Any = numpy.ma.masked_array
+    values = masked_array([1, 2, 3, 4], mask=[0, 0, 0, 0])
+    machine["a"] = values
+    assert numbers(machine["a"]) == [1, 2, 3, 4]
+    values[2] = numpy.ma.masked
+    objects = masked_array([5, 6, 7, 8], mask=[1, 0, 0, 0], dtype=object)
+    for masked in (values, objects, [values[:2], values[2:]]):
+        with pytest.raises(ValueError, match="masked values are no numbers: values.filled.number. gives each of them"):
+            machine["a"] = masked
+    with pytest.raises(TypeError, match="values are whole numbers, and not "):
+        machine["a"] = [1, 2, numpy.ma.masked, 4]
+    with pytest.raises(TypeError, match="values are whole numbers, and not "):
+        machine["a", 1] = numpy.ma.masked
+    assert numbers(machine["a"]) == [1, 2, 3, 4]
+    machine["a"] = values.filled(9)
+    assert numbers(machine["a"]) == [1, 2, 9, 4]
+
+
 @pytest.mark.parametrize(
     "values, error",
     [
@@ -124,8 +228,38 @@ def test_a_negative_number_is_named(machine: Machine) -> None:
 
 def test_values_that_are_pending_are_no_numbers(machine: Machine) -> None:
     row = machine.insert("u-add-3-1L c a b 8")
-    assert machine["c"] == Pending(row)
+    assert machine["c"] == Pending(row) != Pending(row + 1)
+    assert machine["c", 1] == machine["c", 1:] == Pending(row)
     assert isinstance(machine["a"], ValueArray)
+    pending: Any = machine["c"]
+    ones = numpy.ones(4, dtype=numpy.uint64)
+    with_words: list[Callable[[], object]] = [
+        lambda: numpy.sum(pending),
+        lambda: numpy.array_equal(pending, ones),
+        lambda: numpy.asarray(pending),
+        lambda: numpy.array([1, pending]),
+        lambda: pending == ones,
+        lambda: ones == pending,
+        lambda: machine["a"] == pending,
+        lambda: ones != pending,
+        lambda: pending == 0,
+        lambda: pending != [0, 0, 0, 0],
+        lambda: 0 in [pending],
+    ]
+    for work in with_words:
+        with pytest.raises(TypeError, match=f"pending: row {row} writes it last"):
+            work()
+    others: list[Callable[[], object]] = [
+        lambda: ones + pending,
+        lambda: pending + 1,
+        lambda: numpy.add(ones, pending),
+        lambda: ones < pending,
+        lambda: sum(pending),
+        lambda: machine.__setitem__("a", pending),
+    ]
+    for work in others:
+        with pytest.raises(TypeError):
+            work()
     with pytest.raises(TypeError):
         signed(machine["c"], 8)
     with pytest.raises(TypeError):
@@ -138,9 +272,11 @@ def test_values_that_are_pending_are_no_numbers(machine: Machine) -> None:
 
 
 def test_keys_and_places_of_other_types_ask_nothing(machine: Machine) -> None:
-    for key in (("a", 1), 0, None):
+    for key in (("a",), ("a", 1, 2), (1, "a"), 0, None):
         with pytest.raises(TypeError, match="a key is a name"):
-            machine[key]  # type: ignore[index]
+            machine[key]  # type: ignore[call-overload]
+        with pytest.raises(TypeError, match="a key is a name"):
+            machine[key] = [1]  # type: ignore[index]
     with pytest.raises(TypeError, match="a key is a name"):
         assert "a" in machine  # type: ignore[operator]
     row = machine.insert("u-add-3-1L c a b 8")
@@ -182,15 +318,73 @@ def test_rows_orders_and_verdicts(machine: Machine) -> None:
     assert (refusal.value.number, refusal.value.name) == (22, "NoOrder")
 
 
+def test_rows_of_a_bare_line(machine: Machine) -> None:
+    """Rows that another holder of the session put in: they are taken out, replaced, and are places."""
+    peer = machine._talk.peer
+    assert machine.insert("set-test S") == 1
+    for row in (2, 3):
+        assert peer.ask("insert start clear-test S") == [f"row {row}"]
+    assert machine.raw("insert start set-context S") == ["row 4"]
+    machine.insert("clear-test S", after(3))
+    machine.replace(2, "set-test S")
+    machine.delete(3)
+    machine.delete(4)
+    machine.delete(2)
+    assert [row.row for row in machine.rows()] == [5, 1]
+    with pytest.raises(Refusal) as refusal:
+        machine.delete(2)
+    assert refusal.value.number == 10 and "rows are 1 and 5" in refusal.value.hint
+    machine["a"] = [0, 1, 2, 9]
+    assert peer.ask("insert end get-1L c a b 8") == ["row 6"]
+    assert peer.ask("insert end send-1L c b b 8 none") == ["row 7"]
+    with pytest.warns(RefusedRows, match="2 rows are refused for their data: rows 6, 7"):
+        machine.settle()
+    assert machine.causes() == {
+        6: "processor 3 holds an address outside its set",
+        7: "two messages meet at processor 0: `send-with-u-add-1L` combines them",
+    }
+
+
 def test_faults(machine: Machine) -> None:
     machine["a"] = [0, 0, 1, 9]
     row = machine.insert("send-1L c a b 8 none")
     machine["S.context", 3] = 0
-    machine.settle()
+    with pytest.warns(RefusedRows):
+        machine.settle()
     assert machine.faults() == (RowFault(row, Cause.COLLISION, 0),)
+    assert machine.rows().refused == {row}
+    assert machine.rows()._repr_html_().count("refused for its data") == 1
+    assert machine.causes() == {row: "two messages meet at processor 0: `send-with-u-add-1L` combines them"}
     machine["S.context", 3] = 1
-    machine.settle()
+    with pytest.warns(RefusedRows):
+        machine.settle()
     assert machine.faults() == (RowFault(row, Cause.BAD_ADDRESS, 3),)
+    assert machine.causes() == {
+        row: "processor 3 holds the address 9 in `a`: `S` has 4 processors, of addresses 0 to 3"
+    }
+
+
+def test_a_settle_warns_of_rows_that_are_refused_for_their_data(machine: Machine) -> None:
+    """Once for the settle, with the rows, and at the line that called; not where nothing ran or nothing is refused."""
+    machine["a"] = [0, 0, 1, 9]
+    rows = [machine.insert("get-1L c a b 8"), machine.insert("send-1L c b a 8 none")]
+    with warnings.catch_warnings(record=True) as caught:
+        warnings.simplefilter("always")
+        machine.settle()
+    (said,) = caught
+    assert isinstance(said.message, RefusedRows) and said.filename == __file__
+    assert said.message.faults == (RowFault(rows[0], Cause.BAD_ADDRESS, 3), RowFault(rows[1], Cause.COLLISION, 0))
+    assert str(said.message) == (
+        "2 rows are refused for their data: rows 1, 2\n"
+        "    row 1 stores nothing, since processor 3 holds the address 9 in `a`: "
+        "`S` has 4 processors, of addresses 0 to 3\n"
+        "    row 2 stores nothing, since two messages meet at processor 0: `send-with-u-add-1L` combines them"
+    )
+    with warnings.catch_warnings():
+        warnings.simplefilter("error")
+        assert machine.settle() == 0
+        machine["a"], machine["b"] = [0, 1, 2, 3], [3, 2, 1, 0]
+        assert machine.settle() == 2 and machine.faults() == () and machine.causes() == {}
 
 
 def test_a_refusal_says_all_of_it(machine: Machine) -> None:
@@ -324,6 +518,7 @@ with pevudlo.Machine(library=sys.argv[2] == "True") as machine:
     except pevudlo.Refusal as refusal:
         assert refusal.explanation.detail == 2
     machine["a"] = range(4)
+    assert (machine["a", 3], machine["a", 1:]) == (3, [1, 2, 3])
     print(machine["a"])
 assert "numpy" not in sys.modules
 """

@@ -20,24 +20,27 @@ LOW = {
     "values": "draw lang",
     "wire": "values",
     "hints": "draw lang",
-    "record": "draw hints lang wire",
+    "record": "draw hints lang progress values wire",
     "reference": "lang",
 }
-TALKING = " ".join(LOW) + " machine data talk explain files arguments"
+TALKING = " ".join(LOW) + " machine data talk explain files arguments progress"
 STANDS_ON = {
     **LOW,
     "files": "",
+    "progress": "",
+    "relay": "progress wire",
     "arguments": "draw",
+    "version": "wire",
     "talk": "hints lang",
     "data": "lang talk values wire",
     "machine": "data draw lang talk values wire",
-    "explain": "arguments draw lang talk wire",
+    "explain": "arguments draw hints lang progress talk wire",
     "page": TALKING,
     "prompt": TALKING,
     "live": TALKING + " page",
-    "cli": "",
+    "cli": "version",
     "__main__": "cli",
-    "": "hints lang machine paris values wire",
+    "": "hints lang machine paris values version wire",
 }
 """Of each package, and of each module that is in none, what it imports of the others; `""` is `pevudlo/__init__.py`."""
 

@@ -11,7 +11,7 @@ from pages import GALLERY, REPOSITORY, answers, marked, script_of
 from test_grids import indices_of
 from usages import is_usage_of
 
-from pevudlo.draw.pictures import STEPS
+from pevudlo.draw.arrays import STEPS
 from pevudlo.page import command
 
 
@@ -50,8 +50,32 @@ def test_refused_rows_say_their_cause() -> None:
     faults = answers(SENDS + ["faults"])[-1][1:]
     assert faults == ["1 collision 0", "3 bad-address 0"]
     words = [next(article.all("p", "cause")).text for article in articles]
-    assert "collision: two messages meet in processor 0" in words[0]
-    assert "bad address: processor 0 holds an address outside its set" in words[1]
+    meet = "stores nothing, since two messages meet at processor 0: send-with-u-add-1L combines them"
+    lies = "stores nothing, since processor 0 holds the address 9 in v: S has 4 processors, of addresses 0 to 3"
+    assert words == [f"✕ It {meet}", f"✕ It {lies}"]
+    states = [[node.text for node in article.all("span", "state")] for article in root.all("article")]
+    assert states == [["✕ refused for its data"], ["✓ settled"], ["✕ refused for its data"]]
+    heads = [next(section.all("h2")).text for section in sections(root, "ran")]
+    assert heads == ["✕2 rows ran, 1 refused for its data", "✕1 row ran again, 2 kept, 1 refused for its data"]
+    top = next(root.all("header", "top"))
+    assert [node.text for node in top.all("p", "cause")] == [f"✕ row 1 {meet}", f"✕ row 3 {lies}"]
+    assert "none refused · ✕ 2 rows refused for their data" in top.text
+    fates = [node.text for node in sections(root, "end")[0].all("span", "fate")]
+    assert fates == [words[0].split("since ")[1], words[1].split("since ")[1]]
+
+
+def test_a_run_without_refused_rows_has_a_tick() -> None:
+    root = tree_of([*SENDS[:8], "insert end send-with-u-add-1L d ad v 8 n", "settle"])
+    assert next(sections(root, "ran")[0].all("h2")).text == "✓1 row ran"
+    assert not list(root.all("p", "cause")) and "refused for" not in root.text
+
+
+def test_a_row_that_an_order_ran_says_its_cause() -> None:
+    root = tree_of([*SENDS[:9], "take", "bring 1", "input v 0 1", "settle"])
+    heads = [next(section.all("h2")).text for section in sections(root, "ran")]
+    assert heads == ["✕Row 1 ran, refused for its data", "✕1 row ran again, none kept, 1 refused for its data"]
+    cells = [cell.text for cell in next(root.all("table", "history")).all("td")]
+    assert cells.count("✕refused for its data") == 2
 
 
 def test_unselected_processors_are_marked() -> None:

@@ -54,8 +54,8 @@ def test_by_the_path(lost: Path) -> None:
 def test_nowhere(lost: Path) -> None:
     with pytest.raises(NotFound) as error:
         find()
-    assert len(error.value.looked) == 3
-    for place in ("PARIS_FRONT", "no repository", "PATH"):
+    assert len(error.value.looked) == 4
+    for place in ("PARIS_FRONT", "installed without one", "no repository", "PATH"):
         assert place in str(error.value)
 
 

@@ -38,13 +38,16 @@ def prompt(lines: list[str], *words: str, program: Path | None = None) -> subpro
     )
 
 
-def answers(lines: list[str], before: list[str] | None = None) -> list[str]:
-    """What is answered to lines in a prompt of this process, after others whose answers are left out."""
+def answers(lines: list[str], before: list[str] | None = None, columns: int | None = None) -> list[str]:
+    """What is answered to lines in a prompt of this process, after others whose answers are left out.
+
+    `columns` is how wide its terminal is.
+    """
     shown: list[str] = []
     session = Session(find())
     session.begin()
     try:
-        answering = Prompt(session, shown.append, False)
+        answering = Prompt(session, shown.append, False, lambda: columns)
         for line in BASE if before is None else before:
             assert answering.handle(line)
         shown.clear()
@@ -80,6 +83,22 @@ def test_workers_are_as_many_as_said(tmp_path: Path) -> None:
         assert f"(exit status 4: --workers {wanted})" in prompt(["set S 4"], *words, program=program).stdout
 
 
+def test_rows_that_are_refused_for_their_data_are_told(tmp_path: Path) -> None:
+    """At the settle, at a look that is asked for, and where a file is loaded."""
+    lines = [*BASE[:2], "field to S 2", "insert end send-1L a to a 8 none", "settle"]
+    meet = "two messages meet at processor 0: `send-with-u-add-1L` combines them"
+    told = ["settled 1: 1 row is refused for its data: row 1", f"  row 1 stores nothing, since {meet}"]
+    assert answers(lines, [])[-2:] == told
+    assert answers(["faults"], lines) == ["faults 1", f"  1 collision 0: {meet}"]
+    path = tmp_path / "meets.paris"
+    path.write_text("\n".join(lines))
+    assert answers([f"load {path}"], []) == [
+        f"{path}:5: {told[0]}",
+        told[1],
+        f"{path}: 5 commands, none refused; 1 row is refused for its data: row 1",
+    ]
+
+
 def test_no_word_of_its_own_is_a_command() -> None:
     assert not set(OWN) & set(COMMANDS)
 
@@ -110,6 +129,47 @@ def test_a_way_without_a_key_stays_and_one_with_a_key_does_not() -> None:
 def test_a_grid_has_the_axes_of_its_set() -> None:
     grid = ["set G 4x2", "field g G 8", "input g 0 1 2 3 4 5 6 7 88"]
     assert answers(["grid g"], grid) == ["g at the end (G 4x2, 8 bits)", "   1  2  3  4", "   5  6  7 88"]
+
+
+WIDE = ["set L 32", "field l L 8", "input l 0 " + " ".join(str(200 + number) for number in range(32))]
+WIDE += ["set P 64x2", "field p P 8", "input p 0 " + " ".join(str(100 + number) for number in range(128))]
+
+
+def test_a_grid_fits_eighty_columns() -> None:
+    line = answers(["show l end"], WIDE, 80)
+    assert line == [
+        "l at the end (L 32, 8 bits)",
+        *(f"  {at:2}: " + " ".join(str(200 + at + number) for number in range(16)) for at in (0, 16)),
+    ]
+    pieces = answers(["show p end"], WIDE, 80)
+    assert pieces[1::3] == [f"  axis 0 at {at} to {at + 15}:" for at in (0, 16, 32, 48)]
+    numbers = [[int(word) for word in text.split()] for at, text in enumerate(pieces[1:]) if at % 3]
+    rows = [numbers[at] + numbers[at + 2] + numbers[at + 4] + numbers[at + 6] for at in (0, 1)]
+    assert rows == [list(range(100, 164)), list(range(164, 228))]
+    assert max(map(len, line + pieces)) <= 80
+    assert answers(["show l end"], WIDE) == ["l at the end (L 32, 8 bits)", f"  {' '.join(map(str, range(200, 232)))}"]
+    assert len(answers(["bits p"], WIDE, 40)) == 1 + 16 * 3
+
+
+def test_lines_are_broken_between_words_at_eighty_columns() -> None:
+    meet = ["field to S 2", "insert end send-1L a to a 8 none", "settle", "faults"]
+    mistakes = ["insert end u-add a a a 8", "insert end shift a a 8", "zzzz", "delete 77", "input a 0 300"]
+    lines = [*meet, *mistakes, "insert end " + "x" * 200, "input a 0 " + "1 " * 100 + "x"]
+    helps = ["help", *(f"help {word}" for word in (*OWN, *COMMANDS, "scan-with-u-add-1L", "12", "with"))]
+    wide, narrow = answers([*lines, *helps]), answers([*lines, *helps], columns=80)
+    assert max(map(len, wide)) > 120 and max(map(len, narrow)) <= 80
+    hints = [text for text in answers(mistakes) if "could stand" in text or "begins with" in text]
+    folded = " ".join(" ".join(answers(mistakes, columns=80)).split())
+    assert len(hints) == 2 and all(text.strip() in folded for text in hints)
+
+
+def test_a_caret_stands_below_its_column_at_eighty_columns() -> None:
+    line = "insert end u-add-3-1L " + " ".join(["a"] * 40) + " 8"
+    said = answers([line], columns=60)
+    at = next(number for number, text in enumerate(said) if text.strip() == "^")
+    assert max(map(len, said)) <= 60
+    # Behind three operands a length is wanted, and the fourth `a` is none.
+    assert said[at - 1].startswith("  insert end u-add-3-1L a a a ") and said[at].index("^") == 2 + 28
 
 
 def test_a_row_s_place_can_be_looked_at_in_a_way() -> None:

@@ -18,7 +18,9 @@ def board() -> Board:
     made = Board()
     made.sets = {"S": (4,), "G": (4, 2)}
     made.fields = {"a": Declared("S", 8), "ab": Declared("S", 4), "f": Declared("S", 1), "g": Declared("G", 16)}
-    made.rows, made.orders = [3, 1], 2
+    made.orders = 2
+    for row in (1, 3):
+        made.order.put_first(row)
     return made
 
 

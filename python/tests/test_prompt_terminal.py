@@ -88,6 +88,15 @@ def test_help_of_every_word_has_its_example(terminal: Terminal) -> None:
     assert all(f" {name} " in f" {overview} " for name in [*names, *(word.name for word in OWN_WORDS)])
 
 
+def test_lines_fit_a_terminal_of_eighty_columns(tmp_path: Path) -> None:
+    with Terminal(tmp_path, columns=80) as terminal:
+        declare(terminal)
+        for line in ("help", "help send-1L", "insert end shift a b 8", "zzzz", "set L 32", "field l L 8", "show l end"):
+            said = terminal.answer(line)
+            assert said and max(map(len, said)) <= 80
+        assert len(terminal.answer("hex l")) == 1 + 2
+
+
 def test_what_is_saved_gives_the_same_state(tmp_path: Path) -> None:
     file = tmp_path / "saved.paris"
     radix = ROOT / "examples" / "radix-sort.paris"

@@ -7,12 +7,14 @@ number has a corner and a star, an unselected processor is hatched and in bracke
 
 from __future__ import annotations
 
-from collections.abc import Sequence
-from dataclasses import dataclass
+from collections.abc import Sequence, Set
+from dataclasses import dataclass, replace
 from functools import cache
 from html import escape
 from importlib.resources import files
 
+from pevudlo.draw.arrays import extent, highest
+from pevudlo.draw.marks import bits_of
 from pevudlo.draw.pictures import picture_of
 from pevudlo.draw.shapes import Sheet, processors_of, sheets_of
 from pevudlo.draw.units import Unit, spelled
@@ -25,7 +27,6 @@ MOST_ROOMY = 64
 
 _SHADES = " .:-=+*#%@"
 _NOTHING: frozenset[int] = frozenset()
-_PART = 256
 
 
 @dataclass(frozen=True)
@@ -40,25 +41,15 @@ class Grid:
     axes: tuple[int, ...]
     width: int
     values: Sequence[int]
-    changed: frozenset[int] = _NOTHING
-    other: frozenset[int] = _NOTHING
-    unselected: frozenset[int] = _NOTHING
+    changed: Set[int] = _NOTHING
+    other: Set[int] = _NOTHING
+    unselected: Set[int] = _NOTHING
     place: str = ""
 
     @property
     def is_picture(self) -> bool:
         """Whether the set is too large for a table."""
         return len(self.values) > MOST_CELLS
-
-
-def differing(now: Sequence[int], before: Sequence[int]) -> frozenset[int]:
-    """The processors whose numbers aren't the same."""
-    found: list[int] = []
-    for start in range(0, len(now), _PART):
-        part, other = now[start : start + _PART], before[start : start + _PART]
-        if part != other:
-            found += [start + place for place, (one, two) in enumerate(zip(part, other)) if one != two]
-    return frozenset(found)
 
 
 def style() -> str:
@@ -75,15 +66,40 @@ def read_static(name: str) -> str:
 # Text
 
 
-def text_of(grid: Grid, unit: Unit = Unit.UNSIGNED) -> str:
-    """The grid as lines of text, no end of line behind the last: `*` behind what changed, `(7)` where unselected."""
+def text_of(grid: Grid, unit: Unit = Unit.UNSIGNED, columns: int | None = None) -> str:
+    """The grid as lines of text, no end of line behind the last: `*` behind what changed, `(7)` where unselected.
+
+    Where `columns` is said, lines are at most so long, as far as a line has more than one number.
+    """
     if grid.is_picture:
         return _text_picture(grid)
+    longest = None if columns is None else _most_side_by_side(grid, unit, columns)
     parts = []
-    for sheet in sheets_of(grid.axes):
-        title = [f"{sheet.title}:"] if sheet.title else []
-        parts += title + _text_lines(grid, sheet, unit)
+    for sheet in sheets_of(grid.axes, longest):
+        for piece in _pieces_of(sheet, longest or len(sheet.across)):
+            parts += [f"{piece.title}:"] if piece.title else []
+            parts += _text_lines(grid, piece, unit)
     return "\n".join(parts)
+
+
+def _most_side_by_side(grid: Grid, unit: Unit, columns: int) -> int:
+    """How many numbers stand side by side in so many columns: a power of two."""
+    wide = 1 + max(len(_text_cell(grid, place, unit)) for place in range(len(grid.values)))
+    room = columns + 1 - (len(f"{len(grid.values)}: ") if len(grid.axes) == 1 else 0)
+    return 1 << max(0, (room // wide).bit_length() - 1)
+
+
+def _pieces_of(sheet: Sheet, longest: int) -> list[Sheet]:
+    """A sheet, or pieces of it whose lines have at most so many numbers. Each says where on axis 0 it is."""
+    if len(sheet.across) <= longest:
+        return [sheet]
+    pieces = []
+    for at in range(0, len(sheet.across), longest):
+        last = min(at + longest, len(sheet.across)) - 1
+        title = ", ".join(part for part in (sheet.title, f"axis 0 at {at} to {last}") if part)
+        lines = tuple(line[at : last + 1] for line in sheet.lines)
+        pieces.append(replace(sheet, title=title, across=sheet.across[at : last + 1], lines=lines))
+    return pieces
 
 
 def _text_lines(grid: Grid, sheet: Sheet, unit: Unit) -> list[str]:
@@ -106,15 +122,12 @@ def _text_cell(grid: Grid, place: int, unit: Unit) -> str:
 
 def _text_picture(grid: Grid) -> str:
     """A large set as shades, at most 64 across and 32 down: the greatest number of each block."""
-    least, greatest = min(grid.values), max(grid.values)
+    least, greatest = extent(grid.values)
     parts = [summary_of(grid)]
     for sheet in sheets_of(grid.axes)[:8]:
-        across = range(0, len(sheet.lines[0]), -(-len(sheet.lines[0]) // 64))
-        down = range(0, len(sheet.lines), -(-len(sheet.lines) // 32))
+        across, down = -(-len(sheet.lines[0]) // 64), -(-len(sheet.lines) // 32)
         parts += [f"{sheet.title}:"] if sheet.title else []
-        for line in down:
-            block = sheet.lines[line : line + down.step]
-            tops = [max(grid.values[place] for part in block for place in part[at : at + across.step]) for at in across]
+        for tops in highest(grid.values, sheet.lines, down, across):
             shades = (_SHADES[(top - least) * (len(_SHADES) - 1) // max(1, greatest - least)] for top in tops)
             parts.append("".join(shades).rstrip())
     return "\n".join(parts)
@@ -122,7 +135,8 @@ def _text_picture(grid: Grid) -> str:
 
 def summary_of(grid: Grid) -> str:
     """What a picture can't say: how many numbers there are, the least and the greatest, and how many carry marks."""
-    parts = [f"{len(grid.values):,} numbers, least {min(grid.values)}, greatest {max(grid.values)}"]
+    least, greatest = extent(grid.values)
+    parts = [f"{len(grid.values):,} numbers, least {least}, greatest {greatest}"]
     for marked, word in ((grid.changed, "changed"), (grid.other, "other than before"), (grid.unselected, "unselected")):
         if marked:
             parts.append(f"{len(marked):,} {word}")
@@ -138,7 +152,8 @@ def html_of(grid: Grid, unit: Unit = Unit.UNSIGNED) -> str:
     kind = "pv-heat" if grid.is_picture else "pv-bit" if grid.width == 1 else "pv-numbers"
     kind += " pv-dense" if MOST_ROOMY < len(grid.values) and not grid.is_picture else ""
     key = escape(grid.key, quote=True)
-    return f'<figure class="pv-grid {kind}" data-key="{key}" data-bits="{grid.width}">{body}</figure>'
+    shape = f'data-axes="{"x".join(map(str, grid.axes))}" data-bits="{grid.width}"'
+    return f'<figure class="pv-grid {kind}" data-key="{key}" {shape}>{body}</figure>'
 
 
 def _caption_of(grid: Grid) -> str:
@@ -187,14 +202,12 @@ def _html_picture(grid: Grid) -> str:
     parts = [_image(grid, grid.values, f"{grid.key}: {summary_of(grid)}", grid.unselected, "")]
     for marked, word in ((grid.changed, "changed"), (grid.other, "other than before"), (grid.unselected, "unselected")):
         if 0 < len(marked) < count:
-            mask = bytearray(count)
-            for place in marked:
-                mask[place] = 1
-            parts.append(_image(grid, bytes(mask), f"{grid.key}: bright where {word}", _NOTHING, word))
+            bits = bits_of(marked, count)
+            parts.append(_image(grid, bits, f"{grid.key}: bright where {word}", _NOTHING, word))
     return f"<figcaption>{_caption_of(grid)} <em>{summary_of(grid)}</em></figcaption><div>{''.join(parts)}</div>"
 
 
-def _image(grid: Grid, values: Sequence[int], words: str, unselected: frozenset[int], label: str) -> str:
+def _image(grid: Grid, values: Sequence[int], words: str, unselected: Set[int], label: str) -> str:
     """One picture, enlarged by a whole number; one with a label takes half the room."""
     picture = picture_of(grid.axes, values, unselected)
     longest = max(picture.width, picture.height)

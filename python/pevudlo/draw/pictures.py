@@ -8,17 +8,15 @@ from __future__ import annotations
 import base64
 import struct
 import zlib
-from collections.abc import Sequence
+from collections.abc import Sequence, Set
 from dataclasses import dataclass
-from functools import cache
+from functools import cache, lru_cache
 
+from pevudlo.draw.arrays import STEPS, levels_of
 from pevudlo.draw.shapes import Sheet, near_square, sheets_of
 
 LARGEST_TILE = 256
 """A sheet that is longer than this in a direction is cut, and its parts stand beside each other."""
-
-STEPS = 120
-"""How many brightnesses there are."""
 
 GAP = 255
 """The place in the palette of the transparent lines between sheets."""
@@ -36,27 +34,13 @@ class Picture:
     height: int
 
 
-def picture_of(axes: tuple[int, ...], values: Sequence[int], unselected: frozenset[int] = frozenset()) -> Picture:
+def picture_of(axes: tuple[int, ...], values: Sequence[int], unselected: Set[int] = frozenset()) -> Picture:
     """The heat picture of one value a processor, by the axes of their set."""
-    levels = _levels_of(values)
-    for processor in unselected:
-        levels[processor] += STEPS
-    return _mosaic(axes, levels)
+    return _mosaic(axes, levels_of(values, unselected))
 
 
-def _levels_of(values: Sequence[int]) -> bytearray:
-    """A brightness for each value. Where all are the same, zeros are dark and others bright."""
-    least, greatest = min(values), max(values)
-    if least == greatest:
-        return bytearray([STEPS * 5 // 8 if least else 0]) * len(values)
-    scale = greatest - least
-    if isinstance(values, bytes):
-        table = bytes(max(0, min(STEPS - 1, (value - least) * (STEPS - 1) // scale)) for value in range(256))
-        return bytearray(values.translate(table))
-    return bytearray((value - least) * (STEPS - 1) // scale for value in values)
-
-
-def _mosaic(axes: tuple[int, ...], levels: bytearray) -> Picture:
+@lru_cache(64)
+def _mosaic(axes: tuple[int, ...], levels: bytes) -> Picture:
     """All sheets in one picture, cut into tiles where they are long."""
     tiles = [tile for sheet in sheets_of(axes) for tile in _tiles_of(sheet)]
     width, height = len(tiles[0][0]), len(tiles[0])
@@ -80,13 +64,15 @@ def _tiles_of(sheet: Sheet) -> list[list[range]]:
     return parts
 
 
-def _band(tiles: list[list[range]], side: int, levels: bytearray) -> list[bytes]:
+def _band(tiles: list[list[range]], side: int, levels: bytes) -> list[bytes]:
     """Tiles side by side, with a transparent pixel between each two; `side` of them at least."""
+    if len(tiles) == side == 1:
+        return [levels[line.start : line.stop] for line in tiles[0]]
     width, height = len(tiles[0][0]), len(tiles[0])
     blank = bytes([GAP]) * width
     rows = []
     for line in range(height):
-        parts = [bytes(levels[tile[line].start : tile[line].stop]) for tile in tiles]
+        parts = [levels[tile[line].start : tile[line].stop] for tile in tiles]
         rows.append(bytes([GAP]).join(parts + [blank] * (side - len(tiles))))
     return rows
 
@@ -94,10 +80,19 @@ def _band(tiles: list[list[range]], side: int, levels: bytearray) -> list[bytes]
 def _address(rows: list[bytes]) -> str:
     """The rows of places in the palette as a PNG, as a data address."""
     size = struct.pack(">IIBBBBB", len(rows[0]), len(rows), 8, 3, 0, 0, 0)
-    body = zlib.compress(b"".join(b"\0" + row for row in rows), 6)
+    body = _packed(rows)
     parts = [_chunk(b"IHDR", size), _chunk(b"PLTE", _palette()), _chunk(b"tRNS", b"\xff" * GAP + b"\0")]
     png = b"\x89PNG\r\n\x1a\n" + b"".join(parts) + _chunk(b"IDAT", body) + _chunk(b"IEND", b"")
     return "data:image/png;base64," + base64.b64encode(png).decode("ascii")
+
+
+def _packed(rows: list[bytes]) -> bytes:
+    """The rows of a PNG, compressed. A row that is as the one above it is told by its differences, which are zeros."""
+    packer = zlib.compressobj(strategy=zlib.Z_RLE)
+    told = [b"\0" + rows[0]]
+    for above, row in zip(rows, rows[1:]):
+        told.append(b"\2" + bytes(len(row)) if row == above else b"\0" + row)
+    return packer.compress(b"".join(told)) + packer.flush()
 
 
 def _chunk(kind: bytes, data: bytes) -> bytes:

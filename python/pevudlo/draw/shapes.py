@@ -3,6 +3,7 @@
 from __future__ import annotations
 
 from dataclasses import dataclass
+from functools import lru_cache
 from math import isqrt
 
 LONGEST_LINE = 32
@@ -27,8 +28,13 @@ def processors_of(axes: tuple[int, ...]) -> int:
     return count
 
 
-def folded_width(axes: tuple[int, ...]) -> int:
-    """How many processors stand in one line: the length of axis 0, or less where it is the only axis and long."""
+def folded_width(axes: tuple[int, ...], longest: int | None = None) -> int:
+    """How many processors stand in one line: the length of axis 0, or less where it is the only axis and long.
+
+    Where `longest` is said, a power of two, lines of a set of one axis have at most so many.
+    """
+    if len(axes) == 1 and longest is not None:
+        return min(folded_width(axes), longest)
     if len(axes) > 1 or axes[0] <= LONGEST_LINE:
         return axes[0]
     if axes[0] <= LONGEST_LINE * LONGEST_LINE:
@@ -39,9 +45,13 @@ def folded_width(axes: tuple[int, ...]) -> int:
     return width
 
 
-def sheets_of(axes: tuple[int, ...]) -> tuple[Sheet, ...]:
-    """The sheets of a set, those of axis 2 first. A set of one axis has one sheet, of one line or more."""
-    width = folded_width(axes)
+@lru_cache(64)
+def sheets_of(axes: tuple[int, ...], longest: int | None = None) -> tuple[Sheet, ...]:
+    """The sheets of a set, those of axis 2 first. A set of one axis has one sheet, of one line or more.
+
+    `longest` is that of `folded_width`.
+    """
+    width = folded_width(axes, longest)
     if len(axes) == 1:
         folded = width < axes[0]
         across = tuple(f"+{place}" if folded else str(place) for place in range(width))

@@ -4,7 +4,7 @@ from __future__ import annotations
 
 from typing import Callable
 
-from pevudlo.hints.grammar import listed, nearest
+from pevudlo.hints.words import listed, nearest
 from pevudlo.lang.board import Board
 from pevudlo.lang.instructions import FIELDS, NONE, OPTIONAL, Instruction, Operand, read
 

@@ -7,11 +7,13 @@ from dataclasses import dataclass
 from pevudlo.draw.visible import caret_lines, visible
 from pevudlo.hints.board import board_hint
 from pevudlo.hints.grammar import grammar_hint
+from pevudlo.hints.meanings import Where
 from pevudlo.lang.board import Board
 from pevudlo.lang.faults import FAULTS
 from pevudlo.lang.replies import Refused
 
 SYNTAX = 20
+MOST_SHOWN = 100
 
 
 @dataclass(frozen=True)
@@ -30,11 +32,14 @@ class Explanation:
     column: int | None
     hint: str
 
-    def lines(self) -> list[str]:
-        """The line that was refused, with a caret below where there is a column, and the hint: all for a terminal."""
-        shown = [visible(self.line if len(self.line) <= 100 else self.line[:97] + "...")]
+    def lines(self, most: int = MOST_SHOWN) -> list[str]:
+        """The line that was refused, with a caret below where there is a column, and the hint: all for a terminal.
+
+        Of the line at most so many letters are shown.
+        """
+        shown = [visible(self.line if len(self.line) <= most else self.line[: most - 3] + "...")]
         if self.column is not None:
-            shown = list(caret_lines(self.line, self.column))
+            shown = list(caret_lines(self.line, self.column, most))
         return shown + ([self.hint] if self.hint else [])
 
 
@@ -53,13 +58,13 @@ class Refusal(Exception):
         super().__init__("\n    ".join([head, *explanation.lines()]))
 
 
-def explained(line: str, refused: Refused, board: Board) -> Explanation:
-    """Why a line was refused, by the board as it stood when it was."""
+def explained(line: str, refused: Refused, board: Board, where: Where = Where.SCRIPT) -> Explanation:
+    """Why a line that was given somewhere was refused, by the board as it stood when it was."""
     fault = FAULTS[refused.number]
     is_syntax = refused.number == SYNTAX and refused.detail is not None
     column = refused.detail if is_syntax else None
     if column is not None:
-        hint = grammar_hint(line, column)
+        hint = grammar_hint(line, column, where)
     else:
         hint = board_hint(refused.number, refused.detail, line, board)
     return Explanation(refused.number, fault.name, fault.words(refused.detail), line, refused.detail, column, hint)

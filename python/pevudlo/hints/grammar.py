@@ -3,9 +3,11 @@
 from __future__ import annotations
 
 import re
-from difflib import get_close_matches
 
 from pevudlo.draw.visible import visible
+from pevudlo.hints.meanings import Where, begun_with, combined, direction_meant, meaning_of
+from pevudlo.hints.odd import odd_bytes, odd_word
+from pevudlo.hints.words import listed, nearest
 from pevudlo.lang.grammar import (
     COMMANDS,
     MOST_BYTES,
@@ -16,38 +18,7 @@ from pevudlo.lang.grammar import (
     operand_slots,
     words_before,
 )
-from pevudlo.lang.instructions import INSTRUCTIONS, Instruction
-
-# Words of other languages and tools, and what does it here.
-ELSEWHERE = {
-    "print": "`show KEY end` shows a key",
-    "run": "`settle` runs the rows that are unsettled",
-    "go": "`settle` runs the rows that are unsettled",
-    "execute": "`settle` runs the rows that are unsettled",
-    "add": "`insert end INSTR` adds a row",
-    "append": "`insert end INSTR` adds a row",
-    "remove": "`delete ROW` takes a row out",
-    "let": "`input KEY FROM VALUE ..` gives a key its values",
-    "quit": "the run ends with the end of the script",
-    "exit": "the run ends with the end of the script",
-    "help": "the commands are " + ", ".join(COMMANDS),
-}
-
-
-def nearest(word: str, known: list[str]) -> str | None:
-    """The known word that is most like a word: one that it begins, or one with few other letters. None if none is."""
-    lower = {each.lower(): each for each in reversed(known)}
-    if word.lower() in lower:
-        return lower[word.lower()]
-    if len(word) > 1 and (begun := [each for each in known if each.lower().startswith(word.lower())]):
-        return min(begun, key=len)
-    close = get_close_matches(word.lower(), list(lower), n=1, cutoff=0.6)
-    return lower[close[0]] if close else None
-
-
-def listed(words: list[str], last: str = "or") -> str:
-    """Words with commas, and a word before the last one."""
-    return f" {last} ".join([", ".join(words[:-1]), words[-1]] if len(words) > 1 else words)
+from pevudlo.lang.instructions import INSTRUCTIONS, Instruction, Operand
 
 
 def slot_words(slot: Slot) -> str:
@@ -56,77 +27,19 @@ def slot_words(slot: Slot) -> str:
         return f"`{slot.word}`"
     if slot.kind is Kind.INSTRUCTION:
         return "an instruction, such as `u-add-3-1L D A B L`"
-    if slot.kind in (Kind.DIRECTION, Kind.INCLUSION):
+    if slot.kind is Kind.DIRECTION:
+        return "the direction: upward to greater coordinates, or downward to lesser ones"
+    if slot.kind is Kind.INCLUSION:
         return f"{slot.role}, {slot.kind.value}"
     if slot.kind in (Kind.NUM, Kind.VAL):
         return f"{slot.role} (a number)"
     return slot.role
 
 
-def odd_bytes(word: str) -> str | None:
-    """What is wrong with a word that no rule allows anywhere, or None."""
-    if word == "":
-        return "an empty word stands here: between two words is one space, and none at the end of a line"
-    if not re.fullmatch(r"[\t -~]*\r?", word):
-        return "words are made of ASCII letters, digits and signs"
-    if word.endswith("\r"):
-        return "a carriage return stands here: lines end with a line feed alone, so save the file with such line ends"
-    if "\t" in word:
-        return "a tab stands here: between two words is one space"
-    if word.startswith(("#", "//", ";")):
-        return "a comment has a line of its own, which begins with #"
-    return None
-
-
-def odd_number(word: str, slot: Slot) -> str | None:
-    """What is wrong with a word where a number is wanted, or None where it is nothing like a number."""
-    if re.fullmatch(r"-\d+", word):
-        return "numbers have no sign: a negative number of a field is written as 2^width minus its amount"
-    if re.fullmatch(r"0\d+", word):
-        return "a number has no leading zeros"
-    if re.fullmatch(r"\d+", word):
-        return f"the number is too great: here is room for {slot.kind.value}"
-    if re.fullmatch(r"\d+(,\d*)+", word):
-        return "between two numbers is a space, and no comma"
-    if re.fullmatch(r"0[xXbBoO][0-9a-fA-F]+", word):
-        return "numbers are decimal"
-    if re.fullmatch(r"\d*\.\d+|\d+\.\d*|\d+[eE]\d+|\d[\d_]+", word):
-        return "numbers are whole and decimal, digits alone"
-    return None
-
-
-def odd_name(word: str) -> str | None:
-    """What is wrong with a word where a name or a key is wanted, or None."""
-    name, dot, flag = word.partition(".")
-    if word == "none":
-        return "`none` is no name"
-    if len(name) > 16:
-        return f"a name has at most 16 letters, and this one has {len(name)}"
-    if name and not (name[0].isalpha()):
-        return "a name begins with a letter"
-    if dot:
-        near = nearest(flag, ["context", "test", "carry", "overflow"])
-        return "behind a set's name and a dot stands context, test, carry or overflow" + (
-            f": did you mean `{name}.{near}`?" if near and near != flag else ""
-        )
-    return "a name has letters, digits, `-` and `_` alone"
-
-
-def odd_word(word: str, slots: tuple[Slot, ...]) -> str | None:
-    """What is wrong with a word where these slots could stand, or None."""
-    kinds = {slot.kind: slot for slot in slots}
-    for kind in (Kind.NUM, Kind.VAL):
-        if kind in kinds and (said := odd_number(word, kinds[kind])):
-            return said
-    if Kind.AXES in kinds:
-        return "an axis has a number as its length, and between two lengths stands x, as in `4x4`"
-    if kinds.keys() & {Kind.NAME, Kind.KEY, Kind.OPTIONAL_NAME}:
-        return odd_name(word)
-    return None
-
-
 def meant(word: str, slots: tuple[Slot, ...]) -> str | None:
     """The word that was perhaps meant, of the words that may stand there, or None."""
+    if Kind.INSTRUCTION in {slot.kind for slot in slots} and (name := combined(word)):
+        return name
     known = [slot.word for slot in slots if slot.kind is Kind.WORD]
     for slot in slots:
         if slot.kind is Kind.INSTRUCTION:
@@ -136,13 +49,19 @@ def meant(word: str, slots: tuple[Slot, ...]) -> str | None:
     return nearest(word, known)
 
 
-def begin_hint(word: str, rest: str) -> str:
+def begin_hint(word: str, rest: str, where: Where) -> str:
     """The hint for a line whose first word is no command."""
-    if word in INSTRUCTIONS or word.lower() in ELSEWHERE:
-        said = ELSEWHERE.get(word.lower())
-        return said if said else f"an instruction becomes a row by insert: `insert end {visible(word + rest)}`"
-    near = nearest(word, list(COMMANDS))
-    return f"did you mean `{near}`?" if near else "a line begins with one of " + listed([f"`{c}`" for c in COMMANDS])
+    if said := begun_with(word, where):
+        return said
+    if word in INSTRUCTIONS:
+        return f"an instruction becomes a row by insert: `insert end {visible(word + rest)}`"
+    if said := meaning_of(word):
+        return f"{said}; an instruction becomes a row by insert: `insert end INSTR`"
+    if "-" not in word and (near := nearest(word, list(COMMANDS))):
+        return f"did you mean `{near}`?"
+    if near := combined(word) or nearest(word, list(INSTRUCTIONS)):
+        return f"did you mean `{near}`? An instruction becomes a row by insert: `insert end {near}{visible(rest)}`"
+    return "a line begins with one of " + listed([f"`{c}`" for c in COMMANDS])
 
 
 def end_hint(words: list[str], word: str) -> str:
@@ -177,7 +96,30 @@ def wanted_hint(words: list[str], slots: tuple[Slot, ...]) -> str:
     return f"the line ends too soon: here comes {wanted}{more}{spelling_of(words)}"
 
 
-def grammar_hint(line: str, column: int) -> str:
+def insert_hint(line: str, word: str) -> str | None:
+    """The hint for a word behind `insert` that is no place, or None."""
+    if word in INSTRUCTIONS:
+        return f"say where: `insert end {visible(line.split(' ', 1)[1])}`"
+    if re.fullmatch(r"[0-9]+", word):
+        return f"a row is put behind another one by `insert after {word} INSTR`"
+    said = meaning_of(word)
+    return said and f"say where, as in `insert end INSTR`. {said[0].upper()}{said[1:]}"
+
+
+def meaning_hint(words: list[str], word: str, slots: tuple[Slot, ...]) -> str | None:
+    """The hint for a word that means an instruction or a direction elsewhere, where such a one may stand, or None."""
+    kinds = {slot.kind for slot in slots}
+    if Kind.INSTRUCTION in kinds:
+        return meaning_of(word)
+    found = instruction_of(words)
+    if Kind.DIRECTION not in kinds or found is None:
+        return None
+    named = dict(zip(found[0].operands, words[-found[1] :]))
+    said = direction_meant(word, named[Operand.AXIS])
+    return said and f"{said}; here could stand {listed([slot_words(slot) for slot in slots])}"
+
+
+def grammar_hint(line: str, column: int, where: Where = Where.SCRIPT) -> str:
     """Why a line leaves the grammar at a column, which counts bytes from 1, and what could stand there."""
     if column > MOST_BYTES:
         return "a line has at most 65,536 bytes: cut it, as several `input` lines with a first processor each"
@@ -187,14 +129,14 @@ def grammar_hint(line: str, column: int) -> str:
         return wanted_hint(words, slots)
     said = odd_bytes(word)
     if said is None and not words:
-        return begin_hint(word, line[len(word) :])
-    could = "here could stand " + listed([slot_words(slot) for slot in slots]) if slots else ""
+        return begin_hint(word, line[len(word) :], where)
     if said is None and not slots:
         return (end_hint(words, word) if may_end(words) else "no command goes on so") + spelling_of(words)
-    if said is None and word in INSTRUCTIONS and words == ["insert"]:
-        return f"say where: `insert end {visible(line.split(' ', 1)[1])}`; {could}"
-    if said is None and words == ["insert"] and re.fullmatch(r"[0-9]+", word):
-        return f"a row is put behind another one by `insert after {word} INSTR`; {could}"
+    could = "here could stand " + listed([slot_words(slot) for slot in slots]) if slots else ""
+    if said is None and words == ["insert"]:
+        said = insert_hint(line, word)
+    if said is None and (meaning := meaning_hint(words, word, slots)):
+        return meaning
     if said is None and (near := meant(word, slots)):
         return f"did you mean `{near}`? {could[0].upper()}{could[1:]}{spelling_of(words)}"
     said = said or odd_word(word, slots)

@@ -6,6 +6,7 @@ from dataclasses import dataclass, field
 from math import prod
 
 from pevudlo.lang.instructions import FIELDS, FLAGS, Operand, read
+from pevudlo.lang.order import RowOrder
 
 
 @dataclass(frozen=True)
@@ -18,15 +19,17 @@ class Declared:
 
 @dataclass
 class Board:
-    """The sets with the lengths of their axes, the fields, the rows' ids in program order, their texts, and how many
-    orders were taken.
+    """The sets with the lengths of their axes, the fields, the rows' ids in program order, their texts, how many orders
+    were taken, and the row of each. Rows that were put in by who doesn't tell the board aren't known to it.
     """
 
     sets: dict[str, tuple[int, ...]] = field(default_factory=dict)
     fields: dict[str, Declared] = field(default_factory=dict)
-    rows: list[int] = field(default_factory=list)
+    order: RowOrder = field(default_factory=RowOrder)
     texts: dict[int, str] = field(default_factory=dict)
     orders: int = 0
+    ordered: dict[int, int] = field(default_factory=dict)
+    _written: dict[str, tuple[str, ...]] = field(default_factory=dict)
 
     def note(self, line: str, reply: str) -> None:
         """Takes in a command and the first line of its reply. A command that was refused changes nothing."""
@@ -45,21 +48,30 @@ class Board:
             _, row, text = line.split(" ", 2)
             self.texts[int(row)] = text
         elif command == "delete":
-            row_id = int(line.split(" ")[1])
-            self.rows.remove(row_id)
-            del self.texts[row_id]
+            gone = int(line.split(" ")[1])
+            self.order.take_out(gone)
+            self.texts.pop(gone, None)
         elif command == "take" and reply != "nothing":
-            self.orders = int(reply.split(" ")[1])
+            _, order, _, row, _, _ = reply.split(" ")
+            self.orders = int(order)
+            self.ordered[self.orders] = int(row)
 
     def _insert(self, line: str, row: int) -> None:
         """Puts a new row in its place."""
         _, place, rest = line.split(" ", 2)
-        at = 0 if place == "start" else len(self.rows)
         if place == "after":
             other, rest = rest.split(" ", 1)
-            at = self.rows.index(int(other)) + 1
-        self.rows.insert(at, row)
+            self.order.put_after(int(other), row)
+        elif place == "start":
+            self.order.put_first(row)
+        else:
+            self.order.put_last(row)
         self.texts[row] = rest
+
+    @property
+    def rows(self) -> list[int]:
+        """The ids of the rows in program order."""
+        return list(self.order)
 
     def keys(self) -> list[str]:
         """All keys: the fields, then the flags of each set."""
@@ -89,6 +101,12 @@ class Board:
 
     def keys_written(self, text: str) -> tuple[str, ...]:
         """The keys that an accepted instruction writes: fields, then flags. Raises ValueError for another text."""
+        if text not in self._written:
+            self._written[text] = self._read_keys(text)
+        return self._written[text]
+
+    def _read_keys(self, text: str) -> tuple[str, ...]:
+        """The keys that an instruction writes, by its words."""
         instruction, named = read(text)
         fields = instruction.fields_written(text.split(" "))
         known = (operand for operand in (Operand.SET, *FIELDS) if operand in named)

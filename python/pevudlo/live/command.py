@@ -8,7 +8,7 @@ from argparse import ArgumentTypeError
 from pathlib import Path
 from types import FrameType
 
-from pevudlo.arguments import Arguments, file_name
+from pevudlo.arguments import Arguments, add_quiet, file_name
 from pevudlo.draw.visible import visible
 from pevudlo.files import read_lines, why
 from pevudlo.live.server import Server
@@ -33,6 +33,7 @@ def arguments() -> Arguments:
     """The reader of the command's words."""
     parser = Arguments("live", DOES)
     parser.add_argument("file", nargs="?", type=file_name, metavar="FILE", help="a script that the program begins with")
+    add_quiet(parser)
     said = "the port; 0 is any that is free (default: %(default)s)"
     parser.add_argument("--port", type=port, default=0, metavar="0-65535", help=said)
     return parser
@@ -66,7 +67,7 @@ def main(words: list[str]) -> int:
         print(f"paris live: can't read {visible(str(path))}: {why(error)}", file=sys.stderr)
         return 2
     try:
-        session = Session(find(), said.workers)
+        session = Session(find(), said.workers, said.quiet)
         refused = session.load(lines)
         if refused:
             print(f"paris live: {len(refused)} of the script's lines were refused; the page says why", file=sys.stderr)

@@ -34,6 +34,7 @@ def live_document(title: str) -> str:
 _BODY = """
 <div id="trouble"></div>
 <div id="head" class="head" aria-live="polite"></div>
+<div id="note" aria-live="assertive"></div>
 <section class="block" id="edit-part">
 <div id="edit" aria-live="polite"><p class="quiet">No edit of settled rows so far.</p></div>
 </section>
@@ -64,7 +65,7 @@ _BODY = """
 <button class="main">Send</button>
 </form>
 <div id="refused" aria-live="assertive"></div>
-<div id="log"></div>
+<ol id="log"></ol>
 <p class="quiet"><a href="script" target="_blank" rel="noopener">The accepted commands as a script</a></p>
 </section>
 <template id="caret-here">

@@ -6,18 +6,20 @@ its address. A body above the limit isn't read.
 
 from __future__ import annotations
 
+import io
 import json
 import secrets
 import socket
 import sys
 from http import HTTPStatus
-from http.server import BaseHTTPRequestHandler, ThreadingHTTPServer
+from http.server import BaseHTTPRequestHandler
 from typing import Any
 from urllib.parse import parse_qs, urlsplit
 
+from pevudlo.live.connections import ANSWER_SECONDS, LimitedServer, TimelyReader
 from pevudlo.live.document import live_document
-from pevudlo.live.session import Session, Stopped
-from pevudlo.live.view import View, told
+from pevudlo.live.session import OtherRow, Session, Stopped
+from pevudlo.live.view import View, other_row, told
 
 HOST = "127.0.0.1"
 MOST_BYTES = 65_536 + 1_024
@@ -36,12 +38,8 @@ class Unwelcome(Exception):
         self.status = status
 
 
-class Server(ThreadingHTTPServer):
+class Server(LimitedServer):
     """A server of one session. `address` is where its page is."""
-
-    daemon_threads = True
-    block_on_close = False
-    allow_reuse_address = False
 
     def __init__(self, session: Session, title: str, port: int = 0) -> None:
         super().__init__((HOST, port), Handler)
@@ -75,7 +73,20 @@ class Handler(BaseHTTPRequestHandler):
     protocol_version = "HTTP/1.1"
     server_version = "paris"
     sys_version = ""
-    timeout = 30.0
+    # Else the end of an answer waits until its beginning is acknowledged, for 40 ms.
+    disable_nagle_algorithm = True
+
+    def setup(self) -> None:
+        """Reads the connection by a reader that keeps time."""
+        super().setup()
+        self.rfile.close()
+        self.reader = TimelyReader(self.connection)
+        self.rfile = io.BufferedReader(self.reader)
+
+    def handle_one_request(self) -> None:
+        """Answers one request of the connection."""
+        self.reader.wait_for_request()
+        super().handle_one_request()
 
     def log_message(self, format: str, *words: Any) -> None:
         """Says nothing: the token is in addresses."""
@@ -119,7 +130,10 @@ class Handler(BaseHTTPRequestHandler):
         """Does what is asked, and says what came of it. Raises KeyError and ValueError where nobody can do it."""
         session = self.server.session
         if name == "command":
-            step = session.run(asked["line"])
+            try:
+                step = session.run(asked["line"], asked.get("was"))
+            except OtherRow as error:
+                return {"reply": [], "refused": other_row(error), "text": error.text}
             return {"reply": list(step.lines[:1]), "refused": told(step) if step.is_refused else ""}
         if name == "order":
             return {"reply": [step.lines[0] for step in session.run_order()], "refused": ""}
@@ -175,6 +189,7 @@ class Handler(BaseHTTPRequestHandler):
             raise Unwelcome(HTTPStatus.SERVICE_UNAVAILABLE)
         server.listeners += 1
         try:
+            self.connection.settimeout(ANSWER_SECONDS)
             self.send_response(HTTPStatus.OK)
             self._say_rules("text/event-stream")
             self.send_header("Connection", "close")
@@ -196,6 +211,7 @@ class Handler(BaseHTTPRequestHandler):
 
     def _send(self, status: HTTPStatus, data: bytes, kind: str) -> None:
         """Answers, and keeps the connection."""
+        self.connection.settimeout(ANSWER_SECONDS)
         self.send_response(status)
         self._say_rules(kind)
         self.send_header("Content-Length", str(len(data)))

@@ -9,15 +9,18 @@ import os
 import threading
 import time
 from collections import deque
-from collections.abc import Iterable
-from dataclasses import dataclass
+from collections.abc import Iterator, Sequence
+from contextlib import contextmanager
 from pathlib import Path
 
+from pevudlo.draw.visible import visible
+from pevudlo.hints.meanings import Where
 from pevudlo.lang.board import Board
-from pevudlo.lang.instructions import read
-from pevudlo.lang.replies import OrderTaken, Row, Status
-from pevudlo.record.looks import Look, Looker, RowRun
-from pevudlo.record.recorder import Recorder, Step, Touched
+from pevudlo.lang.replies import OrderTaken
+from pevudlo.live.seen import Seen
+from pevudlo.progress import PROGRESS, Progress, line_of, progress
+from pevudlo.record.looks import Look, Looker
+from pevudlo.record.recorder import Recorder, Step
 from pevudlo.wire.pipe import Pipe, PipeError
 
 NUMBERS_A_STEP = 150_000
@@ -30,35 +33,39 @@ KEPT_STEPS = 60
 CHANGING = ("set", "field", "input", "insert", "delete", "replace", "take", "bring", "release", "settle")
 
 
+class OtherRow(Exception):
+    """A row isn't what it was when its edit began. `text` is its present instruction, None where the row is gone."""
+
+    def __init__(self, row: int, text: str | None) -> None:
+        super().__init__(row, text)
+        self.row = row
+        self.text = text
+
+
+def is_comment(line: str) -> bool:
+    """Whether a line of a script is no command: a comment, or an empty line."""
+    return not line or line.startswith("#")
+
+
 class Stopped(Exception):
     """The program has ended. It can be started again."""
-
-
-@dataclass(frozen=True)
-class Edit:
-    """The last edit, and what it did to the rows."""
-
-    text: str
-    touched: Touched
 
 
 class Session:
     """One program and what is known of it. `version` rises with each change."""
 
-    def __init__(self, program: Path, workers: int = 2) -> None:
+    def __init__(self, program: Path, workers: int = 2, is_quiet: bool = True) -> None:
+        """`is_quiet` says that a terminal isn't told how far a command is."""
         self.lock = threading.RLock()
         self.version = 1
         self.trouble = ""
         self.caret = "end"
         self.taken: list[str] = []
-        self.steps: deque[Step] = deque(maxlen=KEPT_STEPS)
-        self.edit: Edit | None = None
-        self.rows: tuple[Row, ...] = ()
-        self.runs: dict[int, RowRun] = {}
-        self._program, self._workers = program, workers
+        self.steps: deque[tuple[int, Step]] = deque(maxlen=KEPT_STEPS)
+        self.told = 0
+        self._program, self._workers, self._is_quiet = program, workers, is_quiet
         self._news = threading.Condition()
         self._closed = False
-        self._starts: dict[str, Look] = {}
         self._begin()
 
     @property
@@ -71,15 +78,33 @@ class Session:
         """The child's process id."""
         return self._pipe.process
 
-    def run(self, line: str) -> Step:
-        """Hands one command to the program. Raises Stopped where the program has ended, ValueError for no command."""
-        if not line or line.startswith("#") or "\n" in line:
+    def run(self, line: str, was: str | None = None) -> Step:
+        """Hands one command to the program. `was` is the instruction that its row had for who wrote the command.
+
+        Raises Stopped where the program has ended, ValueError for no command, and OtherRow where the row is another.
+        """
+        if is_comment(line) or "\n" in line:
             raise ValueError("one command is wanted")
         with self.lock:
-            step = self._step(line, LISTED_A_STEP)
+            self._check_row(line, was)
+            with self._telling(line if len(line) <= 40 else line[:37] + "..."):
+                step = self._step(line, LISTED_A_STEP)
             self._see_rows()
             self.changed()
             return step
+
+    def _check_row(self, line: str, was: str | None) -> None:
+        """Raises OtherRow where the row of a command isn't what it was for who wrote it."""
+        row = line.split(" ")[1] if was is not None and " " in line else ""
+        if row.isascii() and row.isdigit() and len(row) < 20 and int(row):
+            text = self.board.texts.get(int(row))
+            if text != was:
+                raise OtherRow(int(row), text)
+
+    @property
+    def commands(self) -> int:
+        """How many commands the program took."""
+        return sum(not is_comment(line) for line in self.taken)
 
     def run_order(self) -> list[Step]:
         """Takes an order and brings its result. The second step is missing where no row is ready."""
@@ -89,15 +114,20 @@ class Session:
                 return [first]
             return [first, self.run(f"bring {first.reply.order}")]
 
-    def load(self, lines: Iterable[str]) -> list[Step]:
+    def load(self, lines: Sequence[str]) -> list[Step]:
         """Hands over a whole script. Gives the steps that were refused. Raises Stopped where the program ends."""
-        with self.lock:
-            wanted = [line for line in lines if line and not line.startswith("#")]
+        with self.lock, self._telling("") as told:
             self._recorder.looker.listed_left = LISTED_A_STEP
-            steps = [self._step(line) for line in wanted]
+            refused = []
+            for number, line in enumerate(lines, 1):
+                told.at(line_of(number, len(lines)))
+                if is_comment(line):
+                    self.taken.append(line)
+                elif (step := self._step(line)).is_refused:
+                    refused.append(step)
             self._see_rows()
             self.changed()
-            return [step for step in steps if step.is_refused]
+            return refused
 
     def move(self, place: str) -> None:
         """Moves the caret. Raises ValueError where there is no such place."""
@@ -107,24 +137,13 @@ class Session:
             self.caret = place
             self.changed()
 
-    def starts(self) -> list[Look]:
-        """Every key at the start: its input data, which changes by `input` alone. Raises Stopped."""
+    def keys(self) -> tuple[list[Look], list[Look]]:
+        """Every key at the start, and every key at the caret. Raises Stopped where the program has ended."""
         with self.lock:
-            for key in self.board.keys():
-                if key not in self._starts:
-                    self._starts[key] = self.look(key, "start")
-            return [self._starts[key] for key in self.board.keys()]
-
-    def looks(self) -> list[Look]:
-        """Every key at the caret. Raises Stopped where the program has ended."""
-        with self.lock:
-            return [self.look(key, self.caret) for key in self.board.keys()]
-
-    def look(self, key: str, place: str) -> Look:
-        """A key at a place. Raises Stopped where the program has ended."""
-        with self.lock:
+            if self.trouble:
+                raise Stopped(self.trouble)
             try:
-                return self._recorder.looker.look(key, place)
+                return self.seen.starts(), self.seen.looks(self.caret)
             except PipeError as error:
                 raise self._stopped(error) from error
 
@@ -141,7 +160,7 @@ class Session:
 
     def places(self) -> set[str]:
         """The places where the caret may stand."""
-        return {"start", "end"} | {f"after {row.row}" for row in self.rows}
+        return {"start", "end"} | {f"after {row.row}" for row in self.seen.rows}
 
     def changed(self) -> None:
         """Tells all who wait that there is something new."""
@@ -173,17 +192,27 @@ class Session:
         self._pipe.kill()
         self._pipe.close()
 
+    @contextmanager
+    def _telling(self, where: str) -> Iterator[Progress]:
+        """Says on a terminal what is being done, while it is done."""
+        looker = self._recorder.looker
+        with progress(self._is_quiet) as looker.told:
+            looker.told.at(visible(where))
+            try:
+                yield looker.told
+            finally:
+                looker.told = PROGRESS
+
     def _forget(self) -> None:
         """What was known of a program that has ended."""
-        self.taken, self.rows, self.runs = [], (), {}
-        self._starts.clear()
-        self.edit, self.trouble = None, ""
+        self.taken, self.trouble = [], ""
         self.steps.clear()
 
     def _begin(self) -> None:
         """Starts the child, and a thread that notices its end."""
         self._pipe = Pipe(self._program, self._workers)
-        self._recorder = Recorder(self._pipe, Looker(self._pipe, Board()))
+        self._recorder = Recorder(self._pipe, Looker(self._pipe, Board()), Where.LIVE)
+        self.seen = Seen(self._recorder)
         threading.Thread(target=self._watch, args=(self._pipe,), daemon=True).start()
 
     def _watch(self, pipe: Pipe) -> None:
@@ -215,39 +244,21 @@ class Session:
         looker.listed_left = looker.listed_left if listed is None else listed
         try:
             step = self._recorder.step(line)
-            self._note(step)
+            self.seen.note(step)
         except PipeError as error:
             raise self._stopped(error) from error
-        self.steps.append(step)
+        self.told += 1
+        self.steps.append((self.told, step))
         if not step.is_refused and step.word in CHANGING:
             self.taken.append(line)
         return step
 
-    def _note(self, step: Step) -> None:
-        """What a step says of rows: the runs of those that ran, and the last edit."""
-        if step.given is not None:
-            self._starts[step.given[1].key] = step.given[1]
-        if step.touched is not None:
-            self.edit = Edit(step.text, step.touched)
-        if step.ran is not None:
-            self.runs |= {run.row.row: run for run in step.ran.runs}
-            again = frozenset(row.row for row in step.ran.rows if row.row in step.ran.kept and self._stores_all(row))
-            if again:
-                self.runs |= {run.row.row: run for run in self._recorder.looker.runs(step.ran.rows, again)}
-
     def _see_rows(self) -> None:
-        """The rows as they are. What was seen of rows that are other now is forgotten."""
-        looker = self._recorder.looker
-        looker.listed_left = LISTED_A_STEP
+        """The rows as they are."""
+        self._recorder.looker.listed_left = LISTED_A_STEP
         try:
-            self.rows = looker.rows() or ()
+            self.seen.see_rows()
         except PipeError as error:
             raise self._stopped(error) from error
-        settled = {row.row: row.edition for row in self.rows if row.status is Status.SETTLED}
-        self.runs = {row: run for row, run in self.runs.items() if settled.get(row) == run.row.edition}
-        if self.caret not in self.places():
+        if self.caret not in ("start", "end") and self.caret not in self.places():
             self.caret = "end"
-
-    def _stores_all(self, row: Row) -> bool:
-        """Whether a row may keep its result where what stood before it is another: it doesn't read what it writes."""
-        return not read(row.text)[0].is_conditional

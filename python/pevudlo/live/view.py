@@ -2,19 +2,23 @@
 
 from __future__ import annotations
 
+from collections.abc import Sequence
 from dataclasses import dataclass, field
 
+from pevudlo.draw.arrays import extent
 from pevudlo.draw.grids import Grid, html_of
+from pevudlo.lang.board import Board
+from pevudlo.lang.causes import MOST_NAMED, count_words
 from pevudlo.lang.keys import axes_of, width_of
 from pevudlo.lang.replies import Row, Status
-from pevudlo.live.session import Session, Stopped
-from pevudlo.page.edits import MOST_SIGNS, bar, fate_of, sentence, signs
-from pevudlo.page.parts import clean, command, look_grid, plural, refusal, row_id, sign
+from pevudlo.live.seen import Edit, Seen
+from pevudlo.live.session import OtherRow, Session, Stopped
+from pevudlo.page.edits import MOST_LINES, bar, ranges, sentence, signs
+from pevudlo.page.parts import cause_lines, clean, command, look_grid, plural, quoted, refusal, row_id, sign
 from pevudlo.page.rows import row_body
 from pevudlo.record.looks import Look, RowRun
 from pevudlo.record.recorder import Step
 
-MOST_ROWS_DRAWN = 4096
 _STATES = {
     Status.SETTLED: ("settled", "✓", "settled"),
     Status.WAITING: ("unsettled", "○", "unsettled"),
@@ -28,101 +32,135 @@ class View:
 
     session: Session
     fragments: dict[str, tuple[str, int]] = field(default_factory=dict)
-    orders: dict[str, list[str]] = field(default_factory=dict)
+    orders: dict[str, tuple[object, int]] = field(default_factory=dict)
     version: int = 0
-    _cards: dict[int, tuple[RowRun | None, tuple[Row, str], str]] = field(default_factory=dict)
+    _seen: Seen | None = None
+    _rows: list[int] = field(default_factory=list)
     _keys: dict[str, tuple[Look, str]] = field(default_factory=dict)
+    _edit: tuple[Edit | None, str] = (None, "")
 
     def since(self, seen: int) -> dict[str, object]:
-        """What a tab that has seen a version wants to know."""
+        """What a tab that has seen a version wants to know: fragments and orders that are other since."""
         with self.session.lock:
             self._renew()
-            news = {name: html for name, (html, version) in self.fragments.items() if version > seen}
-            return {"version": self.version, "caret": self.session.caret, "orders": self.orders, "html": news}
+            return {
+                "version": self.version,
+                "caret": self.session.caret,
+                "orders": {name: order for name, (order, version) in self.orders.items() if version > seen},
+                "html": {name: html for name, (html, version) in self.fragments.items() if version > seen},
+            }
 
     def _renew(self) -> None:
         """Brings the fragments up to date. A program that ends on the way leaves what isn't asked of it."""
         if self.version == self.session.version:
             return
-        parts: dict[str, str] = {"head": head(self.session), "log": log(self.session), "edit": last_edit(self.session)}
-        self.orders["rows"] = []
-        for row in self.session.rows:
-            parts[f"row-{row.row}"] = self._card(row)
-            self.orders["rows"].append(f"row-{row.row}")
+        version, session = self.session.version, self.session
+        if self._edit[0] is not session.seen.edit:
+            self._edit = (session.seen.edit, last_edit(session.seen.edit))
+        parts = {"head": head(session), "trouble": trouble(session), "edit": self._edit[1]}
+        parts |= {f"log-{number}": told(step) for number, step in session.steps}
+        orders: dict[str, object] = {"log": [f"log-{number}" for number, _ in reversed(session.steps)]}
+        self._renew_rows(parts, orders)
         try:
-            self._add_keys(parts)
+            self._add_keys(parts, orders)
         except Stopped:
-            for name, (html, _) in self.fragments.items():
-                if name.startswith(("input-", "value-")):
-                    parts.setdefault(name, html)
-        parts["trouble"] = trouble(self.session)
-        self.version = self.session.version
-        old = self.fragments
-        self.fragments = {
-            name: old[name] if name in old and old[name][0] == html else (html, self.version)
-            for name, html in parts.items()
-        }
+            parts["trouble"] = trouble(session)
+        self.version = version
+        for name, html in parts.items():
+            if name not in self.fragments or self.fragments[name][0] != html:
+                self.fragments[name] = (html, version)
+        for name, order in orders.items():
+            if name not in self.orders or self.orders[name][0] != order:
+                self.orders[name] = (order, version)
+        self._drop()
 
-    def _add_keys(self, parts: dict[str, str]) -> None:
+    def _renew_rows(self, parts: dict[str, str], orders: dict[str, object]) -> None:
+        """The rows of which something is other than it was."""
+        seen = self.session.seen
+        rows = [row.row for row in seen.rows]
+        fresh = seen.fresh if seen is self._seen else set(rows)
+        for row in seen.rows if fresh else ():
+            if row.row in fresh:
+                run, cause = seen.runs.get(row.row), seen.causes.get(row.row, "")
+                parts[f"row-{row.row}"] = card(row, run, cause, self.session.board)
+        if rows != self._rows:
+            orders["rows"] = ranges_of(rows)
+        self._rows, self._seen = rows, seen
+        seen.fresh.clear()
+
+    def _drop(self) -> None:
+        """Forgets fragments that no order names any more."""
+        others = [name for kind in ("inputs", "values", "log") for name in listed(self.orders.get(kind))]
+        others += ["head", "edit", "trouble"]
+        if len(others) + len(self._rows) < len(self.fragments):
+            named = {*others, *(f"row-{row}" for row in self._rows)}
+            self.fragments = {name: kept for name, kept in self.fragments.items() if name in named}
+
+    def _add_keys(self, parts: dict[str, str], orders: dict[str, object]) -> None:
         """Input data, and what the keys are at the caret."""
-        session = self.session
-        if session.trouble:
-            raise Stopped(session.trouble)
-        for kind, looks in (("input", session.starts()), ("value", session.looks())):
+        for kind, looks in zip(("input", "value"), self.session.keys()):
             grids = {f"{kind}-{look.key}": self._key(f"{kind}-{look.key}", look, kind == "input") for look in looks}
-            self.orders[f"{kind}s"] = list(grids)
+            orders[f"{kind}s"] = list(grids)
             parts |= grids
 
     def _key(self, name: str, look: Look, is_input: bool) -> str:
         """A key, made anew where its numbers are others."""
         kept = self._keys.get(name)
-        if kept is not None and (kept[0].numbers, kept[0].pending) == (look.numbers, look.pending):
+        if kept is not None and (kept[0] is look or is_same(kept[0], look)):
             return kept[1]
-        html = key_html(look, self.session, is_input)
+        html = key_html(look, self.session.board, is_input)
         self._keys[name] = (look, html)
         return html
 
-    def _card(self, row: Row) -> str:
-        """A row, made anew where something of it is another."""
-        run = self.session.runs.get(row.row)
-        edit = self.session.edit
-        fate = fate_of(row, edit.touched) if edit is not None else ""
-        kept = self._cards.get(row.row)
-        if kept is not None and kept[0] is run and kept[1] == (row, fate):
-            return kept[2]
-        html = card(row, run, fate, self.session)
-        self._cards[row.row] = (run, (row, fate), html)
-        return html
+
+def is_same(one: Look, other: Look) -> bool:
+    """Whether two looks at a key are of the same numbers."""
+    return (one.numbers, one.pending) == (other.numbers, other.pending)
 
 
-def card(row: Row, run: RowRun | None, fate: str, session: Session) -> str:
-    """A row with its buttons, and what it wrote or that it is pending."""
-    kind, mark, word = _STATES[row.status]
-    if run is not None and run.fault is not None:
-        kind, mark, word = "refused", "✕", "refused"
-    body = row_body(run, session.board) if run is not None else pending_keys(row, session)
-    if kind == "settled" and fate == "kept":
-        word = "settled, kept by the last edit"
+def listed(order: tuple[object, int] | None) -> list[str]:
+    """The names of an order."""
+    names = order[0] if order is not None else []
+    return names if isinstance(names, list) else []
+
+
+def ranges_of(rows: Sequence[int]) -> list[list[int]]:
+    """Ids in their order as ranges: the first and the last of neighbours that follow each other by one."""
+    ranges: list[list[int]] = []
+    for row in rows:
+        if ranges and ranges[-1][1] + 1 == row:
+            ranges[-1][1] = row
+        else:
+            ranges.append([row, row])
+    return ranges
+
+
+def card(row: Row, run: RowRun | None, cause: str, board: Board) -> str:
+    """A row with its buttons, and what it wrote, that it is pending, or why it is refused."""
+    kind, mark, word = ("refused", "✕", "refused for its data") if cause else _STATES[row.status]
     return (
         f'<article class="row {kind}" data-row="{row.row}" aria-label="row {row.row}"><header>{row_id(row.row)}'
         f'<button class="text" data-act="edit" title="Edit this row">{command(row.text)}</button>'
         f'<span class="state">{sign(mark)} {word}</span>'
         f'<span class="acts"><button data-act="after" title="Move the caret behind this row">caret</button>'
-        f'<button data-act="delete" title="Delete this row">delete</button></span></header><div>{body}</div></article>'
+        f'<button data-act="delete" title="Delete this row">delete</button></span></header>'
+        f"<div>{card_body(row, run, cause, board)}</div></article>"
     )
 
 
-def pending_keys(row: Row, session: Session) -> str:
-    """The keys of an unsettled row: they have no numbers."""
+def card_body(row: Row, run: RowRun | None, cause: str, board: Board) -> str:
+    """What stands behind a row."""
+    if run is not None:
+        return row_body(run, board)
     if row.status is Status.SETTLED:
-        return '<p class="quiet">Not drawn: there are too many numbers at once. Look at the caret.</p>'
-    names = ", ".join(f"<b>{clean(key)}</b>" for key in session.board.keys_written(row.text))
+        why = f'<p class="cause">{sign("✕")} It stores nothing, since {quoted(cause)}</p>' if cause else ""
+        return why + '<p class="quiet">Not drawn: there are too many numbers at once. Look at the caret.</p>'
+    names = ", ".join(f"<b>{clean(key)}</b>" for key in board.keys_written(row.text))
     return f'<p class="pending">{sign("○")} pending: {names}</p>'
 
 
-def key_html(look: Look, session: Session, is_input: bool) -> str:
+def key_html(look: Look, board: Board, is_input: bool) -> str:
     """A key at the start, to be changed, or at the caret."""
-    board = session.board
     if is_input and look.numbers is not None:
         grid = html_of(Grid(look.key, axes_of(board, look.key), width_of(board, look.key), look.numbers))
         return f'<div class="input" data-input="{clean(look.key)}" {"data-zero" if is_idle(look) else ""}>{grid}</div>'
@@ -134,46 +172,51 @@ def key_html(look: Look, session: Session, is_input: bool) -> str:
 
 def is_idle(look: Look) -> bool:
     """Whether the key is what it is when it is declared: such keys are folded."""
-    if look.numbers is None:
-        return False
     first = 1 if look.key.endswith(".context") else 0
-    return all(number == first for number in look.numbers)
+    return look.numbers is not None and extent(look.numbers) == (first, first)
 
 
 def head(session: Session) -> str:
-    """How many rows are unsettled, and what can be done."""
-    count = len(session.rows)
-    unsettled = sum(row.status is not Status.SETTLED for row in session.rows)
-    if not count:
-        words = "The program has no rows."
-        if not session.board.sets:
-            words += " It begins with commands at the foot: <code>set S 4</code>, <code>field a S 8</code>."
-    elif unsettled:
-        words = f"<b>{unsettled:,} of {plural(count, 'row')}</b> {'is' if unsettled == 1 else 'are'} unsettled."
-    else:
-        words = f"All {plural(count, 'row')} settled."
+    """How many rows are unsettled, how many are refused for their data, and what can be done."""
+    seen = session.seen
+    unsettled = seen.unsettled
     off = "" if unsettled else " disabled"
     return (
-        f'<p role="status">{words}</p><div class="acts"><button data-act="order"{off}>Run one order</button>'
-        f'<button class="main" data-act="settle"{off}>Settle</button></div>'
+        f'<p role="status">{state_words(len(seen.rows), unsettled, session)}</p>'
+        f'<div class="acts"><button data-act="order"{off}>Run one order</button>'
+        f'<button class="main" data-act="settle"{off}>Settle</button></div>{refused_rows(seen)}'
     )
 
 
-def last_edit(session: Session) -> str:
-    """What the last edit of settled rows did, with a sign for each row."""
-    if session.edit is None:
+def state_words(count: int, unsettled: int, session: Session) -> str:
+    """How many rows are unsettled."""
+    if not count:
+        hint = " It begins with commands at the foot: <code>set S 4</code>, <code>field a S 8</code>."
+        return "The program has no rows." + ("" if session.board.sets else hint)
+    if unsettled:
+        return f"<b>{unsettled:,} of {plural(count, 'row')}</b> {'is' if unsettled == 1 else 'are'} unsettled."
+    return f"All {plural(count, 'row')} settled" + (", but:" if session.seen.faults else ".")
+
+
+def refused_rows(seen: Seen) -> str:
+    """How many rows are refused for their data, which, and why."""
+    if not seen.faults:
         return ""
-    shown = session.edit.text if len(session.edit.text) <= 120 else session.edit.text[:120] + " .."
-    touched = session.edit.touched
-    strip = signs(touched) if len(touched.rows) <= MOST_SIGNS else ""
+    is_more = len(seen.causes) > MOST_NAMED
+    more = '<p class="quiet">The command <code>faults</code> lists them all.</p>' if is_more else ""
+    words = f"{sign('✕')} {count_words(seen.faults)}"
+    return f'<div class="for-data"><p><b class="bad">{words}</b></p>{cause_lines(seen.causes)}{more}</div>'
+
+
+def last_edit(edit: Edit | None) -> str:
+    """What the last edit of settled rows did: which it unsettles and which keep their results."""
+    if edit is None:
+        return ""
+    shown = edit.text if len(edit.text) <= 120 else edit.text[:120] + " .."
+    touched = edit.touched
+    strip = signs(touched) if len(touched.rows) <= MOST_LINES else ranges(touched)
     said = f'<p class="line">The last edit: {command(shown)}</p><p class="verdict">{sentence(touched)}</p>'
     return said + bar(touched) + strip
-
-
-def log(session: Session) -> str:
-    """The last commands with their replies, the newest first."""
-    items = "".join(f"<li>{told(step)}</li>" for step in reversed(session.steps))
-    return f"<ol>{items}</ol>" if items else ""
 
 
 def told(step: Step) -> str:
@@ -186,12 +229,20 @@ def told(step: Step) -> str:
     return f'<p class="line">{command(text)}{answer}</p>'
 
 
+def other_row(error: OtherRow) -> str:
+    """That a row is another than it was when its edit began."""
+    if error.text is None:
+        return f'<p class="other">{sign("✕")} Row {error.row} was deleted meanwhile. Nothing was changed.</p>'
+    now = f"Row {error.row} was changed meanwhile, and is now {command(error.text)}."
+    return f'<p class="other">{sign("✕")} {now} Nothing was changed. Enter once more replaces it.</p>'
+
+
 def trouble(session: Session) -> str:
     """That the program has ended, and a way to start it again."""
     if not session.trouble:
         return ""
     return (
         f'<div class="refused" role="alert"><p>{sign("✕")} <b>The program has ended.</b> {clean(session.trouble)}</p>'
-        f"<p>What is shown here is what it was. {plural(len(session.taken), 'command')} can be run again.</p>"
+        f"<p>What is shown here is what it was. {plural(session.commands, 'command')} can be run again.</p>"
         '<p><button class="main" data-act="restart">Start again</button></p></div>'
     )

@@ -10,9 +10,9 @@ from pevudlo.lang.keys import axes_of, width_of
 from pevudlo.lang.replies import Faults, PendingReply, Rows, Values
 from pevudlo.page.blocks import Block, Kind
 from pevudlo.page.edits import edit_body
-from pevudlo.page.parts import cause, clean, command, look_grid, plural, prose, refusal, row_id, sign
+from pevudlo.page.parts import cause_lines, clean, command, look_grid, plural, prose, quoted, refusal, row_id, sign
 from pevudlo.page.rows import Comments, ran_section
-from pevudlo.record.looks import Look
+from pevudlo.record.looks import Look, packed
 from pevudlo.record.recorder import Step
 
 WORDS_OF_VERDICTS = {
@@ -28,7 +28,7 @@ def heading_of(block: Block) -> tuple[str, str]:
     """The sign and the heading of a block, as text."""
     step = block.steps[0]
     if block.kind is Kind.RAN:
-        return "✓", _heading_of_run(step)
+        return "✕" if step.causes else "✓", _heading_of_run(step)
     if block.kind is Kind.LOOKS:
         return "◎", _heading_of_looks(block)
     if block.kind is Kind.ORDERS:
@@ -59,6 +59,15 @@ def _heading_of_orders(block: Block) -> str:
 
 
 def _heading_of_run(step: Step) -> str:
+    """How many rows ran, how many of them are refused for their data, and how many kept their results."""
+    if len(step.causes) == 1 and step.word == "bring":
+        return f"Row {next(iter(step.causes))} ran, refused for its data"
+    data = "its data" if len(step.causes) == 1 else "their data"
+    refused = f", {len(step.causes):,} refused for {data}" if step.causes else ""
+    return _count_of_run(step) + refused
+
+
+def _count_of_run(step: Step) -> str:
     """How many rows ran, and how many kept their results."""
     if step.ran is None or not step.ran.runs:
         return "Nothing to settle" if step.lines[0] == "settled 0" else "Settled"
@@ -78,7 +87,7 @@ def body_of(block: Block, board: Board, comments: Comments) -> str:
         pair = f'<div class="pair">{_given(block, board)}<div class="what">{edit_body(step)}</div></div>'
         return prose(step.comments) + _line(step) + pair
     if block.kind is Kind.RAN:
-        section = ran_section(step, step.ran, comments, board) if step.ran else ""
+        section = ran_section(step, step.ran, comments, board) if step.ran else cause_lines(step.causes)
         return prose(step.comments) + _line(step) + section
     shows: dict[Kind, Callable[[], str]] = {
         Kind.DECLARED: lambda: _declared(block, board),
@@ -160,7 +169,8 @@ def _looks(block: Block, board: Board) -> str:
         _, key, place = step.text.split(" ", 2)
         where = {"start": "at the start", "end": "at the end"}.get(place, place.replace("after", "after row"))
         if isinstance(step.reply, Values):
-            grid = Grid(key, axes_of(board, key), width_of(board, key), step.reply.numbers, place=where)
+            numbers = packed(step.reply.numbers, width_of(board, key))
+            grid = Grid(key, axes_of(board, key), width_of(board, key), numbers, place=where)
             grids.append(f'<div class="look" data-line="{step.number}">{html_of(grid)}</div>')
         elif isinstance(step.reply, PendingReply):
             grids.append(
@@ -185,7 +195,7 @@ def _asked(step: Step) -> str:
         )
         table = f'<ol class="fates">{items}</ol>'
     elif isinstance(step.reply, Faults):
-        items = "".join(f"<li>{row_id(fault.row)}{clean(cause(fault))}</li>" for fault in step.reply.faults)
+        items = "".join(f"<li>{row_id(row)}{quoted(words)}</li>" for row, words in step.causes.items())
         table = f'<ol class="fates">{items}</ol>' if items else ""
         more = "" if items else " <em>no settled row is refused</em>"
     return _line(step, more) + table

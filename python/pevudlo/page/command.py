@@ -2,27 +2,54 @@
 
 from __future__ import annotations
 
+import re
 import sys
+from argparse import ArgumentTypeError
+from math import prod
 from pathlib import Path
 
-from pevudlo.arguments import Arguments, output_name
+from pevudlo.arguments import Arguments, add_quiet, output_name
+from pevudlo.draw.grids import MOST_CELLS
 from pevudlo.draw.visible import visible
 from pevudlo.files import lines_in, read_lines, why
 from pevudlo.page.page import page_of
-from pevudlo.wire.pipe import Pipe, PipeError
-from pevudlo.wire.program import NotFound, find
+from pevudlo.progress import progress
+from pevudlo.record.looks import MOST_NUMBERS, PICTURE_COUNTS
+from pevudlo.wire.peers import peer_of
+from pevudlo.wire.pipe import PipeError
+from pevudlo.wire.program import NotFound
 
 DOES = "Makes a page of a script, one HTML file that needs no network. The exit status is the program's."
 OUT = (
     "where the page goes: `-` is standard output (default: NAME.html in the folder where you are, for a script "
     "NAME.paris; standard output for standard input)"
 )
+DRAW = (
+    f"how many numbers the page draws at most, of which a picture of a large set counts as {PICTURE_COUNTS} "
+    "(default: %(default)s)"
+)
+MOST_DRAWN = 10**9
+
+
+def numbers(word: str) -> int:
+    """How many numbers a page draws."""
+    if not (word.isascii() and word.isdigit()) or len(word) > 10 or int(word) > MOST_DRAWN:
+        raise ArgumentTypeError(f"`{visible(word)}` is no number from 0 to {MOST_DRAWN}")
+    return int(word)
+
+
+def is_large(lines: list[str]) -> bool:
+    """Whether a script declares a set whose keys are drawn as pictures."""
+    axes = (match[1].split("x") for line in lines if (match := re.fullmatch(r"set \S+ (\d{1,6}(?:x\d{1,6})*)", line)))
+    return any(prod(map(int, lengths)) > MOST_CELLS for lengths in axes)
 
 
 def arguments() -> Arguments:
     """The reader of the command's words."""
-    parser = Arguments("page", DOES)
+    parser = Arguments("page", DOES, usual_workers=None)
     parser.add_argument("file", metavar="FILE", help="a script, or `-` for standard input")
+    add_quiet(parser)
+    parser.add_argument("--draw", type=numbers, default=MOST_NUMBERS, metavar="N", help=DRAW)
     parser.add_argument("-o", dest="out", type=output_name, metavar="OUT.html", help=OUT)
     return parser
 
@@ -44,9 +71,12 @@ def main(words: list[str]) -> int:
     if is_same_file(path, out):
         return ends_badly(f"the page would stand in the place of its script: -o says another than {visible(out)}")
     try:
-        with Pipe(find(), said.workers) as pipe:
-            html = page_of("standard input" if str(path) == "-" else path.name, lines, pipe).html()
-            status = pipe.close()
+        with peer_of(said.workers, is_large(lines)) as peer, progress(said.quiet) as told:
+            title = "standard input" if str(path) == "-" else path.name
+            html = page_of(title, lines, peer, told, said.draw).html()
+            status = peer.close()
+    except MemoryError as error:
+        return ends_badly(str(error) or "there is no memory left", 4)
     except (OSError, NotFound) as error:
         return ends_badly(str(error))
     except PipeError as error:

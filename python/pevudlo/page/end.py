@@ -2,38 +2,43 @@
 
 from __future__ import annotations
 
+from collections.abc import Iterable, Mapping
+
 from pevudlo.lang.replies import Row, Status
-from pevudlo.page.parts import cause, command, pending, plural, row_id, sign
+from pevudlo.page.parts import command, pending, plural, quoted, row_id, sign
 from pevudlo.record.recorder import Recorder
 
 MOST_PENDING = 60
 """Of how many unsettled rows the keys are looked at."""
 
 
-def end_section(recorder: Recorder) -> str:
-    """The last section: what the program says of its rows once the script has run."""
+def end_section(recorder: Recorder, causes: Mapping[int, str]) -> str:
+    """The last section: what the program says of its rows once the script has run. `causes` are of the refused ones."""
     rows = recorder.final_rows()
     if not rows:
         return ""
     open_rows = [row for row in rows if row.status is not Status.SETTLED]
-    faults = recorder.looker.faults()
     parts = [f'<p class="verdict">{_sentence(len(rows), len(open_rows))}</p>']
-    if faults:
-        items = "".join(
-            f'<li class="refused">{sign("✕")}{row_id(row.row)}'
-            f'{command(row.text)}<span class="fate">{cause(faults[row.row])}</span></li>'
-            for row in rows
-            if row.row in faults
-        )
-        parts.append(
-            f'<p>{plural(len(faults), "row")} of them refused for their data:</p><ol class="fates">{items}</ol>'
-        )
+    if causes:
+        parts.append(_refused_rows(rows, causes))
     if open_rows:
         items = "".join(_open_row(row, recorder) for row in open_rows[:MOST_PENDING])
         more = len(open_rows) - MOST_PENDING
         last = f"<li>and {more:,} more</li>" if more > 0 else ""
         parts.append(f'<ol class="fates open">{items}{last}</ol>')
     return f'<section class="block end" id="end"><h2>{sign("■")}At the end</h2>{"".join(parts)}</section>'
+
+
+def _refused_rows(rows: Iterable[Row], causes: Mapping[int, str]) -> str:
+    """The rows that are refused for their data, and why."""
+    items = "".join(
+        f'<li class="refused">{sign("✕")}{row_id(row.row)}'
+        f'{command(row.text)}<span class="fate">{quoted(causes[row.row])}</span></li>'
+        for row in rows
+        if row.row in causes
+    )
+    said = "1 row is refused for its data:" if len(causes) == 1 else f"{len(causes):,} rows are refused for their data:"
+    return f'<p>{said}</p><ol class="fates">{items}</ol>'
 
 
 def _sentence(count: int, unsettled: int) -> str:

@@ -10,8 +10,18 @@ from pevudlo.draw.grids import read_static, style
 from pevudlo.page.parts import clean, sign
 
 
-def document(title: str, summary: str, links: Sequence[str], body: str, scripts: Sequence[str], more: str = "") -> str:
-    """A whole page. `summary`, `links` and `body` are HTML, `scripts` and the style `more` are texts of ours.
+def document(
+    title: str,
+    summary: str,
+    links: Sequence[str],
+    body: str,
+    scripts: Sequence[str],
+    more: str = "",
+    below: str = "",
+) -> str:
+    """A whole page. `summary`, `links`, `body` and what stands `below` the summary are HTML.
+
+    `scripts` and the style `more` are texts of ours.
 
     The page may load nothing: its policy allows its own scripts alone, by their sums.
     """
@@ -21,7 +31,7 @@ def document(title: str, summary: str, links: Sequence[str], body: str, scripts:
         '<meta name="viewport" content="width=device-width, initial-scale=1">'
         '<meta name="color-scheme" content="light dark"><link rel="icon" href="data:,">'
         f'<title>{clean(title)}</title><style>{style()}{read_static("page.css")}{more}</style></head><body>'
-        f'{header(title, summary)}<div class="columns">'
+        f'{header(title, summary, below)}<div class="columns">'
         f'<nav aria-label="Parts of the page"><ol>{"".join(links)}</ol></nav>'
         f"<main>{body}</main></div>{inline}</body></html>\n"
     )
@@ -36,10 +46,10 @@ def _policy(scripts: Sequence[str]) -> str:
     return f'<meta http-equiv="Content-Security-Policy" content="{policy}">'
 
 
-def header(title: str, summary: str) -> str:
+def header(title: str, summary: str, below: str) -> str:
     """The head of a page, with its switches."""
     return (
-        f'<header class="top"><div><h1>{clean(title)}</h1><p>{summary}</p></div>'
+        f'<header class="top"><div><h1>{clean(title)}</h1><p>{summary}</p>{below}</div>'
         f'<form class="switches" aria-label="How the page is shown">{switches()}</form></header>{legend()}'
     )
 

@@ -20,6 +20,7 @@ _CELLS = {
     "kept": ("●", "kept"),
     "waiting": ("◌", "unsettled before"),
     "ran": ("✓", "ran"),
+    "refused": ("✕", "refused for its data"),
     "out": ("", "not there"),
 }
 
@@ -47,11 +48,9 @@ def moment_of(step: Step, anchor: str) -> Moment | None:
         fates = {row.row: fate_of(row, step.touched) for row in step.touched.rows}
         return Moment(anchor, step.number, step.text, False, step.touched.rows, fates)
     if step.ran is not None:
-        ran = {run.row.row for run in step.ran.runs}
-        fates = {
-            row.row: "ran" if row.row in ran else "kept" if row.row in step.ran.kept else "waiting"
-            for row in step.ran.rows
-        }
+        ran = {run.row.row: "ran" if run.fault is None else "refused" for run in step.ran.runs}
+        kept = {row: "kept" for row in step.ran.kept}
+        fates = {row.row: "waiting" for row in step.ran.rows} | kept | ran
         return Moment(anchor, step.number, step.text, True, step.ran.rows, fates)
     return None
 

@@ -9,14 +9,18 @@ from collections.abc import Iterable
 from dataclasses import dataclass, field, replace
 
 from pevudlo.draw.grids import read_static
+from pevudlo.lang.board import Board
 from pevudlo.page.blocks import Block, Kind, blocks_of
 from pevudlo.page.blocks_html import body_of, heading_of
 from pevudlo.page.end import end_section
 from pevudlo.page.frame import document
 from pevudlo.page.history import MOST_COLUMNS, Moment, history_table, moment_of
-from pevudlo.page.parts import plural, prose, sign
+from pevudlo.page.left_out import LeftOut
+from pevudlo.page.parts import cause_lines, plural, prose, sign
+from pevudlo.progress import PROGRESS, Progress
+from pevudlo.record.looks import MOST_LISTED, MOST_NUMBERS, Looker
 from pevudlo.record.recorder import Recorder, Step
-from pevudlo.wire.pipe import Pipe
+from pevudlo.wire.peers import Peer
 
 
 @dataclass
@@ -30,9 +34,11 @@ class Page:
     links: list[str] = field(default_factory=list)
     moments: list[Moment] = field(default_factory=list)
     comments: dict[int, tuple[tuple[str, ...], ...]] = field(default_factory=dict)
+    left_out: LeftOut = field(default_factory=LeftOut)
     commands: int = 0
     edits: int = 0
     refused: list[int] = field(default_factory=list)
+    causes: dict[int, str] = field(default_factory=dict)
 
     def fill(self, lines: Iterable[str]) -> None:
         """Runs the script and shows each block, as soon as it is known what stands behind it."""
@@ -43,7 +49,8 @@ class Page:
             held = block
         if held is not None:
             self._add(held, None)
-        end = end_section(self.recorder)
+        self.causes = self.recorder.looker.causes(self.recorder.looker.faults().values())
+        end = end_section(self.recorder, self.causes)
         self.sections.append(prose(self.recorder.closing) + end)
 
     def html(self) -> str:
@@ -51,8 +58,10 @@ class Page:
         history = history_table(self.moments)
         shown = f'<section class="block" id="history"><h2>Edits and rows</h2>{history}</section>' if history else ""
         links = ['<li><a href="#history">Edits and rows</a></li>'] if history else []
-        body = self._intro() + shown + "".join(self.sections)
-        return document(self.title, self._summary(), links + self.links, body, [read_static("page.js")])
+        left_out = self.left_out.told(bool(history), self.edits)
+        body = self._intro() + left_out + shown + "".join(self.sections)
+        causes, scripts = cause_lines(self.causes), [read_static("page.js")]
+        return document(self.title, self._summary(), links + self.links, body, scripts, below=causes)
 
     def _counted(self, lines: Iterable[str]) -> Iterable[Step]:
         """The steps, while they are counted. What stands above the first command is the page's introduction."""
@@ -61,6 +70,7 @@ class Page:
             if self.commands == 1:
                 self.intro = step.comments
                 step = replace(step, comments=())
+            self.left_out.note(step)
             if step.is_refused:
                 self.refused.append(step.number)
             yield step
@@ -72,6 +82,7 @@ class Page:
             runs = following is not None and following.kind is Kind.RAN and following.steps[0].word == "settle"
             if runs and all(step.word == "insert" for step in block.steps):
                 return
+        self.recorder.looker.told.say(f"draws what stands from line {block.steps[0].number:,} on")
         anchor = f"part-{len(self.links) + 1}"
         mark, heading = heading_of(block)
         body = body_of(block, self.recorder.board, self.comments)
@@ -81,7 +92,7 @@ class Page:
         if moment is not None and len(self.moments) <= MOST_COLUMNS:
             self.moments.append(moment)
         self.edits += block.kind is Kind.EDIT
-        kind = block.kind.name.lower()
+        kind = block.kind.name.lower() + (" faulty" if block.kind is Kind.RAN and block.steps[0].causes else "")
         link = f'<a href="#{anchor}"><span aria-hidden="true">{mark}</span>{heading}</a>'
         self.links.append(f'<li class="{kind}">{link}</li>')
         place = f'id="{anchor}" data-line="{block.steps[-1].number}"'
@@ -104,6 +115,10 @@ class Page:
         if self.edits:
             parts.append(plural(self.edits, "edit") + " of settled rows")
         parts.append(f'<b class="bad">{len(self.refused):,} refused</b>' if self.refused else "none refused")
+        if self.causes:
+            data = "its data" if len(self.causes) == 1 else "their data"
+            parts.append(f'<b class="bad">{sign("✕")} {plural(len(self.causes), "row")} refused for {data}</b>')
+        parts += [self.left_out.summary()] if self.left_out.summary() else []
         return " · ".join(parts)
 
     def _intro(self) -> str:
@@ -111,8 +126,11 @@ class Page:
         return f'<div class="intro">{prose(self.intro)}</div>' if self.intro else ""
 
 
-def page_of(title: str, lines: Iterable[str], pipe: Pipe) -> Page:
-    """The page of a script that is run by this pipe."""
-    page = Page(title, Recorder(pipe))
+def page_of(
+    title: str, lines: Iterable[str], peer: Peer, told: Progress = PROGRESS, numbers: int = MOST_NUMBERS
+) -> Page:
+    """The page of a script that is run by this peer, with so many numbers at most."""
+    looker = Looker(peer, Board(), numbers, MOST_LISTED * max(1, numbers // MOST_NUMBERS), told)
+    page = Page(title, Recorder(peer, looker), left_out=LeftOut(numbers))
     page.fill(lines)
     return page

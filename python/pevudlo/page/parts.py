@@ -3,15 +3,18 @@
 from __future__ import annotations
 
 import re
-from collections.abc import Iterable
+from collections.abc import Iterable, Mapping
 from html import escape
+from itertools import islice
 
-from pevudlo.draw.grids import Grid, differing, html_of
+from pevudlo.draw.arrays import differing
+from pevudlo.draw.grids import Grid, html_of
+from pevudlo.draw.marks import Marks
 from pevudlo.draw.visible import caret_lines, visible
 from pevudlo.hints.explanation import Explanation
 from pevudlo.lang.board import Board
+from pevudlo.lang.causes import MOST_NAMED, row_words
 from pevudlo.lang.keys import axes_of, width_of
-from pevudlo.lang.replies import Cause, RowFault
 from pevudlo.record.looks import Look
 
 
@@ -70,16 +73,15 @@ def look_grid(look: Look, board: Board, before: Look | None = None, place: str =
     """A key at a place as a grid, with what isn't as in `before` marked; or the word pending."""
     if look.numbers is None:
         return pending(look)
-    changed = differing(look.numbers, before.numbers) if before and before.numbers is not None else frozenset()
+    changed = differing(look.numbers, before.numbers) if before and before.numbers is not None else Marks(b"")
     axes, width = axes_of(board, look.key), width_of(board, look.key)
     return html_of(Grid(look.key, axes, width, look.numbers, changed, place=place))
 
 
-def cause(fault: RowFault) -> str:
-    """Why a row was refused when it ran."""
-    if fault.cause is Cause.COLLISION:
-        return f"collision: two messages meet in processor {fault.processor}"
-    return f"bad address: processor {fault.processor} holds an address outside its set"
+def cause_lines(causes: Mapping[int, str]) -> str:
+    """Why rows are refused for their data, the first of them, in a paragraph each."""
+    named = islice(causes.items(), MOST_NAMED)
+    return "".join(f'<p class="cause">{sign("✕")} {quoted(row_words(row, words))}</p>' for row, words in named)
 
 
 def refusal(explanation: Explanation, reply: str, number: int = 0) -> str:

@@ -3,13 +3,16 @@
 from __future__ import annotations
 
 from collections.abc import Mapping
+from functools import lru_cache
 from itertools import groupby
 
-from pevudlo.draw.grids import Grid, differing, html_of
+from pevudlo.draw.arrays import differing
+from pevudlo.draw.grids import Grid, html_of
+from pevudlo.draw.marks import IS_ZERO, Marks
 from pevudlo.lang.board import Board
 from pevudlo.lang.keys import axes_of, width_of
 from pevudlo.lang.replies import Row
-from pevudlo.page.parts import cause, clean, command, pending, plural, prose, row_id, sign
+from pevudlo.page.parts import clean, command, pending, plural, prose, quoted, row_id, sign
 from pevudlo.record.looks import Change, Look, RowRun
 from pevudlo.record.recorder import Ran, Step
 
@@ -20,11 +23,17 @@ Comments = Mapping[int, tuple[tuple[str, ...], ...]]
 """The comments that stand above the line of a row, by its id."""
 
 
-def unselected_of(context: Look | None, key: str) -> frozenset[int]:
+def unselected_of(context: Look | None, key: str) -> Marks:
     """The processors of context 0. In a grid of the context itself they are plain to see."""
-    if context is None or context.numbers is None or key.endswith(".context") or 0 not in context.numbers:
-        return frozenset()
-    return frozenset(place for place, bit in enumerate(context.numbers) if bit == 0)
+    if context is None or context.numbers is None or key.endswith(".context"):
+        return Marks(b"")
+    return _zeros_of(bytes(context.numbers))
+
+
+@lru_cache(16)
+def _zeros_of(bits: bytes) -> Marks:
+    """The processors that hold 0: rows that lie beside each other often have one context."""
+    return Marks(bits.translate(IS_ZERO))
 
 
 def change_grid(change: Change, context: Look | None, board: Board) -> str:
@@ -32,8 +41,8 @@ def change_grid(change: Change, context: Look | None, board: Board) -> str:
     now, before = change.after.numbers, change.before.numbers
     if now is None:
         return pending(change.after)
-    changed = differing(now, before) if before is not None else frozenset()
-    other = differing(now, change.earlier) if change.earlier is not None else frozenset()
+    changed = differing(now, before) if before is not None else Marks(b"")
+    other = differing(now, change.earlier) if change.earlier is not None else Marks(b"")
     key = change.after.key
     unselected = unselected_of(context, key)
     return html_of(Grid(key, axes_of(board, key), width_of(board, key), now, changed, other, unselected))
@@ -49,7 +58,7 @@ def row_body(run: RowRun, board: Board) -> str:
     """Behind a row: its cause where it was refused, the keys that it changed, and folded those that it left."""
     parts = []
     if run.fault is not None:
-        parts.append(f'<p class="cause">{sign("✕")} refused, {clean(cause(run.fault))}. ' "It stores nothing.</p>")
+        parts.append(f'<p class="cause">{sign("✕")} It stores nothing, since {quoted(run.cause)}</p>')
     if run.changes is None:
         return "".join(parts) + '<p class="quiet">Not drawn: the numbers of this page are too many.</p>'
     shown = [change_grid(change, run.context, board) for change in run.changes if not is_plain(change)]
@@ -69,7 +78,7 @@ def row_body(run: RowRun, board: Board) -> str:
 def row_card(run: RowRun, comments: Comments, board: Board) -> str:
     """One row that ran."""
     refused = run.fault is not None
-    state = ("refused", "✕", "refused") if refused else ("ran", "✓", "settled")
+    state = ("refused", "✕", "refused for its data") if refused else ("ran", "✓", "settled")
     return (
         f'{prose(comments.get(run.row.row, ()))}<article class="row {state[0]}" aria-label="row {run.row.row}">'
         f"<header>{row_id(run.row.row)}{command(run.row.text)}"

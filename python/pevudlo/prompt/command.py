@@ -5,9 +5,10 @@ from __future__ import annotations
 import sys
 from argparse import RawDescriptionHelpFormatter
 
-from pevudlo.arguments import Arguments, file_name
+from pevudlo.arguments import Arguments, add_quiet, file_name
 from pevudlo.draw.visible import visible
 from pevudlo.files import path_of, read_lines, why
+from pevudlo.prompt.columns import terminal_columns
 from pevudlo.prompt.help import OWN_WORDS
 from pevudlo.prompt.lines import Piped, Reader, Terminal, is_terminal
 from pevudlo.prompt.prompt import Prompt, talk
@@ -21,14 +22,15 @@ def arguments() -> Arguments:
     """The reader of the command's words."""
     own = "\n".join(f"  {word.spelling}: {word.does}" for word in OWN_WORDS)
     parser = Arguments("prompt", DOES, f"words of the prompt's own:\n{own}", RawDescriptionHelpFormatter)
+    add_quiet(parser)
     parser.add_argument("file", nargs="?", type=file_name, metavar="FILE", help="a script that is told first")
     return parser
 
 
-def run(session: Session, file: str | None) -> None:
+def run(session: Session, file: str | None, is_quiet: bool) -> None:
     """The prompt, from the file's lines on where one is named. Raises Stopped where no program can be started."""
     reader: Reader = Terminal(lambda: session.board) if is_terminal() else Piped()
-    prompt = Prompt(session, lambda line: print(line, flush=True), is_terminal())
+    prompt = Prompt(session, lambda line: print(line, flush=True), is_terminal(), terminal_columns, is_quiet)
     try:
         session.begin()
         prompt.say(*reader.welcome())
@@ -51,7 +53,7 @@ def main(words: list[str]) -> int:
     except (OSError, ValueError) as error:
         return ends_badly(f"can't read {visible(said.file)}: {why(error)}")
     try:
-        run(Session(find(), said.workers), said.file)
+        run(Session(find(), said.workers), said.file, said.quiet)
     except NotFound as error:
         return ends_badly(str(error))
     except Stopped as stopped:

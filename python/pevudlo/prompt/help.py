@@ -6,10 +6,10 @@ from collections.abc import Iterable
 from dataclasses import dataclass
 
 from pevudlo.draw.visible import visible
-from pevudlo.hints.grammar import nearest
+from pevudlo.hints.words import nearest
 from pevudlo.lang.grammar import COMMANDS
 from pevudlo.reference.table import ENTRIES, FAMILIES, find
-from pevudlo.reference.text import help_lines, wrapped
+from pevudlo.reference.text import WIDTH, help_lines, wrapped
 
 
 @dataclass(frozen=True)
@@ -65,7 +65,7 @@ OWN_WORDS = (
 OWN = {word.name: word for word in OWN_WORDS}
 
 
-def overview() -> list[str]:
+def overview(width: int) -> list[str]:
     """What there is."""
     lines = ["Lines are told to the program, but for these words:"]
     wide = max(len(word.name) for word in OWN_WORDS)
@@ -73,7 +73,7 @@ def overview() -> list[str]:
         lines.append(f"  {word.name.ljust(wide)}  {word.does.split('. ')[0].split(': ')[0].rstrip('.;')}")
     for family in FAMILIES:
         names = " ".join(entry.name for entry in family.entries)
-        lines += [f"{family.title}:", *(f"  {line}" for line in wrapped(names))]
+        lines += [f"{family.title}:", *(f"  {line}" for line in wrapped(names, width=width))]
     return [*lines, "`help WORD` says more of each. The key Tab completes words."]
 
 
@@ -82,23 +82,23 @@ def known_names() -> list[str]:
     return [*OWN, *(entry.name for entry in ENTRIES)]
 
 
-def named(names: Iterable[str]) -> list[str]:
+def named(names: Iterable[str], width: int) -> list[str]:
     """Names in lines."""
-    return [f"  {line}" for line in wrapped(" ".join(names))]
+    return [f"  {line}" for line in wrapped(" ".join(names), width=width)]
 
 
-def help_for(word: str) -> list[str]:
-    """What there is to say of a word, in lines."""
+def help_for(word: str, width: int = WIDTH) -> list[str]:
+    """What there is to say of a word, in lines. Texts are wrapped at `width`, and stand in by two."""
     if not word:
-        return overview()
+        return overview(width)
     if word in OWN:
-        return [OWN[word].spelling, *(f"  {line}" for line in wrapped(OWN[word].does))]
+        return [OWN[word].spelling, *(f"  {line}" for line in wrapped(OWN[word].does, width=width))]
     found = find(word)
     if found:
-        return [line for entry in found for line in help_lines(entry)]
+        return [line for entry in found for line in help_lines(entry, width)]
     parts = [name for name in known_names() if word.lower() in name.lower()]
     if parts:
-        return [f"these have `{visible(word)}` in their names:", *named(parts)]
+        return [f"these have `{visible(word)}` in their names:", *named(parts, width)]
     near = nearest(word, known_names())
     more = f"did you mean `{near}`?" if near else "`help` alone lists what there is"
     return [f"there is no help for `{visible(word)}`: {more}"]

@@ -2,32 +2,51 @@
 
 from __future__ import annotations
 
-from collections.abc import Callable
+from collections.abc import Callable, Sequence
 from pathlib import Path
 
 from pevudlo.draw.visible import visible
-from pevudlo.explain import ending
+from pevudlo.explain.words import ending
+from pevudlo.explain.writers import Tally
 from pevudlo.files import path_of, read_lines, why, write_lines
+from pevudlo.progress import Progress, progress
+from pevudlo.prompt.columns import fitting
 from pevudlo.prompt.help import OWN, help_for, own_word_for
 from pevudlo.prompt.lines import Reader
 from pevudlo.prompt.session import Session, Stopped
 from pevudlo.prompt.show import WAYS, View, answer_lines, is_told
+from pevudlo.reference.text import WIDTH
 
 
 class Prompt:
-    """Answers lines. `show` gets each line of text that is answered."""
+    """Answers lines. `show` gets each line of text that is answered.
 
-    def __init__(self, session: Session, show: Callable[[str], None], may_warn: bool) -> None:
+    `columns` says how wide the terminal is now, which lines have to fit; None is no terminal. One that isn't quiet says
+    how far it is, on standard error.
+    """
+
+    def __init__(
+        self,
+        session: Session,
+        show: Callable[[str], None],
+        may_warn: bool,
+        columns: Callable[[], int | None] = lambda: None,
+        is_quiet: bool = True,
+    ) -> None:
         self.session = session
         self.view = View()
         self._show = show
+        self._columns = columns
+        self._is_quiet = is_quiet
         self._may_warn = may_warn
         self._asked = ""
 
     def say(self, *lines: str) -> None:
-        """Shows lines of text."""
+        """Shows lines of text, each in as many lines as it wants."""
+        columns = self._columns()
         for line in lines:
-            self._show(line)
+            for part in [line] if columns is None else fitting(line, columns):
+                self._show(part)
 
     def handle(self, line: str) -> bool:
         """Answers one line. Whether the prompt goes on."""
@@ -67,11 +86,13 @@ class Prompt:
     def own(self, word: str, rest: str) -> None:
         """Answers a word of the prompt's own, but for ways to show and `quit`."""
         if word == "help":
-            self.say(*help_for(rest.strip()))
+            columns = self._columns()
+            self.say(*help_for(rest.strip(), WIDTH if columns is None else min(WIDTH, columns - 2)))
         elif word in ("load", "save") and rest:
             (self.load if word == "load" else self.save)(path_of(rest))
         elif word == "again" and not rest:
-            self.session.start()
+            with progress(self._is_quiet) as told:
+                self.session.start(told)
             self.say(f"the program is started again, and {self.count_words()} told")
         elif word == "new" and not rest:
             if self.may_drop("begins anew"):
@@ -83,10 +104,11 @@ class Prompt:
 
     def tell(self, line: str) -> None:
         """Tells the program a line, and shows its reply."""
-        answer = self.session.tell(line)
+        with progress(self._is_quiet) as told:
+            answer = self.session.tell(line, told)
         if answer is None:
             return
-        self.say(*answer_lines(answer, self.session.board, self.view))
+        self.say(*answer_lines(answer, self.session.board, self.view, self._columns()))
         near = own_word_for(line.split(" ")[0])
         if answer.explanation is not None and answer.explanation.column == 1 and near is not None:
             self.say(f"  did you mean the prompt's own word `{near}`? It is written `{OWN[near].spelling}`")
@@ -101,7 +123,7 @@ class Prompt:
         line = f"show {rest}" if " " in rest else f"show {rest} end"
         answer = self.session.tell(line)
         if answer is not None:
-            self.say(*answer_lines(answer, self.session.board, view))
+            self.say(*answer_lines(answer, self.session.board, view, self._columns()))
 
     def load(self, path: Path) -> None:
         """Tells the lines of a file. Says what was refused, and what the file shows."""
@@ -112,19 +134,23 @@ class Prompt:
             self.say(f"can't read {name}: {why(error)}")
             return
         was_empty = not self.session.accepted
-        commands, refused = 0, []
+        tally = Tally()
         try:
-            for number, answer in self.session.tell_all(lines):
-                commands += 1
-                if answer.explanation is not None:
-                    refused.append(number)
-                if is_told(answer):
-                    head, *more = answer_lines(answer, self.session.board, self.view)
-                    self.say(f"{name}:{number}: {head}", *more)
+            with progress(self._is_quiet) as told:
+                self._tell_all(name, lines, tally, told)
         finally:
-            self.say(f"{name}: {ending(commands, refused, False)}")
+            self.say(f"{name}: {ending(tally.commands, tally.refused, self.session.faults(), False)}")
         if was_empty:
             self.session.saved = list(self.session.accepted)
+
+    def _tell_all(self, name: str, lines: Sequence[str], tally: Tally, told: Progress) -> None:
+        """Tells the lines of a file of this name, counts them, and says what is worth a line."""
+        for number, answer in self.session.tell_all(lines, told):
+            tally.count(number, answer, False)
+            if is_told(answer):
+                head, *more = answer_lines(answer, self.session.board, self.view, self._columns())
+                with told.aside():
+                    self.say(f"{name}:{number}: {head}", *more)
 
     def save(self, path: Path) -> None:
         """Saves the accepted commands."""

@@ -2,13 +2,18 @@
 
 from __future__ import annotations
 
-from collections.abc import Iterable, Iterator
+from collections.abc import Callable, Iterator, Sequence
 from pathlib import Path
+from typing import TypeVar
 
+from pevudlo.hints.meanings import Where
 from pevudlo.lang.board import Board
-from pevudlo.lang.replies import NoReply, Ok, OrderTaken, Reply, RowAdded, Settled, Verdict, Word
+from pevudlo.lang.replies import NoReply, Ok, OrderTaken, Reply, RowAdded, RowFault, Settled, Verdict, Word
+from pevudlo.progress import PROGRESS, Progress, line_of
 from pevudlo.talk import Answer, Talk
 from pevudlo.wire.pipe import Pipe, PipeError
+
+Kind = TypeVar("Kind")
 
 
 class Stopped(Exception):
@@ -57,20 +62,21 @@ class Session:
         """How many commands were accepted and changed the state."""
         return sum(bool(line) and not line.startswith("#") for line in self.accepted)
 
-    def start(self) -> None:
+    def start(self, told: Progress = PROGRESS) -> None:
         """Starts a program, after the end of the one that runs, and tells it all that was accepted.
 
         Raises Stopped where it can't be started, or ends too.
         """
         self.close()
         try:
-            self._talk = Talk(Pipe(self.program, self.workers))
+            self._talk = Talk(Pipe(self.program, self.workers), Where.PROMPT)
         except OSError as error:
             self._stop(f"it can't be started: {error.strerror}")
             raise Stopped(self._end) from error
         self._board = self._talk.board
-        for line in self.accepted:
-            self._told(line)
+        for number, line in enumerate(self.accepted, 1):
+            told.at(line_of(number, len(self.accepted)))
+            self._retell(line, told)
 
     def begin(self) -> None:
         """Starts a program to which nothing was told, and forgets the rest. Raises Stopped where none starts."""
@@ -86,37 +92,52 @@ class Session:
         """Ends the program: what it was told last may not be in `accepted`."""
         self._stop("it was interrupted")
 
-    def tell(self, line: str) -> Answer | None:
+    def tell(self, line: str, told: Progress = PROGRESS) -> Answer | None:
         """Tells one line, and keeps it where it was accepted. None for a comment and for an empty line.
 
         Raises Stopped where no program runs, or where it ends before its reply; the line isn't accepted then.
         """
-        answer = self._told(line)
+        self._say_settling(line, told)
+        answer = self._asked(lambda talk: talk.tell_causes(line))
         if answer is not None and changes(answer.reply) or line.startswith("#"):
             self.accepted.append(line)
         return answer
 
-    def tell_all(self, lines: Iterable[str]) -> Iterator[tuple[int, Answer]]:
+    def tell_all(self, lines: Sequence[str], told: Progress = PROGRESS) -> Iterator[tuple[int, Answer]]:
         """Tells the lines of a script, and gives the answers with the lines' numbers. Empty lines are kept too."""
         for number, line in enumerate(lines, 1):
             if not line:
                 self.accepted.append(line)
                 continue
-            answer = self.tell(line)
+            told.at(line_of(number, len(lines)))
+            answer = self.tell(line, told)
             if answer is not None:
                 yield number, answer
+
+    def faults(self) -> tuple[RowFault, ...]:
+        """The settled rows that were refused for their data. None where no program runs."""
+        return () if self._talk is None else self._asked(Talk.faults)
 
     def close(self) -> None:
         """Ends the program where one runs."""
         if self._talk is not None:
             self._stop("it was ended")
 
-    def _told(self, line: str) -> Answer | None:
-        """Tells one line."""
+    def _retell(self, line: str, told: Progress) -> None:
+        """Tells a line that was accepted before."""
+        self._say_settling(line, told)
+        self._asked(lambda talk: talk.tell(line))
+
+    def _say_settling(self, line: str, told: Progress) -> None:
+        """Says of a line that settles how many rows wait for it."""
+        self._asked(lambda talk: told.settling(line, talk.peer))
+
+    def _asked(self, ask: Callable[[Talk], Kind]) -> Kind:
+        """What the program answers. Raises Stopped where none runs, or where it ends before its reply."""
         if self._talk is None:
             raise Stopped(self._end)
         try:
-            return self._talk.tell(line)
+            return ask(self._talk)
         except PipeError as error:
             self._stop(str(error))
             raise Stopped(self._end) from error

@@ -6,7 +6,8 @@ from dataclasses import dataclass, replace
 
 from pevudlo.draw.grids import Grid, text_of
 from pevudlo.draw.units import Unit, spelled
-from pevudlo.explain import told
+from pevudlo.explain.words import told
+from pevudlo.hints.explanation import MOST_SHOWN
 from pevudlo.lang.board import Board
 from pevudlo.lang.keys import axes_of, width_of
 from pevudlo.lang.replies import Ok, Values
@@ -40,8 +41,8 @@ def unit_words(unit: Unit) -> str:
     return {Unit.HEX: "in hex", Unit.BITS: "as bits"}.get(unit, unit.value)
 
 
-def values_lines(line: str, values: Values, board: Board, view: View) -> list[str]:
-    """Values that a `show` has answered."""
+def values_lines(line: str, values: Values, board: Board, view: View, columns: int | None) -> list[str]:
+    """Values that a `show` has answered. A grid fits so many columns, where they are said."""
     _, key, *place = line.split(" ")
     axes, width = axes_of(board, key), width_of(board, key)
     where = f"after row {place[1]}" if len(place) == 2 else f"at the {place[0]}"
@@ -50,17 +51,23 @@ def values_lines(line: str, values: Values, board: Board, view: View) -> list[st
     bits = "1 bit" if width == 1 else f"{width} bits"
     spelling = "" if view.unit is Unit.UNSIGNED else f", {unit_words(view.unit)}"
     head = f"{key} {where} ({board.set_of(key)} {'x'.join(map(str, axes))}, {bits}{spelling})"
-    return [head, *(f"  {text}" for text in text_of(Grid(key, axes, width, values.numbers), view.unit).split("\n"))]
+    room = None if columns is None else columns - 2
+    grid = text_of(Grid(key, axes, width, values.numbers), view.unit, room)
+    return [head, *(f"  {text}" for text in grid.split("\n"))]
 
 
-def answer_lines(answer: Answer, board: Board, view: View) -> list[str]:
-    """What is shown for an answer."""
+def answer_lines(answer: Answer, board: Board, view: View, columns: int | None = None) -> list[str]:
+    """What is shown for an answer. Where columns are said, grids and lines with carets fit them."""
     if isinstance(answer.reply, Values):
-        return values_lines(answer.line, answer.reply, board, view)
-    head, more = told(answer, board)
+        return values_lines(answer.line, answer.reply, board, view, columns)
+    head, more = told(answer, board, MOST_SHOWN if columns is None else min(MOST_SHOWN, columns - 8))
     return [head, *(f"  {text}".rstrip() for text in more)]
 
 
 def is_told(answer: Answer) -> bool:
-    """Whether an answer is worth a line where a whole file is told: all but those that say that a line was accepted."""
-    return not isinstance(answer.reply, Ok) and answer.lines[0].split(" ")[0] not in ("row", "settled", "order", "kept")
+    """Whether an answer is worth a line where a whole file is told: all but those that say that a line was accepted.
+
+    Where rows are refused for their data it is.
+    """
+    word = answer.lines[0].split(" ")[0]
+    return bool(answer.faults) or not (isinstance(answer.reply, Ok) or word in ("row", "settled", "order", "kept"))

@@ -5,18 +5,21 @@ Each number comes from a reply of the program to `show`. Looks are counted, so a
 
 from __future__ import annotations
 
-import zlib
 from array import array
-from collections.abc import Sequence
-from dataclasses import dataclass
-from typing import Union
+from collections.abc import Iterable, Sequence
+from dataclasses import dataclass, replace
 
+from pevudlo.draw.arrays import array_of, numbers_in
 from pevudlo.draw.grids import MOST_CELLS
 from pevudlo.draw.shapes import processors_of
 from pevudlo.lang.board import Board
+from pevudlo.lang.causes import causes
 from pevudlo.lang.keys import axes_of, context_of, width_of
-from pevudlo.lang.replies import PendingReply, Reply, Row, RowFault, Rows, Faults, Values, parse
-from pevudlo.wire.pipe import Pipe
+from pevudlo.lang.replies import Faults, NoReply, PendingReply, Reply, Row, RowFault, Values, parse, parse_row
+from pevudlo.progress import PROGRESS, Progress
+from pevudlo.record.earlier import Earlier, Numbers, code_of, unpacked
+from pevudlo.wire.library import Library, place_number
+from pevudlo.wire.peers import Peer
 
 MOST_NUMBERS = 400_000
 """How many numbers a record looks at. A picture counts as few of them, and a small set as some."""
@@ -25,10 +28,6 @@ PICTURE_COUNTS = 512
 LEAST_COUNT = 24
 MOST_LISTED = 3_000_000
 """How many lines of `list` a record asks for."""
-
-
-Numbers = Union[bytes, "array[int]"]
-"""The numbers of a key by processor."""
 
 
 @dataclass(frozen=True)
@@ -57,47 +56,59 @@ class Change:
 class RowRun:
     """A row that ran: what it wrote, where processors were selected, and why it was refused, if it was.
 
-    `changes` is none where the record looks at no more numbers.
+    `changes` is none where the record looks at no more numbers. `cause` says in words what `fault` means.
     """
 
     row: Row
     context: Look | None
     changes: tuple[Change, ...] | None
     fault: RowFault | None
+    cause: str = ""
 
 
 def packed(numbers: Sequence[int], width: int) -> Numbers:
     """Numbers below `2^width` in little room: those of a key are always packed in the same way, and can be compared."""
-    return bytes(numbers) if width <= 8 else array(_code_of(width), numbers)
-
-
-def unpacked(data: bytes, width: int) -> Numbers:
-    """The numbers that were packed as these bytes."""
-    return data if width <= 8 else array(_code_of(width), data)
-
-
-def _code_of(width: int) -> str:
-    """The code of an array of numbers of so many bits, above 8."""
-    return "H" if width <= 16 else "I" if width <= 32 else "Q"
+    words = array_of(numbers)
+    if words is not None:
+        return unpacked(words.astype(code_of(width)).tobytes(), width)
+    return bytes(iter(numbers)) if width <= 8 else array(code_of(width), numbers)
 
 
 class Looker:
-    """Asks a pipe for looks. What it asks changes nothing in the program."""
+    """Asks a peer for looks. What it asks changes nothing in the program."""
 
-    def __init__(self, pipe: Pipe, board: Board, numbers: int = MOST_NUMBERS, listed: int = MOST_LISTED) -> None:
-        self.pipe = pipe
+    def __init__(
+        self,
+        peer: Peer,
+        board: Board,
+        numbers: int = MOST_NUMBERS,
+        listed: int = MOST_LISTED,
+        told: Progress = PROGRESS,
+    ) -> None:
+        self.peer = peer
         self.board = board
+        self.told = told
         self.numbers_left = numbers
         self.listed_left = listed
-        self._earlier: dict[tuple[int, str], bytes] = {}
+        self._earlier = Earlier()
+        self._read: dict[str, Row] = {}
+        self._listed: tuple[Row, ...] | None = None
 
     def reply(self, line: str) -> Reply:
         """The reply to a line that has one."""
-        return parse(self.pipe.ask(line))
+        return parse(self.peer.ask(line))
 
     def look(self, key: str, place: str) -> Look:
         """A key at a place that both exist."""
-        return self.looked(key, place, self.reply(f"show {key} {place}"))
+        if isinstance(self.peer, Library):
+            told = self._told(self.peer, key, place)
+            if told is not None:
+                return told
+        (line,) = self.peer.ask(f"show {key} {place}")
+        numbers = numbers_in(line.removeprefix("values ")) if line.startswith("values ") else None
+        if numbers is None:
+            return self.looked(key, place, parse([line]))
+        return Look(key, place, packed(numbers.data, width_of(self.board, key)), None)
 
     def looked(self, key: str, place: str, reply: Reply) -> Look:
         """The look that a reply to `show` is."""
@@ -107,13 +118,28 @@ class Looker:
         return Look(key, place, packed(reply.numbers, width_of(self.board, key)), None)
 
     def rows(self) -> tuple[Row, ...] | None:
-        """The rows in program order, or none where the record asks for no more lists."""
-        if self.listed_left <= 0:
-            return None
-        reply = self.reply("list")
-        assert isinstance(reply, Rows), reply
-        self.listed_left -= len(reply.rows)
-        return reply.rows
+        """The rows in program order, or none where the record asks for no more lists.
+
+        They are asked for once, until `changed` is called. A row that is listed as before is the same object.
+        """
+        if self._listed is None and self.listed_left > 0:
+            self._listed = self._list()
+            self.listed_left -= len(self._listed)
+        return self._listed
+
+    def changed(self) -> None:
+        """Notes that the rows may be others now."""
+        self._listed = None
+
+    def _list(self) -> tuple[Row, ...]:
+        """Asks for the rows. Lines that stood in the list before are known."""
+        first, *lines = self.peer.ask("list")
+        if first != f"rows {len(lines)}":
+            raise NoReply(f"no list: {first[:80]!r}")
+        known = self._read
+        rows = tuple(known.get(line) or parse_row(line) for line in lines)
+        self._read = dict(zip(lines, rows))
+        return rows
 
     def faults(self) -> dict[int, RowFault]:
         """The rows that were refused when they ran, by id."""
@@ -121,28 +147,33 @@ class Looker:
         assert isinstance(reply, Faults), reply
         return {fault.row: fault for fault in reply.faults}
 
+    def causes(self, faults: Iterable[RowFault]) -> dict[int, str]:
+        """Why these rows were refused when they ran, in words, by id."""
+        return causes(tuple(faults), self.board, lambda key, place: self.look(key, place).numbers)
+
     def runs(self, rows: Sequence[Row], ran: frozenset[int]) -> tuple[RowRun, ...]:
         """What the rows of `ran` did. `rows` is the present program, in which they are settled."""
-        faults = self.faults()
+        faults = {row: fault for row, fault in self.faults().items() if row in ran}
+        words = self.causes(faults.values())
         latest: dict[str, Look] = {}
         found = []
-        place = "start"
-        for row in rows:
-            keys = self.board.keys_written(row.text)
+        before: Row | None = None
+        for number, row in enumerate(rows, 1):
             if row.row in ran:
-                found.append(self._run(row, place, keys, latest, faults.get(row.row)))
-            if row.row not in ran or found[-1].changes is None:
-                for key in keys:
+                self.told.say(f"looks at row {number:,} of {len(rows):,}")
+                run = self._run(row, "start" if before is None else f"after {before.row}", latest)
+                found.append(replace(run, fault=faults.get(row.row), cause=words.get(row.row, "")))
+            if latest and (row.row not in ran or found[-1].changes is None):
+                for key in self.board.keys_written(row.text):
                     latest.pop(key, None)
-            place = f"after {row.row}"
+            before = row
         return tuple(found)
 
-    def _run(
-        self, row: Row, place: str, keys: tuple[str, ...], latest: dict[str, Look], fault: RowFault | None
-    ) -> RowRun:
-        """What one row did. `latest` has keys whose last writer was looked at, as they stand before the row."""
+    def _run(self, row: Row, place: str, latest: dict[str, Look]) -> RowRun:
+        """What one row wrote. `latest` has keys whose last writer was looked at, as they stand before the row."""
+        keys = self.board.keys_written(row.text)
         if not self._may_look(keys):
-            return RowRun(row, None, None, fault)
+            return RowRun(row, None, None, None)
         context_key = context_of(self.board, row.text)
         for key in (context_key, *keys):
             if key not in latest:
@@ -151,9 +182,11 @@ class Looker:
         changes = []
         for key in keys:
             after = self.look(key, f"after {row.row}")
-            changes.append(Change(latest[key], after, self._swap(row.row, after)))
+            changes.append(
+                Change(latest[key], after, self._earlier.swap(row.row, key, after.numbers, width_of(self.board, key)))
+            )
             latest[key] = after
-        return RowRun(row, context, tuple(changes), fault)
+        return RowRun(row, context, tuple(changes), None)
 
     def _may_look(self, keys: tuple[str, ...]) -> bool:
         """Whether these keys may still be looked at; then they count."""
@@ -165,9 +198,10 @@ class Looker:
         self.numbers_left -= wanted
         return True
 
-    def _swap(self, row: int, now: Look) -> Numbers | None:
-        """What an earlier run of the row left in the key; what it left now takes its place."""
-        earlier = self._earlier.get((row, now.key))
-        if now.numbers is not None:
-            self._earlier[(row, now.key)] = zlib.compress(memoryview(now.numbers), 1)
-        return None if earlier is None else unpacked(zlib.decompress(earlier), width_of(self.board, now.key))
+    def _told(self, library: Library, key: str, place: str) -> Look | None:
+        """The look that the library gives without text, or none where a line has to be asked."""
+        number = place_number(place)
+        told = None if number is None else library.get(key, number, processors_of(axes_of(self.board, key)))
+        if told is None or isinstance(told, int):
+            return None if told is None else Look(key, place, None, told)
+        return Look(key, place, packed(told.numbers, width_of(self.board, key)), None)

@@ -31,9 +31,9 @@ def is_whole(example: Example) -> bool:
     return all(step.times == 1 for step in example.steps)
 
 
-def wrapped(text: str, indent: str = "") -> list[str]:
-    """A text in lines of at most `WIDTH`, the further ones indented."""
-    return textwrap.wrap(text, WIDTH, subsequent_indent=indent, break_long_words=False, break_on_hyphens=False)
+def wrapped(text: str, indent: str = "", width: int = WIDTH) -> list[str]:
+    """A text in lines of at most `width`, the further ones indented."""
+    return textwrap.wrap(text, width, subsequent_indent=indent, break_long_words=False, break_on_hyphens=False)
 
 
 def head_of(entry: Entry) -> str:
@@ -41,11 +41,11 @@ def head_of(entry: Entry) -> str:
     return f"{entry.spelling}   (fault {entry.name})" if entry.kind is Kind.FAULT else entry.spelling
 
 
-def help_lines(entry: Entry) -> list[str]:
-    """All that an entry says, in lines for a terminal."""
-    lines = [head_of(entry), *(f"  {line}" for line in wrapped(entry.does))]
+def help_lines(entry: Entry, width: int = WIDTH) -> list[str]:
+    """All that an entry says, in lines for a terminal. Texts are wrapped at `width`, and stand in by two."""
+    lines = [head_of(entry), *(f"  {line}" for line in wrapped(entry.does, width=width))]
     if entry.flags:
-        lines += [f"  {line}" for line in wrapped(f"Flags: {entry.flags}", "  ")]
+        lines += [f"  {line}" for line in wrapped(f"Flags: {entry.flags}", "  ", width)]
     lines += [f"    {word.ljust(5)}{meaning}" for word, meaning in explained_words(entry).items()]
     if entry.example is None:
         return [*lines, "  No script shows it."]

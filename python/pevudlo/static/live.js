@@ -5,16 +5,68 @@
   const html = new Map();
   let version = 0;
   let caret = "end";
-  let orders = { rows: [], inputs: [], values: [] };
+  const orders = { rows: [], inputs: [], values: [], log: [] };
 
   // Fragments of the session, each in an element of its own, which is filled again where it is another.
   function fill(element, text) {
     if (element.shown === text) return false;
-    if (element.querySelector(".editing")) { element.waits = text; return false; }
+    if (element.querySelector(".editing")) { element.waits = text; tellEditor(element, text); return false; }
     element.shown = text;
     element.innerHTML = text;
     parisPage.refresh(element);
+    measure(element);
     return true;
+  }
+
+  // Who edits a row is told where another one changes it.
+  function tellEditor(element, text) {
+    const editor = element.querySelector("form.editing");
+    if (!editor || editor.isAsked) return;
+    const other = document.createElement("template");
+    other.innerHTML = text;
+    const button = other.content.querySelector("button.text");
+    if (!button || button.textContent === editor.was) return;
+    editor.was = button.textContent;
+    editor.querySelector(".answer").innerHTML = "<p class='other'>This row was changed meanwhile, and is now <code></code>. Enter replaces it.</p>";
+    editor.querySelector("code").textContent = editor.was;
+  }
+
+  // Of an editor whose row is gone, what was typed is kept where it can be read.
+  function tellGone(name, editor) {
+    note("<p class='other'>" + name.replace("row-", "Row ") + " was deleted meanwhile. What was typed: <code></code></p>");
+    at("note").querySelector("code").textContent = editor.elements.row.value;
+  }
+
+  function note(text) { at("note").innerHTML = text; }
+
+  // Columns of processors are in line from row to row: in grids of one shape all cells are as wide as the longest number.
+  function measure(element) {
+    for (const figure of element.querySelectorAll("figure:not(.pv-heat)")) {
+      let longest = 1;
+      for (const cell of figure.querySelectorAll("td:not(.pv-corner)")) longest = Math.max(longest, cell.firstChild.data.length);
+      figure.longest = longest;
+    }
+  }
+
+  function align() {
+    const figures = [...at("rows").querySelectorAll("figure:not(.pv-heat)")];
+    const widths = new Map();
+    for (const figure of figures) widths.set(figure.dataset.axes, Math.max(widths.get(figure.dataset.axes) || 1, figure.longest));
+    for (const figure of figures) {
+      const width = widths.get(figure.dataset.axes);
+      if (figure.digits !== width) { figure.digits = width; figure.style.setProperty("--digits", width); }
+    }
+  }
+
+  document.querySelector(".switches").addEventListener("change", () => { measure(at("rows")); align(); });
+
+  function renew(element, text) {
+    if (element.shown === text) return;
+    const old = element.querySelector("article");
+    const was = old && old.className;
+    if (!fill(element, text) || !was) return;
+    const now = element.querySelector("article");
+    if (now && now.className !== was) now.classList.add("turned");
   }
 
   function place(container, names, known) {
@@ -22,33 +74,40 @@
     for (const name of names) {
       let element = known.get(name);
       if (!element) {
-        element = document.createElement("div");
+        element = document.createElement(container.tagName === "OL" ? "li" : "div");
         element.dataset.name = name;
         known.set(name, element);
       }
-      const old = element.querySelector("article");
-      const was = old && old.className;
-      if (fill(element, html.get(name) || "") && was) {
-        const now = element.querySelector("article");
-        if (now && now.className !== was) now.classList.add("turned");
-      }
+      renew(element, html.get(name) || "");
       if (next && next.classList.contains("caret")) next = next.nextElementSibling;
       if (element === next) next = next.nextElementSibling;
       else container.insertBefore(element, next);
     }
   }
 
-  const elements = { rows: new Map(), inputs: new Map(), values: new Map() };
+  const elements = { rows: new Map(), inputs: new Map(), values: new Map(), log: new Map() };
 
   function drop(kind) {
     const wanted = new Set(orders[kind]);
     for (const [name, element] of elements[kind]) {
-      if (!wanted.has(name)) { element.remove(); elements[kind].delete(name); }
+      if (wanted.has(name)) continue;
+      const editor = element.querySelector("form.editing");
+      if (editor) tellGone(name, editor);
+      element.remove();
+      elements[kind].delete(name);
+      html.delete(name);
     }
   }
 
+  // Rows come as ranges of ids that follow each other by one.
+  function named(ranges) {
+    const names = [];
+    for (const [first, last] of ranges) for (let row = first; row <= last; row++) names.push("row-" + row);
+    return names;
+  }
+
   function placeKeys(kind) {
-    const names = orders[kind] || [];
+    const names = orders[kind];
     const idle = names.filter((name) => (html.get(name) || "").includes(" data-zero>"));
     const rest = names.filter((name) => !idle.includes(name));
     place(at(kind), rest, elements[kind]);
@@ -72,15 +131,17 @@
     const focus = focused();
     version = news.version;
     caret = news.caret;
-    orders = news.orders;
+    for (const [kind, order] of Object.entries(news.orders)) orders[kind] = kind === "rows" ? named(order) : order;
     for (const [name, text] of Object.entries(news.html)) html.set(name, text);
-    for (const name of ["head", "log", "trouble"]) fill(at(name), html.get(name) || "");
+    for (const name of ["head", "trouble"]) fill(at(name), html.get(name) || "");
     if (html.get("edit")) fill(at("edit"), html.get("edit"));
     document.body.classList.toggle("ended", Boolean(html.get("trouble")));
-    for (const kind of ["rows", "inputs", "values"]) drop(kind);
-    place(at("rows"), orders.rows || [], elements.rows);
+    for (const kind of Object.keys(orders)) drop(kind);
+    place(at("rows"), orders.rows, elements.rows);
+    place(at("log"), orders.log, elements.log);
     placeKeys("inputs");
     placeKeys("values");
+    align();
     placeCaret();
     for (const grid of at("inputs-part").querySelectorAll("figure")) ready(grid);
     refocus(focus);
@@ -123,6 +184,9 @@
 
   const command = (line) => ask("command", { line });
 
+  // A command on a row, by who sees this instruction in it.
+  const commandOn = (line, was) => ask("command", { line, was });
+
   // Says under an input why its command was refused; else the input is done with.
   function answered(answer, where, done) {
     const wrong = answer.refused || "";
@@ -132,7 +196,7 @@
   }
 
   function places() {
-    const rows = (orders.rows || []).map((name) => "after " + name.slice(4));
+    const rows = orders.rows.map((name) => "after " + name.slice(4));
     return ["start", ...rows.slice(0, -1), "end"];
   }
 
@@ -149,6 +213,7 @@
     const text = button.textContent;
     const editor = document.createElement("form");
     editor.className = "editing";
+    editor.was = text;
     editor.innerHTML = "<input name='row' autocomplete='off' spellcheck='false' aria-label='The instruction'><div class='answer'></div>";
     const input = editor.querySelector("input");
     input.value = text;
@@ -166,7 +231,11 @@
     };
     editor.addEventListener("submit", async (event) => {
       event.preventDefault();
-      answered(await command(`replace ${row.dataset.row} ${input.value}`), editor.querySelector(".answer"), close);
+      editor.isAsked = true;
+      const answer = await commandOn(`replace ${row.dataset.row} ${input.value}`, editor.was);
+      editor.isAsked = false;
+      if (typeof answer.text === "string") editor.was = answer.text;
+      answered(answer, editor.querySelector(".answer"), close);
     });
     input.addEventListener("keydown", (event) => { if (event.key === "Escape") close(); });
     button.replaceWith(editor);
@@ -175,7 +244,12 @@
 
   const acts = {
     edit: (button) => edit(button.closest("article")),
-    delete: (button) => command("delete " + button.closest("article").dataset.row),
+    delete: async (button) => {
+      const row = button.closest("article");
+      const text = row.querySelector("button.text, form.editing");
+      const answer = await commandOn("delete " + row.dataset.row, text.was === undefined ? text.textContent : text.was);
+      note(answer.refused || "");
+    },
     after: (button) => ask("caret", { place: "after " + button.closest("article").dataset.row }),
     up: () => step(-1),
     down: () => step(1),
@@ -290,8 +364,10 @@
     cell.append(input);
     input.select();
     input.focus();
+    input.scrollIntoView({ block: "nearest", inline: "nearest", behavior: "instant" });
     let isDone = false;
-    const close = () => {
+    let isAsked = false;
+    const close = (takesFocus = true) => {
       if (isDone) return;
       isDone = true;
       at("cell-answer").innerHTML = "";
@@ -302,23 +378,33 @@
       delete outer.waits;
       fill(outer, waits === undefined ? html.get(outer.dataset.name) : waits);
       for (const each of outer.querySelectorAll("figure")) ready(each);
-      const again = cellsOf(outer)[processor];
+      const again = takesFocus && cellsOf(outer)[processor];
       if (again) again.focus();
     };
-    input.addEventListener("blur", close);
-    input.addEventListener("keydown", async (event) => {
-      event.stopPropagation();
-      if (event.key === "Escape") close();
-      if (event.key !== "Enter") return;
+    // Gives the number to the program. One that is wrong stays in its cell, with the reason above.
+    const give = async (takesFocus) => {
+      if (isAsked || isDone) return;
       const value = numberOf(input.value.trim(), bits);
       if (value === null || value < 0n) {
         at("cell-answer").textContent = wanted[unitShown()];
         input.setAttribute("aria-invalid", "true");
         return;
       }
+      isAsked = true;
       const answer = await command(`input ${key} ${processor} ${value}`);
-      answered(answer, at("cell-answer"), close);
+      isAsked = false;
+      answered(answer, at("cell-answer"), () => { cell.firstChild.data = input.value.trim(); close(takesFocus); });
       if (answer.refused) input.setAttribute("aria-invalid", "true");
+    };
+    input.addEventListener("blur", () => {
+      if (!document.hasFocus()) return;
+      if (input.value.trim() === text) close(false);
+      else give(false);
+    });
+    input.addEventListener("keydown", (event) => {
+      event.stopPropagation();
+      if (event.key === "Escape") close();
+      if (event.key === "Enter") give(true);
     });
     return null;
   }

@@ -11,10 +11,20 @@ from pevudlo.values.shaped import negative
 
 
 def words_in(values: Any) -> memoryview:
-    """An array's whole numbers, the last axis fastest, as words of 64 bits. Raises ValueError for a negative one."""
+    """An array's whole numbers, the last axis fastest, as words of 64 bits. Raises ValueError for a negative one.
+
+    They are a view of the array where its words lie in memory as the library reads them, else a copy.
+    """
     if values.dtype.kind == "i" and values.size and values.min() < 0:
         raise negative(int(values[values < 0][0]))
-    return numpy.ascontiguousarray(values, dtype=numpy.uint64).reshape(-1).data
+    words: memoryview = numpy.require(values, numpy.uint64, ["C", "ALIGNED", "ENSUREARRAY"]).reshape(-1).data
+    return words
+
+
+def is_masked(values: Any) -> bool:
+    """Whether some of an array's values are masked."""
+    answers: Callable[[Any], bool] = numpy.ma.is_masked
+    return answers(values)
 
 
 def empty(count: int) -> memoryview:

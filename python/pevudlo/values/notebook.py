@@ -2,13 +2,14 @@
 
 from __future__ import annotations
 
-from collections.abc import Sequence
+from collections.abc import Collection, Sequence
 from html import escape
 
 from pevudlo.draw.grids import Grid, html_of, style
 from pevudlo.lang.replies import Row, Status
 
 SIGNS = {Status.WAITING: "&hellip; waiting", Status.OUT: "&rarr; out", Status.SETTLED: "&check; settled"}
+REFUSED = "&cross; refused for its data"
 
 
 def grid_html(grid: Grid) -> str:
@@ -16,11 +17,12 @@ def grid_html(grid: Grid) -> str:
     return f"<style>{style()}</style>{html_of(grid)}"
 
 
-def rows_html(rows: Sequence[Row]) -> str:
-    """Rows as a table: id, edition, state and instruction, a line for each."""
+def rows_html(rows: Sequence[Row], refused: Collection[int] = ()) -> str:
+    """Rows as a table: id, edition, state and instruction, a line for each. `refused` has the ids of refused rows."""
     heads = "".join(f'<th scope="col">{word}</th>' for word in ("row", "edition", "state", "instruction"))
     lines = [
-        f'<tr><th scope="row">{row.row}</th><td>{row.edition}</td><td>{SIGNS[row.status]}</td>'
+        f'<tr><th scope="row">{row.row}</th><td>{row.edition}</td>'
+        f"<td>{REFUSED if row.row in refused else SIGNS[row.status]}</td>"
         f'<td style="text-align: left"><code>{escape(row.text)}</code></td></tr>'
         for row in rows
     ]

@@ -25,13 +25,37 @@ LINE_BYTES = 65_000
 
 @dataclass(frozen=True)
 class Pending:
-    """A value that isn't there: this row writes the key last, and is unsettled. It is no number, true or false."""
+    """A value that isn't there: this row writes the key last, and is unsettled. It is no number, true or false.
+
+    What computes or compares with it raises TypeError: it would pass unnoticed. Only two of them may be compared.
+    """
 
     row: int
 
+    __array_ufunc__ = None
+    """Says to numpy that its arrays have no arithmetic with it, and leave `==` to it."""
+
     def __bool__(self) -> bool:
-        """Raises TypeError, as of an array: a test of a value that isn't there would pass unnoticed."""
-        raise TypeError(f"the value is pending: row {self.row} writes it last, and is unsettled")
+        """Raises TypeError."""
+        raise self._trouble()
+
+    def __eq__(self, other: object) -> bool:
+        """Whether both wait for one row. Raises TypeError where the other one is a value."""
+        if isinstance(other, Pending):
+            return self.row == other.row
+        raise self._trouble()
+
+    def __array__(self, *words: Any, **named: Any) -> Any:
+        """Raises TypeError, where numpy would make an array of it."""
+        raise self._trouble()
+
+    def __array_function__(self, *words: Any, **named: Any) -> Any:
+        """Raises TypeError, in functions of numpy's such as `sum` and `array_equal`."""
+        raise self._trouble()
+
+    def _trouble(self) -> TypeError:
+        """Says which row has to be settled first."""
+        return TypeError(f"the value is pending: row {self.row} writes it last, and is unsettled")
 
 
 class ValueList(list[Any]):
@@ -76,6 +100,12 @@ def is_array(values: object) -> bool:
     return numpy is not None and isinstance(values, numpy.ndarray)
 
 
+def is_boolean(value: object) -> bool:
+    """Whether this is a boolean of Python's or of numpy's."""
+    numpy = sys.modules.get("numpy")
+    return isinstance(value, bool) or (numpy is not None and isinstance(value, numpy.bool_))
+
+
 def flat(values: object) -> tuple[Sequence[int], tuple[int, ...]]:
     """The numbers of lists, ranges, other iterables or an array, the last axis fastest, and their shape.
 
@@ -102,13 +132,25 @@ def negative(number: int) -> ValueError:
 
 def flat_array(values: Any) -> tuple[Sequence[int], tuple[int, ...]]:
     """The numbers and the shape of an array of whole numbers or of booleans."""
+    from pevudlo.values.arrays import is_masked, words_in
+
     if values.dtype.kind not in "iubO":
         raise TypeError(f"values are whole numbers, and not {values.dtype}")
+    if is_masked(values):
+        raise ValueError("masked values are no numbers: values.filled(number) gives each of them one")
     if values.dtype.kind == "O":
-        return list(map(operator.index, values.ravel(order="C").tolist())), tuple(values.shape)
-    from pevudlo.values.arrays import words_in
-
+        return list(map(whole, values.ravel(order="C").tolist())), tuple(values.shape)
     return words_in(values), tuple(values.shape)
+
+
+def whole(value: Any) -> int:
+    """A whole number or a boolean, of Python's or of numpy's, as Python's number. Raises TypeError for what is none."""
+    if is_array(value) and value.ndim == 0:
+        return int(flat_array(value)[0][0])
+    try:
+        return operator.index(bool(value) if is_boolean(value) else value)
+    except TypeError:
+        raise TypeError(f"values are whole numbers, and not {type(value).__name__}") from None
 
 
 def flat_items(items: list[Any]) -> tuple[list[int], tuple[int, ...]]:
@@ -117,7 +159,7 @@ def flat_items(items: list[Any]) -> tuple[list[int], tuple[int, ...]]:
         return items, (len(items),)
     nested = [isinstance(item, (list, tuple, range)) or (is_array(item) and item.ndim > 0) for item in items]
     if not any(nested):
-        return list(map(operator.index, items)), (len(items),)
+        return list(map(whole, items)), (len(items),)
     if not all(nested):
         raise WrongShape("numbers and lists stand side by side")
     parts = [flat_array(item) if is_array(item) else flat_items(list(item)) for item in items]

@@ -8,7 +8,7 @@ from collections.abc import Callable
 from functools import cache
 from pathlib import Path
 
-from pevudlo.wire.program import ROOT, NotFound, is_program
+from pevudlo.wire.program import NATIVE, ROOT, NotFound, is_program
 
 LIBRARY_VARIABLE = "PARIS_LIBRARY"
 LIBRARY = "libparis.so"
@@ -23,6 +23,14 @@ def library_of_variable(looked: list[str]) -> Path | None:
     if not Path(named).is_file():
         raise NotFound([f"{LIBRARY_VARIABLE} names {named}, which is no file"], LIBRARY)
     return Path(named)
+
+
+def library_of_package(looked: list[str]) -> Path | None:
+    """The library that was installed with this package."""
+    if not (NATIVE / LIBRARY).is_file():
+        looked.append("this package was installed without one")
+        return None
+    return NATIVE / LIBRARY
 
 
 def library_of_repository(looked: list[str]) -> Path | None:
@@ -45,7 +53,7 @@ def trouble_of(unpack: Path) -> str:
 
 
 def find_library(library: str | os.PathLike[str] | None = None) -> Path:
-    """The library that is named, or that of the variable PARIS_LIBRARY, or of the repository.
+    """The library that is named, or that of the variable PARIS_LIBRARY, of this package, or of the repository.
 
     Raises NotFound where none of these is there, or where the one that is named isn't.
     """
@@ -53,7 +61,11 @@ def find_library(library: str | os.PathLike[str] | None = None) -> Path:
         if not Path(library).is_file():
             raise NotFound([f"{os.fspath(library)} is no file"], LIBRARY)
         return Path(library)
-    places: tuple[Callable[[list[str]], Path | None], ...] = (library_of_variable, library_of_repository)
+    places: tuple[Callable[[list[str]], Path | None], ...] = (
+        library_of_variable,
+        library_of_package,
+        library_of_repository,
+    )
     looked: list[str] = []
     for place in places:
         found = place(looked)

@@ -10,16 +10,18 @@ OutOfTurn, however much it is.
 
 from __future__ import annotations
 
+import fcntl
 import os
 import select
 import subprocess
 import tempfile
 import threading
+from contextlib import suppress
 from pathlib import Path
 from types import TracebackType
 from typing import IO, NoReturn
 
-CHUNK = 1 << 16
+CHUNK = 1 << 20
 # Seconds that a child has to end once its input is closed.
 PATIENCE = 10.0
 
@@ -48,6 +50,12 @@ def count_of_lines(first: bytes) -> int:
     return int(number) if word in (b"rows", b"faults") and number.isdigit() else 0
 
 
+def widen(pipe: int) -> None:
+    """Gives a pipe room for a long reply, where the system has it, so that who writes and who reads wait less."""
+    with suppress(OSError, AttributeError):
+        fcntl.fcntl(pipe, fcntl.F_SETPIPE_SZ, CHUNK)
+
+
 class Pipe:
     """A running program. Threads may share it: one line is asked at a time."""
 
@@ -65,6 +73,7 @@ class Pipe:
         assert self._child.stdin is not None and self._child.stdout is not None
         self._in, self._out = self._child.stdin.fileno(), self._child.stdout.fileno()
         os.set_blocking(self._in, False)
+        widen(self._out)
         self._ears = select.poll()
         self._ears.register(self._out, select.POLLIN)
         self._lock = threading.Lock()
@@ -141,7 +150,7 @@ class Pipe:
     def _read(self) -> list[str]:
         """Reads the lines of one reply."""
         first = self._read_line()
-        lines = [first] + [self._read_line() for _ in range(count_of_lines(first))]
+        lines = [first, *self._read_lines(count_of_lines(first))]
         if self._rest:
             self._stop(OutOfTurn, f"the program wrote more than a reply: {bytes(self._rest[:80])!r}")
         return [line.decode("utf-8", "surrogateescape") for line in lines]
@@ -151,13 +160,30 @@ class Pipe:
         looked = 0
         while (end := self._rest.find(b"\n", looked)) < 0:
             looked = len(self._rest)
-            more = os.read(self._out, CHUNK)
-            if not more:
-                self._stop(Ended, "the program ended before its reply")
-            self._rest += more
+            self._rest += self._more()
         line = bytes(self._rest[:end])
         del self._rest[: end + 1]
         return line
+
+    def _read_lines(self, count: int) -> list[bytes]:
+        """The next so many lines, without their line feeds."""
+        if not count:
+            return []
+        missing = count - self._rest.count(b"\n")
+        while missing > 0:
+            more = self._more()
+            missing -= more.count(b"\n")
+            self._rest += more
+        *lines, rest = bytes(self._rest).split(b"\n", count)
+        self._rest = bytearray(rest)
+        return lines
+
+    def _more(self) -> bytes:
+        """What the program has written since, a byte at least."""
+        more = os.read(self._out, CHUNK)
+        if not more:
+            self._stop(Ended, "the program ended before its reply")
+        return more
 
     def _unasked(self) -> NoReturn:
         """Something is there to read although nothing was asked: the child's end, or a text."""

@@ -11,8 +11,11 @@ from typing import Callable, Iterable
 
 VARIABLE = "PARIS_FRONT"
 NAME = "paris_front"
+PACKAGE = Path(__file__).resolve().parents[1]
 # The top of the repository, where this package stands in it.
-ROOT = Path(__file__).resolve().parents[3]
+ROOT = PACKAGE.parents[1]
+# The program and the library of a package that was installed with them.
+NATIVE = PACKAGE / "native"
 
 
 class NotFound(Exception):
@@ -37,6 +40,14 @@ def by_variable(looked: list[str]) -> Path | None:
     if not is_program(Path(named)):
         raise NotFound([f"{VARIABLE} names {named}, which is no program"])
     return Path(named)
+
+
+def by_package(looked: list[str]) -> Path | None:
+    """The program that was installed with this package."""
+    if not is_program(NATIVE / NAME):
+        looked.append("this package was installed without one")
+        return None
+    return NATIVE / NAME
 
 
 def by_repository(looked: list[str], root: Path = ROOT) -> Path | None:
@@ -69,7 +80,7 @@ def by_path(looked: list[str]) -> Path | None:
 
 
 def find(program: str | os.PathLike[str] | None = None) -> Path:
-    """The program that is named, or that of the variable PARIS_FRONT, of the repository's build, or of the PATH.
+    """The program that is named, or of the variable PARIS_FRONT, of this package, of the repository, or of the PATH.
 
     Raises NotFound where none of these is there, or where the one that is named isn't.
     """
@@ -77,7 +88,7 @@ def find(program: str | os.PathLike[str] | None = None) -> Path:
         if not is_program(Path(program)):
             raise NotFound([f"{os.fspath(program)} is no program"])
         return Path(program)
-    places: tuple[Callable[[list[str]], Path | None], ...] = (by_variable, by_repository, by_path)
+    places: tuple[Callable[[list[str]], Path | None], ...] = (by_variable, by_package, by_repository, by_path)
     looked: list[str] = []
     for place in places:
         found = place(looked)
