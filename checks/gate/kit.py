@@ -94,14 +94,15 @@ Task = tuple[list[Any], int, int, Callable[[int], bool]]
 
 def in_lanes(tasks: dict[Any, Task], lanes: int, memory: int) -> dict[Any, bool]:
     """Runs tasks side by side and says of each whether it went well. A task is: those that it waits for, its weight, its bytes of memory,
-    and a call that gets how many jobs it may use. First come those with the most weight behind them. One that waits for a task that
-    didn't go well isn't run."""
+    and a call that gets how many jobs it may use. Those with no weight are called at once, since nothing is left to do in them. Of the
+    others first come those with the most weight behind them. One that waits for a task that didn't go well isn't run."""
     behind = {key: 0 for key in tasks}
     for key in reversed([*tasks]):
         behind[key] += tasks[key][1]
         for below in tasks[key][0]:
             behind[below] = max(behind[below], behind[key])
-    left, ended = sorted(tasks, key=lambda key: -behind[key]), dict[Any, bool]()
+    ended = {key: call(1) for key, (_, weight, _, call) in tasks.items() if not weight}
+    left = sorted((key for key in tasks if key not in ended), key=lambda key: -behind[key])
     running: dict[Future[bool], tuple[Any, int, int]] = {}
     with ThreadPoolExecutor(lanes) as pool:
         while left or running:
