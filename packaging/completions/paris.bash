@@ -1,0 +1,26 @@
+# Completion of bash for paris.
+
+_paris_options() {
+    case "$1" in
+        explain) echo '--help --json --quiet --stop --workers' ;;
+        prompt) echo '--help --quiet --workers' ;;
+        page) echo '--draw --help --quiet --workers -o' ;;
+        live) echo '--help --port --quiet --workers' ;;
+        *) echo '--build --desk --help --quiet --version --where --workers explain prompt page live' ;;
+    esac
+}
+
+_paris() {
+    local word=${COMP_WORDS[COMP_CWORD]} before=${COMP_WORDS[COMP_CWORD - 1]} command=
+    [ "$COMP_CWORD" -le 1 ] || command=${COMP_WORDS[1]}
+    case "$before" in
+        --workers) mapfile -t COMPREPLY < <(compgen -W "$(echo {1..16})" -- "$word") ;;
+        --port) COMPREPLY=() ;;
+        *)
+            mapfile -t COMPREPLY < <(compgen -W "$(_paris_options "$command")" -- "$word")
+            [[ $word == -* ]] || mapfile -t -O "${#COMPREPLY[@]}" COMPREPLY < <(compgen -f -- "$word")
+            ;;
+    esac
+}
+
+complete -o filenames -F _paris paris
