@@ -17,6 +17,8 @@ from typing import Any
 ROOT = Path(__file__).resolve().parent.parent.parent
 # In a library's folder: the sum of all that it was proved and built from, by the gate or by what stands beside this file.
 MARK = "proved"
+# What a proof of a library for C keeps, in the crate's folder.
+CHECKED = "out/checked"
 # What the last run of the gate took, crate by crate.
 COSTS = ROOT / "checks" / "gate" / "out" / "costs.json"
 
@@ -49,6 +51,23 @@ def load_gate() -> ModuleType:
     return gate
 
 
+def keep_checked(gate: ModuleType) -> None:
+    """Has the proof of a library for C keep what it checked, as rt has it with programs, so that bindings/c/archive compiles just that."""
+    plain = gate.Crate.ci
+
+    def prove(crate: Any, flags: list[str], tests: bool) -> Any:
+        if tests or not crate.is_static:
+            return plain(crate, flags, tests)
+        stamp, mark = crate.stamp(), Path(crate.folder, f"{CHECKED}.{MARK}")
+        mark.unlink(missing_ok=True)
+        status = crate.prove(["check", *crate.words(flags, keeps=False), "-o", CHECKED])
+        if not status:
+            mark.write_text(stamp)
+        return status
+
+    gate.Crate.ci = prove
+
+
 def remembered(stamp: Callable[[Any], str]) -> Callable[[Any], str]:
     """A crate's stamp, made once for each crate of a process: no source changes while it is judged."""
     sums: dict[str, str] = {}
@@ -64,6 +83,12 @@ def remembered(stamp: Callable[[Any], str]) -> Callable[[Any], str]:
 def crates_here(gate: ModuleType) -> list[Any]:
     """The crates of the current folder as rt sees them, each behind those that it stands on."""
     return sorted(gate.rtlib.crates_below(os.getcwd()), key=lambda crate: len(crate.below()))
+
+
+def is_checked(crate: Any) -> bool:
+    """Whether what a proof of a library for C keeps stands, of the sources as they are."""
+    mark = Path(crate.folder, f"{CHECKED}.{MARK}")
+    return mark.is_file() and mark.read_text() == crate.stamp()
 
 
 def mark_of(crate: Any) -> Path:

@@ -22,7 +22,7 @@ def evaluated(driver: WebDriver, script: str, *words: object) -> Any:
 
 
 def until(driver: WebDriver, what: Callable[[], bool]) -> None:
-    """Waits until something holds, and fails where it doesn't in time. What looks at an element that was replaced looks again."""
+    """Waits until something holds, and fails where it doesn't in time. What was replaced is looked for again."""
     WebDriverWait(driver, PATIENCE, 0.05, [StaleElementReferenceException]).until(lambda _: what())
 
 
