@@ -1,4 +1,5 @@
 """Scripts with what is expected of them, and how the program is run on them, for the checks that do so."""
+import sys
 from pathlib import Path
 
 CHECKS = Path(__file__).resolve().parent
@@ -6,6 +7,7 @@ ROOT = CHECKS.parent
 PROGRAM = ROOT / "crates/paris_front/out/paris_front"
 EXAMPLES = ROOT / "examples"
 DESK = CHECKS / "desk"
+ROWS = CHECKS / "rows"
 SEATS = 16
 
 
@@ -32,3 +34,9 @@ class Script:
 def read_script(path):
     """The script of a file NAME.paris, with what stands in NAME.expected beside it."""
     return Script(path.stem, path.read_bytes(), path.with_suffix(".expected").read_bytes())
+
+
+def path_of(name, *folders):
+    """The file of a script by its name: of one in these folders, of a script in parts, of an example, or of a worked row."""
+    tried = (folder / f"{name}.paris" for folder in (*folders, DESK, EXAMPLES, *sorted(ROWS.iterdir())))
+    return next((path for path in tried if path.exists()), None) or sys.exit(f"{sys.argv[0]}: there is no script {name}")

@@ -1,7 +1,9 @@
 // Refuses allocations of a program, as if there were no more memory. It is loaded before the C library, by LD_PRELOAD.
 // REFUSE=N refuses the Nth allocation, counted from 1, and REFUSE=N.. that one and all behind it, to the end of the program.
+// REFUSE=N..thread refuses that one and all behind it of the thread that asked for it, and none of another's.
 // LEAST=BYTES counts and refuses those alone that ask for so many bytes or more.
-// The file that REFUSED names holds how many were refused so far, in eight bytes, however the program ends.
+// The file that REFUSED names holds how many were refused so far, how many weren't behind the first of them, and the numbers of the
+// first NOTED that were, in eight bytes each, however the program ends.
 #include <errno.h>
 #include <fcntl.h>
 #include <limits.h>
@@ -18,14 +20,25 @@ extern void *__libc_calloc(size_t count, size_t size);
 extern void *__libc_realloc(void *block, size_t size);
 extern void *__libc_memalign(size_t alignment, size_t size);
 
+enum { NOTED = 255 };
+
+struct refusals {
+    _Atomic uint64_t count;
+    _Atomic uint64_t granted;
+    uint64_t numbers[NOTED];
+};
+
 static atomic_long asked;
 static long first;
 static long last;
+static int by_thread;
+// Whether all that this thread asks for is refused. (In a place that is there before the thread: it takes no allocation.)
+static __thread int is_refused_all __attribute__((tls_model("initial-exec")));
 static size_t least;
-static _Atomic uint64_t *refused;
+static struct refusals *refused;
 
-// The count in the file of this name. Without it nothing could be seen, so the program doesn't begin.
-static _Atomic uint64_t *count_in(const char *name)
+// The refusals in the file of this name. Without it nothing could be seen, so the program doesn't begin.
+static struct refusals *refusals_in(const char *name)
 {
     int file = name == NULL ? -1 : open(name, O_RDWR | O_CREAT | O_TRUNC | O_CLOEXEC, 0600);
     if (file < 0 || ftruncate(file, sizeof *refused) != 0)
@@ -43,9 +56,10 @@ __attribute__((constructor)) static void read_words(void)
     if (word == NULL)
         return;
     char *end;
-    refused = count_in(getenv("REFUSED"));
+    refused = refusals_in(getenv("REFUSED"));
     first = strtol(word, &end, 10);
     last = strcmp(end, "..") == 0 ? LONG_MAX : first;
+    by_thread = strcmp(end, "..thread") == 0;
     const char *bytes = getenv("LEAST");
     least = bytes == NULL ? 0 : strtoul(bytes, NULL, 10);
     atomic_store(&asked, 0);
@@ -56,9 +70,17 @@ static int is_refused(size_t size)
     if (first == 0 || size < least)
         return 0;
     long number = atomic_fetch_add(&asked, 1) + 1;
-    if (number < first || number > last)
+    int is_meant = number >= first && number <= last;
+    if (by_thread && is_meant)
+        is_refused_all = 1;
+    if (!is_meant && !is_refused_all) {
+        if (number > first)
+            atomic_fetch_add(&refused->granted, 1);
         return 0;
-    atomic_fetch_add(refused, 1);
+    }
+    uint64_t place = atomic_fetch_add(&refused->count, 1);
+    if (place < NOTED)
+        refused->numbers[place] = (uint64_t)number;
     errno = ENOMEM;
     return 1;
 }
