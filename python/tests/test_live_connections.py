@@ -1,9 +1,13 @@
-"""Many connections to a live page: none of a burst is lost, and requests that don't come to an end free their place."""
+"""Many connections to a live page: none of a burst is lost, requests that don't come to an end free their place, and
+each has its answer where the program is killed.
+"""
 
 from __future__ import annotations
 
 import http.client
 import json
+import os
+import signal
 import socket
 import threading
 import time
@@ -11,7 +15,7 @@ from collections.abc import Iterator
 from concurrent.futures import ThreadPoolExecutor
 
 import pytest
-from pages import script_of
+from pages import answers, script_of
 
 from pevudlo.live.connections import IDLE_SECONDS, MOST_CONNECTIONS, REQUEST_SECONDS
 from pevudlo.live.server import HOST, Server
@@ -34,18 +38,25 @@ def server() -> Iterator[Server]:
     session.close()
 
 
-def told(server: Server, **asked: str) -> dict[str, object]:
-    """What comes of a command."""
+def answered(server: Server, name: str, asked: dict[str, str] | None = None) -> tuple[int, bytes]:
+    """Status and text of an answer: to a post of what is asked, else to a get."""
     connection = http.client.HTTPConnection(HOST, server.server_address[1], timeout=60)
     headers = {"Origin": server.origin, "Content-Type": "application/json"}
+    words = ("GET", None) if asked is None else ("POST", json.dumps(asked))
     try:
-        connection.request("POST", f"/{server.token}/command", json.dumps(asked), headers)
+        connection.request(words[0], f"/{server.token}/{name}", words[1], headers)
         answer = connection.getresponse()
-        assert answer.status == 200
-        found: dict[str, object] = json.loads(answer.read())
-        return found
+        return answer.status, answer.read()
     finally:
         connection.close()
+
+
+def told(server: Server, **asked: str) -> dict[str, object]:
+    """What comes of a command."""
+    status, text = answered(server, "command", asked)
+    assert status == 200
+    found: dict[str, object] = json.loads(text)
+    return found
 
 
 def begun(server: Server, text: bytes) -> socket.socket:
@@ -62,8 +73,8 @@ def half(server: Server) -> bytes:
 def test_no_post_of_a_burst_is_lost(server: Server) -> None:
     before = len(server.session.taken)
     with ThreadPoolExecutor(BURST) as threads:
-        answers = list(threads.map(lambda value: told(server, line=f"input b 1 {value % 10}"), range(BURST)))
-    assert [answer["reply"] for answer in answers] == [["ok"]] * BURST
+        found = list(threads.map(lambda value: told(server, line=f"input b 1 {value % 10}"), range(BURST)))
+    assert [answer["reply"] for answer in found] == [["ok"]] * BURST
     assert len(server.session.taken) == before + BURST
 
 
@@ -113,6 +124,42 @@ def test_a_connection_serves_several_requests(server: Server) -> None:
         assert connection.getresponse().read().startswith(b"{")
         time.sleep(0.1)
     connection.close()
+
+
+# A program that is killed
+
+
+def test_each_post_of_a_burst_has_its_answer_where_the_program_is_killed(server: Server) -> None:
+    before, child = len(server.session.taken), server.session.process
+
+    def post(number: int) -> tuple[int, bytes]:
+        if number == BURST // 2:
+            os.kill(child, signal.SIGKILL)
+        return answered(server, "command", {"line": f"input b 1 {number % 10}"})
+
+    with ThreadPoolExecutor(20) as threads:
+        found = list(threads.map(post, range(BURST)))
+    done, ended = ([text for status, text in found if status == wanted] for wanted in (200, 409))
+    assert done and ended and len(done) + len(ended) == BURST
+    assert set(done) == {json.dumps({"reply": ["ok"], "refused": ""}).encode()}
+    assert all("killed by signal 9" in json.loads(text)["stopped"] for text in ended)
+    # (of one the program may have been killed behind the reply)
+    assert len(server.session.taken) - before - len(done) in (0, 1)
+
+
+def test_a_killed_program_is_told_and_started_again(server: Server) -> None:
+    if not server.session.trouble:
+        os.kill(server.session.process, signal.SIGKILL)
+    taken = list(server.session.taken)
+    for name in ("command", "order") * 3:
+        status, text = answered(server, name, {"line": "settle"})
+        assert status == 409 and "killed by signal 9" in json.loads(text)["stopped"]
+    status, text = answered(server, "state")
+    assert status == 200 and "The program has ended." in json.loads(text)["html"]["trouble"]
+    assert answered(server, "script") == (200, "".join(f"{line}\n" for line in taken).encode())
+    assert answered(server, "restart", {})[0] == 200
+    assert json.loads(answered(server, "state")[1])["html"]["trouble"] == "" and server.session.taken == taken
+    assert told(server, line="show b start")["reply"] == answers([*taken, "show b start"])[-1]
 
 
 # Two tabs and one row

@@ -5,9 +5,11 @@ from __future__ import annotations
 import http.client
 import io
 import json
+import re
 import socket
 import threading
 import time
+import tracemalloc
 from collections.abc import Iterator
 
 import pytest
@@ -17,7 +19,11 @@ from pevudlo.live.server import HOST, MOST_BYTES, Server
 from pevudlo.live.session import Session
 from pevudlo.wire.program import find
 
-TEN_MEGABYTES = 10_000_000
+MOST_OF_A_LINE = 65_537
+"""So many bytes of a line or of a header are read, and no more."""
+
+HUNDRED_MEGABYTES = 100_000_000
+LITTLE_MEMORY = 5_000_000
 
 
 @pytest.fixture(scope="module")
@@ -118,22 +124,55 @@ def test_refused_requests_change_nothing(server: Server) -> None:
     assert server.session.version == before
 
 
-def test_ten_megabytes_are_refused_without_being_read(server: Server) -> None:
-    head = (
+def head_of(server: Server, length: int) -> bytes:
+    """The head of a command, with a body of this length."""
+    return (
         f"POST {page(server, 'command')} HTTP/1.1\r\nHost: {server.host}\r\nOrigin: {server.origin}\r\n"
-        f"Content-Type: application/json\r\nContent-Length: {TEN_MEGABYTES}\r\n\r\n"
-    )
-    with socket.create_connection((HOST, server.server_address[1]), timeout=10) as connection:
-        connection.sendall(head.encode() + b'{"line": "')
-        data = b""
-        while more := connection.recv(4096):
-            data += more
-        assert data.startswith(b"HTTP/1.1 413 ")
-        sent = 0
-        with pytest.raises(OSError):
-            while sent < TEN_MEGABYTES:
-                sent += connection.send(b"a" * 65536)
+        f"Content-Type: application/json\r\nContent-Length: {length}\r\n\r\n"
+    ).encode()
+
+
+def with_long_part(server: Server, part: str) -> tuple[bytes, list[bytes]]:
+    """What is sent before a part of a request that is too long, with so much of it as is answered, and the statuses."""
+    body = json.dumps({"line": "list"}).encode()
+    return {
+        "body": (head_of(server, HUNDRED_MEGABYTES) + b'{"line": "', [b"413"]),
+        "line": (b"a" * MOST_OF_A_LINE, [b"414"]),
+        "header": (b"GET / HTTP/1.1\r\n" + b"a" * MOST_OF_A_LINE, [b"431"]),
+        "behind": (head_of(server, len(body)) + body + b"a" * MOST_OF_A_LINE, [b"200", b"414"]),
+    }[part]
+
+
+@pytest.mark.parametrize("part", ["body", "line", "header", "behind"])
+def test_a_hundred_megabytes_are_refused_without_being_read(server: Server, part: str) -> None:
+    sent, statuses = with_long_part(server, part)
+    tracemalloc.start()
+    try:
+        with socket.create_connection((HOST, server.server_address[1]), timeout=10) as connection:
+            connection.sendall(sent)
+            data = b""
+            while more := connection.recv(4096):
+                data += more
+            assert re.findall(rb"HTTP/1\.1 (\d+) ", data) == statuses
+            count, piece = 0, b"a" * 65536
+            with pytest.raises(OSError):
+                while count < HUNDRED_MEGABYTES:
+                    count += connection.send(piece)
+        assert tracemalloc.get_traced_memory()[1] < LITTLE_MEMORY
+    finally:
+        tracemalloc.stop()
     assert asked(server, "GET", page(server, "state"))[0] == 200
+
+
+def test_a_body_that_is_cut_is_no_command(server: Server) -> None:
+    """Also where what came of it would be one."""
+    before = list(server.session.taken)
+    for body in (b"", b'{"line": "inp', b'{"line": "input b 1 3"}'):
+        with socket.create_connection((HOST, server.server_address[1]), timeout=10) as connection:
+            connection.sendall(head_of(server, 1000) + body)
+            connection.shutdown(socket.SHUT_WR)
+            assert connection.recv(100).startswith(b"HTTP/1.1 400 ")
+    assert server.session.taken == before
 
 
 def test_the_limit_is_a_line_of_65536_bytes(server: Server) -> None:

@@ -169,8 +169,11 @@ class Handler(BaseHTTPRequestHandler):
             raise Unwelcome(HTTPStatus.REQUEST_ENTITY_TOO_LARGE)
         if self.headers.get("Content-Type", "").split(";")[0].strip() != "application/json":
             raise Unwelcome(HTTPStatus.UNSUPPORTED_MEDIA_TYPE)
+        data = self.rfile.read(int(length))
+        if len(data) < int(length):
+            raise Unwelcome(HTTPStatus.BAD_REQUEST)
         try:
-            asked = json.loads(self.rfile.read(int(length)))
+            asked = json.loads(data)
         except (ValueError, RecursionError) as error:
             raise Unwelcome(HTTPStatus.BAD_REQUEST) from error
         if not isinstance(asked, dict) or not all(isinstance(text, str) for text in asked.values()):
