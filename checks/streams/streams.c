@@ -1,7 +1,7 @@
 // Makes standard input and standard output of a program those that fail, as a pipe, a disk or a terminal may. It is loaded before the C
 // library, by LD_PRELOAD, and counts the calls of `read` on descriptor 0 and of `write` on descriptors 1 and 2, each from 1.
 // FAIL=NAME:N:ERRNO lets the Nth call of NAME fail by that error: `read`, `write` (of standard output) or `tell` (of standard error).
-// Where ERRNO is 0 that call answers 0, with no byte moved.
+// Where ERRNO is 0 that call answers 0, with no byte moved. With a comma behind it, a call of another name fails too.
 // INTERRUPT=K lets each call be interrupted K times before it does its work; these aren't counted.
 // BYTES=B lets a call move B bytes at most.
 // The file that FAILED names holds, in three numbers of eight bytes, how many calls of each name were made.
@@ -23,9 +23,8 @@ static uint64_t *calls = unseen;
 static long interrupts;
 static long interrupted;
 static size_t most = SIZE_MAX;
-static int failing = CALLS;
-static uint64_t failing_call;
-static int failing_by;
+static uint64_t failing_call[CALLS];
+static int failing_by[CALLS];
 
 // The counts in the file of this name. Without it nothing could be seen, so the program doesn't begin.
 static uint64_t *counts_in(const char *name)
@@ -46,22 +45,29 @@ static long number_in(const char *variable, long otherwise)
     return word == NULL ? otherwise : strtol(word, NULL, 10);
 }
 
+// Notes a NAME:N:ERRNO. Returns what stands behind its comma, if it has one.
+static const char *note(const char *word)
+{
+    char name[8];
+    unsigned long number;
+    int error, len;
+    if (sscanf(word, "%7[a-z]:%lu:%d%n", name, &number, &error, &len) != 3)
+        abort();
+    for (int call = 0; call < CALLS; call++)
+        if (strcmp(name, names[call]) == 0) {
+            failing_call[call] = number;
+            failing_by[call] = error;
+        }
+    return word[len] == ',' ? word + len + 1 : NULL;
+}
+
 __attribute__((constructor)) static void read_words(void)
 {
     calls = counts_in(getenv("FAILED"));
     interrupts = number_in("INTERRUPT", 0);
     most = (size_t)number_in("BYTES", INT64_MAX);
-    char name[8];
-    unsigned long number;
-    const char *fail = getenv("FAIL");
-    if (fail == NULL)
-        return;
-    if (sscanf(fail, "%7[a-z]:%lu:%d", name, &number, &failing_by) != 3)
-        abort();
-    failing_call = number;
-    for (int call = 0; call < CALLS; call++)
-        if (strcmp(name, names[call]) == 0)
-            failing = call;
+    for (const char *fail = getenv("FAIL"); fail != NULL;)
+        fail = note(fail);
 }
 
 // Whether a call ends before it does its work, with what it answers.
@@ -75,10 +81,10 @@ static int ends_early(enum call call, ssize_t *answer)
     }
     interrupted = 0;
     calls[call]++;
-    if ((int)call != failing || calls[call] != failing_call)
+    if (calls[call] != failing_call[call])
         return 0;
-    errno = failing_by;
-    *answer = failing_by == 0 ? 0 : -1;
+    errno = failing_by[call];
+    *answer = failing_by[call] == 0 ? 0 : -1;
     return 1;
 }
 
