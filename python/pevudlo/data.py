@@ -62,3 +62,8 @@ class ArrayData(LineData):
         if told is None:
             return super().look(key, place)
         return Pending(told) if isinstance(told, int) else told.numbers
+
+
+def data_of(talk: Talk) -> LineData:
+    """Numbers in and out of what a talk is with: by arrays where that is the library."""
+    return ArrayData(talk, talk.peer) if isinstance(talk.peer, Library) else LineData(talk)

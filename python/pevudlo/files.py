@@ -20,7 +20,12 @@ def lines_in(data: bytes) -> list[str]:
 
     Bytes that aren't UTF-8 are surrogates.
     """
-    lines = data.decode("utf-8", "surrogateescape").split("\n")
+    return lines_of_text(data.decode("utf-8", "surrogateescape"))
+
+
+def lines_of_text(text: str) -> list[str]:
+    """The lines of a text, cut as those of a script."""
+    lines = text.split("\n")
     return lines[:-1] if lines[-1] == "" else lines
 
 

@@ -9,7 +9,7 @@ from pathlib import Path
 from types import MappingProxyType, TracebackType
 from typing import SupportsIndex, overload
 
-from pevudlo.data import ArrayData, LineData
+from pevudlo.data import data_of
 from pevudlo.draw.grids import Grid
 from pevudlo.lang.board import Board, Declared
 from pevudlo.lang.causes import MOST_WARNED, RefusedRows, causes
@@ -80,14 +80,13 @@ class Machine:
             raise ValueError(f"workers are 1 to 16, and not {workers!r}")
         self.program = find(program)
         self._talk = Talk(Pipe(self.program, workers))
-        self._data = LineData(self._talk)
+        self._data = data_of(self._talk)
 
     def _open(self, path: str | os.PathLike[str] | None) -> None:
         """Opens a session of the library."""
         self.library = find_library(path)
-        library = Library(self.library)
-        self._talk = Talk(library)
-        self._data = ArrayData(self._talk, library)
+        self._talk = Talk(Library(self.library))
+        self._data = data_of(self._talk)
 
     def __enter__(self) -> Machine:
         return self

@@ -11,8 +11,9 @@ import pytest
 from pages import Tree, answers, numbers_of, script_of
 from test_page import random_script
 
-from pevudlo.live.session import Session, is_comment
+from pevudlo.live.session import Session
 from pevudlo.live.view import View, ranges_of
+from pevudlo.wire.pipe import is_comment
 from pevudlo.wire.program import find
 
 ROWS = 4096

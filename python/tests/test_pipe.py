@@ -252,3 +252,32 @@ def test_a_thread_that_kills_ends_one_that_waits(program: Path) -> None:
         with pytest.raises(Ended):
             waits.result(timeout=20)
     assert not is_alive(pipe.process)
+
+
+def test_many_lines_in_one_write(program: Path) -> None:
+    script = (REPOSITORY / "examples/first-sum.paris").read_text().splitlines()
+    with Pipe(program) as pipe, Pipe(program) as other:
+        assert pipe.ask_all([*script, "list", "", "faults"]) == [
+            other.ask(line) for line in [*script, "list", "", "faults"]
+        ]
+        assert pipe.ask_all([]) == [] and pipe.ask("settle") == ["settled 0"]
+        with pytest.raises(ValueError):
+            pipe.ask_all(["settle", "set S\n4"])
+
+
+def test_many_lines_with_more_replies_than_a_pipe_holds(program: Path) -> None:
+    with Pipe(program) as pipe:
+        pipe.ask_all(["set S 65536", "field a S 64", "input a 0 18446744073709551615"])
+        lines = ["show a end", f"# {'x' * 60_000}", "list"] * 60
+        replies = pipe.ask_all(lines)
+    assert replies == [pipe_reply for _ in range(60) for pipe_reply in (replies[0], [], ["rows 0"])]
+    assert len(replies[0][0]) > 100_000
+
+
+@pytest.mark.parametrize(
+    ("body", "error"),
+    [("input(); print('ok', flush=True)", Ended), ("print('ok\\n' * 9, flush=True); input()", OutOfTurn)],
+)
+def test_many_lines_to_a_program_that_ends_or_says_more(tmp_path: Path, body: str, error: type[Exception]) -> None:
+    with pytest.raises(error):
+        Pipe(fake(tmp_path, body)).ask_all(["settle"] * 3)

@@ -25,6 +25,11 @@ class RowOrder:
     def __len__(self) -> int:
         return len(self._following) - 1
 
+    @property
+    def last(self) -> int | None:
+        """The last row, or None where there is none."""
+        return self._preceding[_ENDS] or None
+
     def put_first(self, row: int) -> None:
         """Puts a row before all others."""
         self._put(row, _ENDS)

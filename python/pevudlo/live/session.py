@@ -21,7 +21,7 @@ from pevudlo.live.seen import Seen
 from pevudlo.progress import PROGRESS, Progress, line_of, progress
 from pevudlo.record.looks import Look, Looker
 from pevudlo.record.recorder import Recorder, Step
-from pevudlo.wire.pipe import Pipe, PipeError
+from pevudlo.wire.pipe import Pipe, PipeError, is_comment
 
 NUMBERS_A_STEP = 150_000
 """How many numbers are looked at behind one command."""
@@ -40,11 +40,6 @@ class OtherRow(Exception):
         super().__init__(row, text)
         self.row = row
         self.text = text
-
-
-def is_comment(line: str) -> bool:
-    """Whether a line of a script is no command: a comment, or an empty line."""
-    return not line or line.startswith("#")
 
 
 class Stopped(Exception):

@@ -10,7 +10,7 @@ import ctypes
 import os
 import threading
 import weakref
-from collections.abc import Callable, Iterator
+from collections.abc import Callable, Iterator, Sequence
 from contextlib import contextmanager
 from ctypes import c_bool, c_char_p, c_size_t, c_uint32, c_uint64, c_void_p
 from enum import IntEnum
@@ -141,6 +141,10 @@ class Library:
         if text.startswith(b"refused"):
             self._status = 1
         return text.decode("utf-8", "surrogateescape").split("\n")[:-1]
+
+    def ask_all(self, lines: Sequence[str]) -> list[list[str]]:
+        """The replies to many lines, as by `ask` of one after another."""
+        return [self.ask(line) for line in lines]
 
     def set(self, key: str, first: int, words: Words) -> bool:
         """Gives a key these numbers from a processor on, as one edit. False where that is refused, and nothing done."""

@@ -16,6 +16,7 @@ import select
 import subprocess
 import tempfile
 import threading
+from collections.abc import Sequence
 from contextlib import suppress
 from pathlib import Path
 from types import TracebackType
@@ -48,6 +49,11 @@ def count_of_lines(first: bytes) -> int:
     """How many lines of a reply come behind the first one: N behind `rows N` and `faults N`, else none."""
     word, _, number = first.partition(b" ")
     return int(number) if word in (b"rows", b"faults") and number.isdigit() else 0
+
+
+def is_comment(line: str) -> bool:
+    """Whether a line of a script is no command, and has no reply: a comment, or an empty line."""
+    return not line or line.startswith("#")
 
 
 def widen(pipe: int) -> None:
@@ -94,10 +100,8 @@ class Pipe:
         if "\n" in line:
             raise ValueError("one line is asked at a time")
         with self._lock:
-            if self._over is not None:
-                kind, what, status, said = self._over
-                raise kind(what, status, said)
-            if not line or line.startswith("#"):
+            self._check_open()
+            if is_comment(line):
                 return []
             data = line.encode("utf-8", "surrogateescape") + b"\n"
             try:
@@ -106,6 +110,23 @@ class Pipe:
             except BaseException:
                 self._end()
                 raise
+
+    def ask_all(self, lines: Sequence[str]) -> list[list[str]]:
+        """The replies to many lines, as by `ask` of one after another. All lines go in one write."""
+        if any("\n" in line for line in lines):
+            raise ValueError("each line is one line")
+        told = [line for line in lines if not is_comment(line)]
+        data = "".join(f"{line}\n" for line in told).encode("utf-8", "surrogateescape")
+        with self._lock:
+            self._check_open()
+            try:
+                self._write_all(data)
+                replies = iter([self._read_reply() for _ in told])
+                self._check_rest()
+            except BaseException:
+                self._end()
+                raise
+        return [[] if is_comment(line) else next(replies) for line in lines]
 
     def close(self) -> int:
         """Ends the input, waits for the child, and gives its exit status."""
@@ -130,6 +151,12 @@ class Pipe:
     def __exit__(self, kind: type[BaseException] | None, error: BaseException | None, at: TracebackType | None) -> None:
         self.close()
 
+    def _check_open(self) -> None:
+        """Raises what ended the talk, where it is over."""
+        if self._over is not None:
+            kind, what, status, said = self._over
+            raise kind(what, status, said)
+
     def _write(self, line: bytes) -> None:
         """Writes a whole line. What comes meanwhile is out of turn."""
         if self._rest or self._ears.poll(0):
@@ -147,13 +174,42 @@ class Pipe:
             except BrokenPipeError:
                 self._stop(Ended, "the program ended before it took the line")
 
+    def _write_all(self, data: bytes) -> None:
+        """Writes many lines, and takes in what is answered meanwhile."""
+        if self._rest or self._ears.poll(0):
+            self._unasked()
+        ways = select.poll()
+        ways.register(self._in, select.POLLOUT)
+        ways.register(self._out, select.POLLIN)
+        left = memoryview(data)
+        while left:
+            for way, _ in ways.poll():
+                try:
+                    if way == self._out:
+                        self._rest += self._more()
+                    else:
+                        left = left[os.write(self._in, left) :]
+                except BlockingIOError:
+                    pass
+                except BrokenPipeError:
+                    self._stop(Ended, "the program ended before it took the lines")
+
     def _read(self) -> list[str]:
+        """Reads the lines of one reply, behind which nothing comes."""
+        lines = self._read_reply()
+        self._check_rest()
+        return lines
+
+    def _read_reply(self) -> list[str]:
         """Reads the lines of one reply."""
         first = self._read_line()
         lines = [first, *self._read_lines(count_of_lines(first))]
+        return [line.decode("utf-8", "surrogateescape") for line in lines]
+
+    def _check_rest(self) -> None:
+        """Ends the talk where more came than was asked for."""
         if self._rest:
             self._stop(OutOfTurn, f"the program wrote more than a reply: {bytes(self._rest[:80])!r}")
-        return [line.decode("utf-8", "surrogateescape") for line in lines]
 
     def _read_line(self) -> bytes:
         """The next line, without its line feed."""
