@@ -38,6 +38,7 @@ STANDS_ON = {
     "page": TALKING,
     "prompt": TALKING,
     "live": TALKING + " page",
+    "document": TALKING,
     "cli": "version",
     "__main__": "cli",
     "": "hints lang machine paris values version wire",

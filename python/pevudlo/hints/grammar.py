@@ -56,10 +56,13 @@ def begin_hint(word: str, rest: str, where: Where) -> str:
     if word in INSTRUCTIONS:
         return f"an instruction becomes a row by insert: `insert end {visible(word + rest)}`"
     if said := meaning_of(word):
-        return f"{said}; an instruction becomes a row by insert: `insert end INSTR`"
+        return said if where is Where.FILE else f"{said}; an instruction becomes a row by insert: `insert end INSTR`"
     if "-" not in word and (near := nearest(word, list(COMMANDS))):
         return f"did you mean `{near}`?"
-    if near := combined(word) or nearest(word, list(INSTRUCTIONS)):
+    near = combined(word) or nearest(word, list(INSTRUCTIONS))
+    if near and where is Where.FILE:
+        return f"did you mean `{near}`?"
+    if near:
         return f"did you mean `{near}`? An instruction becomes a row by insert: `insert end {near}{visible(rest)}`"
     return "a line begins with one of " + listed([f"`{c}`" for c in COMMANDS])
 

@@ -15,6 +15,7 @@ class Where(Enum):
     SCRIPT = "script"
     PROMPT = "prompt"
     LIVE = "live"
+    FILE = "file"
 
 
 _COMPARES = "where it is so, test becomes 1"
@@ -133,6 +134,13 @@ _THERE = {
         "undo": f"{_UNDO}. Click the row or the cell for that",
         "save": "the link at the foot of the page gives the accepted commands as a script",
         "load": "`./paris live FILE` begins with a script",
+    },
+    Where.FILE: {
+        **dict.fromkeys(("quit", "exit"), "Ctrl-C ends `./paris watch`, and the file stays as it is"),
+        "help": _COMMANDS,
+        "undo": "take the line out of the file, or undo in the editor",
+        **dict.fromkeys(("save", "load"), "the file itself is what is held in step"),
+        **dict.fromkeys(("run", "go", "execute"), "rows run by themselves when the file changes"),
     },
 }
 

@@ -1,0 +1,211 @@
+"""The running book of a document: its rows and input data are brought in step with a meaning."""
+
+from __future__ import annotations
+
+from collections.abc import Callable, Sequence
+from math import prod
+from typing import TypeVar
+
+from pevudlo.data import data_of
+from pevudlo.document.differences import aligned, differing_ranges, ends, matched
+from pevudlo.document.meaning import FileRow, Hunk, Shown
+from pevudlo.document.pieces import DECLARING, Kind, Piece
+from pevudlo.document.update import Update
+from pevudlo.document.verdicts import NewBook, Verdicts, refusal_in
+from pevudlo.hints.explanation import Refusal
+from pevudlo.hints.meanings import Where
+from pevudlo.lang.causes import causes
+from pevudlo.lang.keys import axes_of, width_of
+from pevudlo.lang.replies import NoReply, Ok, Reply, RowAdded, RowFault, Settled, parse_row
+from pevudlo.record.earlier import Numbers
+from pevudlo.record.looks import packed
+from pevudlo.talk import Talk
+from pevudlo.values.shaped import Pending, input_lines
+from pevudlo.wire.peers import Peer
+
+Kept = TypeVar("Kept", bound=Reply)
+MOST_SAID = 60
+"""How many letters of a line are said."""
+
+MOST_EDITS = 256
+"""More edits of rows than these cost more than a new book."""
+
+
+class Book:
+    """A book, and a second one with the same declarations that gives the verdicts."""
+
+    def __init__(self, begin: Callable[[], Peer]) -> None:
+        self.peer, self._second = begin(), begin()
+        self.talk = Talk(self.peer, Where.FILE)
+        self.board = self.talk.board
+        self.verdicts = Verdicts(self._second, self.board)
+        self.faults: dict[int, RowFault] = {}
+        self.editions: dict[int, int] = {}
+        self.refused: dict[int, str] = {}
+        self._data = data_of(self.talk)
+        self._listed: dict[int, tuple[str, str]] = {}
+        self._inputs: dict[str, list[str]] = {}
+
+    def close(self) -> None:
+        """Ends both."""
+        self.peer.close()
+        self._second.close()
+
+    # What is told.
+
+    def begin(self, pieces: Sequence[Piece]) -> list[str]:
+        """Tells whole lines as a fresh run has them, in one write, and gives those that change something."""
+        told = [piece for piece in pieces if piece.kind not in (Kind.NOTHING, Kind.TIME)]
+        lines = [f"show {piece.key} end" if piece.kind is Kind.SHOW else piece.line for piece in told]
+        replies = [reply[0] for reply in self.peer.ask_all(lines)]
+        for line, reply in zip(lines, replies):
+            self.board.note(line, reply)
+        declared = [(piece, refusal_in(reply)) for piece, reply in zip(told, replies) if piece.kind in DECLARING]
+        self._second.ask_all([piece.line for piece, refused in declared if not refused])
+        self.refused = {at: refused for at, (_, refused) in enumerate(declared) if refused}
+        above: set[str] = set()
+        for piece, reply in zip(told, replies):
+            self.verdicts.note(piece, above, reply)
+            if piece.kind in DECLARING and not refusal_in(reply):
+                above.add(piece.name)
+            if piece.kind is Kind.INPUT and not refusal_in(reply):
+                self._inputs.setdefault(piece.key, []).append(piece.line)
+        return [line for piece, line in zip(told, lines) if piece.kind is not Kind.SHOW]
+
+    def declare(self, lines: Sequence[str], done: Update) -> None:
+        """Tells both books further declarations."""
+        for line in lines:
+            self._tell(line, Ok, done)
+            self._second.ask(line)
+        if lines:
+            self.verdicts.forget_names()
+
+    def to_rows(self, old: Sequence[FileRow], new: Sequence[FileRow], hunk: Hunk | None, done: Update) -> None:
+        """Sends the edits that make these rows of the old ones."""
+        hunk = hunk or same_ends(old, new)
+        gone, put = old[hunk.start : hunk.end], new[hunk.start : hunk.new_end]
+        for at, to in matched([row.text for row in gone], [row.text for row in put]):
+            put[to].book = gone[at].book
+        replaced = pairs(gone, put)
+        kept = {row.book for row in put} | {row.book for row, _ in replaced}
+        left_out = [row for row in gone if row.book not in kept]
+        others = len(left_out) + sum(not row.book for row in put)
+        if others > MOST_EDITS:
+            raise NewBook(f"{others:,} rows are others")
+        for row in left_out:
+            self._tell(f"delete {row.book}", Ok, done)
+            self._forget(row.book)
+        for row, other in replaced:
+            self._tell(f"replace {row.book} {other.text}", Ok, done)
+            other.book = row.book
+        last = new[hunk.start - 1].book if hunk.start else 0
+        for row in put:
+            if not row.book:
+                place = f"after {last}" if last else "start"
+                row.book = self._tell(f"insert {place} {row.text}", RowAdded, done).row
+            last = row.book
+
+    def to_inputs(self, shown: Sequence[Shown], done: Update) -> None:
+        """Gives each key the input data that the lines say, as far as it is other than what it was told."""
+        wanted: dict[str, list[str]] = {}
+        for each in shown:
+            if each.piece.kind is Kind.INPUT and not each.refused:
+                wanted.setdefault(each.key, []).append(each.piece.line)
+        for key in [*wanted, *self._inputs.keys() - wanted.keys()]:
+            have, want = self._inputs.get(key, []), wanted.get(key, [])
+            if have != want:
+                before, after = self._overlaid(key, have), self._overlaid(key, want)
+                for part in differing_ranges(before, after):
+                    for line in input_lines(key, part.start, after[part.start : part.stop]):
+                        self._tell(line, Ok, done)
+        self._inputs = wanted
+
+    def settle(self, rows: Sequence[FileRow], done: Update) -> None:
+        """Runs what is unsettled, and sees which rows ran. Raises NewBook where the book's rows aren't these."""
+        done.rows = len(rows)
+        done.count = self.talk.ask("settle", Settled).count
+        if done.sent or done.count:
+            done.ran = frozenset(self._list(rows))
+            self.faults = {fault.row: fault for fault in self.talk.faults()}
+
+    # What is seen.
+
+    def look(self, key: str, anchor: FileRow | None) -> Numbers:
+        """The numbers of a key behind a row, or at the start. All rows are settled."""
+        numbers = self._data.look(key, "start" if anchor is None else f"after {anchor.book}")
+        if isinstance(numbers, Pending):
+            raise NoReply(f"row {numbers.row} is unsettled behind a settle")
+        return packed(numbers, width_of(self.board, key))
+
+    def cause(self, row: FileRow) -> str:
+        """Why a row is refused for its data, in words."""
+        return causes([self.faults[row.book]], self.board, self.talk.look)[row.book]
+
+    def _tell(self, line: str, kind: type[Kept], done: Update) -> Kept:
+        """Tells a command that has to be accepted, and gives its reply. Raises NewBook where it is refused."""
+        done.sent.append(line)
+        try:
+            return self.talk.ask(line, kind)
+        except Refusal as refusal:
+            raise NewBook(f"`{short_line(line)}` is refused: {refusal.text}") from refusal
+
+    def _forget(self, row: int) -> None:
+        """Drops what is known of a row that is gone."""
+        self._listed.pop(row, None)
+        self.editions.pop(row, None)
+
+    def _overlaid(self, key: str, lines: Sequence[str]) -> list[int]:
+        """The numbers that input lines leave, later ones over earlier ones, and all over what a set begins with."""
+        numbers = [int(key.endswith(".context"))] * prod(axes_of(self.board, key))
+        for line in lines:
+            _, _, first, *values = line.split(" ")
+            numbers[int(first) : int(first) + len(values)] = map(int, values)
+        return numbers
+
+    def _list(self, rows: Sequence[FileRow]) -> list[int]:
+        """The ids of the rows that ran since the last list, by the book's list, which has to be that of these rows."""
+        listed = self.peer.ask("list")[1:]
+        known, ran = self._listed, list[int]()
+        for line, row in zip(listed, rows):
+            if known.get(row.book) == (line, row.text):
+                continue
+            found = parse_row(line)
+            if (found.row, found.text) != (row.book, row.text):
+                break
+            known[row.book] = line, row.text
+            if self.editions.get(row.book) != found.edition:
+                self.editions[row.book] = found.edition
+                ran.append(row.book)
+        else:
+            if len(listed) == len(rows):
+                return ran
+        raise NewBook("the book's rows weren't the file's")
+
+
+def same_ends(old: Sequence[FileRow], new: Sequence[FileRow]) -> Hunk:
+    """Where rows differ. Those that stand before and behind that are the same in the book."""
+    low, high = ends([row.text for row in old], [row.text for row in new])
+    hunk = Hunk(low, len(old) - high, len(new) - high)
+    for one, other in [*zip(old[:low], new[:low]), *zip(old[hunk.end :], new[hunk.new_end :])]:
+        other.book = one.book
+    return hunk
+
+
+def pairs(gone: Sequence[FileRow], put: Sequence[FileRow]) -> list[tuple[FileRow, FileRow]]:
+    """Old rows that become new ones, between the rows that stay."""
+    found: list[tuple[FileRow, FileRow]] = []
+    places = {row.book: at for at, row in enumerate(gone)}
+    start = to = 0
+    for end in [*(at for at, row in enumerate(put) if row.book), len(put)]:
+        stop = places[put[end].book] if end < len(put) else len(gone)
+        olds, news = gone[start:stop], put[to:end]
+        if olds and news:
+            both = aligned([row.text for row in olds], [row.text for row in news])
+            found += ((olds[one], news[other]) for one, other in both)
+        start, to = stop + 1, end + 1
+    return found
+
+
+def short_line(line: str) -> str:
+    """A line, cut where it is long."""
+    return line if len(line) <= MOST_SAID else line[: MOST_SAID - 3] + "..."

@@ -1,0 +1,216 @@
+"""A text that is held in step with a running book: `Document.update(text)`.
+
+A file says what a program is: declarations, input data, rows. Its lines are commands of scripts, and an instruction may
+stand alone, for `insert end` of it. What a line says of when rows run is passed over: behind every update all of them
+are settled. All numbers and all refusals are replies of the program.
+"""
+
+from __future__ import annotations
+
+from collections.abc import Callable
+from dataclasses import replace
+
+from pevudlo.document.book import Book, short_line
+from pevudlo.document.meaning import FileRow, Meaning, Reader, Shown, spliced
+from pevudlo.document.pieces import DECLARING, FIRM, Kind, piece_of
+from pevudlo.document.update import Update
+from pevudlo.document.verdicts import NO_ROW, NewBook
+from pevudlo.files import lines_of_text
+from pevudlo.hints.explanation import SYNTAX, Explanation, explained
+from pevudlo.hints.meanings import Where
+from pevudlo.lang.board import Board
+from pevudlo.lang.faults import FAULTS
+from pevudlo.lang.replies import NoReply, Refused, parse
+from pevudlo.record.earlier import Numbers
+from pevudlo.wire.peers import Peer, peer_of
+from pevudlo.wire.pipe import PipeError
+
+Seen = tuple[int, Numbers]
+"""What was seen of a key behind a row, with the row's edition."""
+
+
+def library_or_program() -> Peer:
+    """A peer with nothing declared: the library where it is there, else the program. Raises NotFound."""
+    return peer_of(None, is_large=True)
+
+
+class Document:
+    """A text in step with a book. `begin` starts a peer with nothing declared."""
+
+    def __init__(self, begin: Callable[[], Peer] = library_or_program) -> None:
+        self.meaning = Meaning()
+        self._begin = begin
+        self._book: Book | None = None
+        self._declared: list[str] = []
+        self._why = "the first text"
+        self._looks: dict[tuple[int, str], Seen] = {}
+        self._before: dict[tuple[int, str], Numbers] = {}
+
+    def __enter__(self) -> Document:
+        return self
+
+    def __exit__(self, *_: object) -> None:
+        self.close()
+
+    def close(self) -> None:
+        """Ends the book. A further update begins a new one."""
+        self._why = self._why or "the book was closed"
+        if self._book is not None:
+            self._book.close()
+
+    # Updates.
+
+    def update(self, text: str, hold: bool = False) -> Update:
+        """Takes a new text, sends what leads to it, and runs what that unsettled.
+
+        With `hold`, a line that was a row and is refused now, since it is being typed, keeps the row that it was.
+        Where the program ends it is begun anew, once. Raises PipeError where that ends too, and NotFound.
+        """
+        return self.update_lines(lines_of_text(text), hold)
+
+    def update_lines(self, lines: list[str], hold: bool = False) -> Update:
+        """As `update`, of a text that is cut into lines."""
+        done = Update()
+        why, self._why = self._why, "the last update was stopped"
+        try:
+            if why or self._book is None:
+                raise NewBook(why)
+            self._step(self._book, lines, hold, done)
+        except NewBook as wanted:
+            done = self._afresh(lines, str(wanted))
+        except PipeError as error:
+            done = self._afresh(lines, str(error))
+        self._why, done.held = "", self.meaning.held
+        return done
+
+    def _step(self, book: Book, lines: list[str], hold: bool, done: Update) -> None:
+        """Leads the book to a text by edits. Raises NewBook where that can't be."""
+        declared = declarations_in(lines)
+        added = self._added(declared)
+        book.declare(added, done)
+        meaning = None
+        if not added and (hold or not self.meaning.is_held):
+            above = {*book.board.sets, *book.board.fields}
+            meaning = spliced(self.meaning, lines, book.verdicts, above, hold)
+        if meaning is None:
+            meaning = Reader(book.verdicts, book.refused).read(lines)
+        book.to_rows(self.meaning.rows, meaning.rows, meaning.hunk, done)
+        book.to_inputs(meaning.shown, done)
+        self.meaning, self._declared = meaning, declared
+        book.settle(meaning.rows, done)
+
+    def _added(self, declared: list[str]) -> list[str]:
+        """The declarations that come to the present ones. Raises NewBook where others want a new book."""
+        if declared == self._declared:
+            return []
+        rest = iter(declared)
+        added: list[str] = []
+        for old in self._declared:
+            for new in rest:
+                if new == old:
+                    break
+                added.append(new)
+            else:
+                raise NewBook(f"`{short_line(old)}` is changed or gone, or stands elsewhere")
+        added += rest
+        if any(shown.refused for shown in self.shown if shown.kind in DECLARING):
+            raise NewBook("a declaration was refused")
+        known: set[str] = set()
+        for piece in map(piece_of, declared):
+            if not piece.names <= known:
+                raise NewBook(f"`{short_line(piece.line)}` stands above its set")
+            known.add(piece.name)
+        return added
+
+    def _afresh(self, lines: list[str], why: str) -> Update:
+        """A new book, to which the lines are told as they stand: a fresh run of the text."""
+        self.close()
+        self._looks.clear()
+        self._before.clear()
+        book = self._book = Book(self._begin)
+        done = Update(fresh=why)
+        done.sent = book.begin([piece_of(line) for line in lines])
+        try:
+            meaning = Reader(book.verdicts, book.refused).read(lines)
+            for number, row in zip(meaning.ids, meaning.rows):
+                row.book = number
+            book.settle(meaning.rows, done)
+        except NewBook as error:
+            raise NoReply(f"a fresh run isn't what the text means: {error}") from error
+        self.meaning, self._declared = meaning, declarations_in(lines)
+        return done
+
+    # What is seen.
+
+    @property
+    def book(self) -> Book:
+        """The running book. Raises ValueError before the first text."""
+        if self._book is None:
+            raise ValueError("there is no text yet")
+        return self._book
+
+    @property
+    def lines(self) -> list[str]:
+        """The lines of the text."""
+        return self.meaning.lines
+
+    @property
+    def shown(self) -> list[Shown]:
+        """What each line is."""
+        return self.meaning.shown
+
+    @property
+    def rows(self) -> list[FileRow]:
+        """The rows in program order."""
+        return self.meaning.rows
+
+    def explanation(self, number: int) -> Explanation | None:
+        """Why the line of this index is refused."""
+        shown = self.shown[number]
+        if not shown.refused:
+            return None
+        refused = parse([shown.refused])
+        assert isinstance(refused, Refused)
+        told = explained(shown.piece.line, refused, self.board_above(number), Where.FILE)
+        column = told.column and told.column - shown.piece.shift
+        text = FAULTS[SYNTAX].words(column) if column else told.text
+        return replace(told, text=text, line=self.lines[number], detail=column or told.detail, column=column)
+
+    def board_above(self, number: int) -> Board:
+        """What is declared above a line, and the rows by the ids of a fresh run where the line has lost its row."""
+        board, count = Board(), 0
+        is_of_rows = self.shown[number].refused == NO_ROW
+        for each in self.shown[: number if is_of_rows else min(number, self.meaning.head)]:
+            if each.refused or each.kind not in (*FIRM, Kind.ROW):
+                continue
+            count += each.kind is Kind.ROW
+            if is_of_rows or each.kind in DECLARING:
+                board.note(each.piece.line, f"row {count}" if each.kind is Kind.ROW else "ok")
+        return board
+
+    def look(self, number: int) -> Numbers:
+        """The numbers of the look of this index."""
+        shown = self.shown[number]
+        return self.book.look(shown.key, shown.anchor)
+
+    def written(self, row: FileRow) -> dict[str, Numbers]:
+        """What a row leaves in the keys that it writes. It is asked once for each time that the row ran."""
+        edition, found = self.book.editions[row.book], dict[str, Numbers]()
+        for key in self.book.board.keys_written(row.text):
+            at = row.book, key
+            kept = self._looks.get(at)
+            if kept is None or kept[0] != edition:
+                if kept is not None:
+                    self._before[at] = kept[1]
+                kept = self._looks[at] = edition, self.book.look(key, row)
+            found[key] = kept[1]
+        return found
+
+    def earlier(self, row: FileRow, key: str) -> Numbers | None:
+        """What was seen of a key behind a row before its last run."""
+        return self._before.get((row.book, key))
+
+
+def declarations_in(lines: list[str]) -> list[str]:
+    """The lines that declare something, refused or not."""
+    return [line for line in lines if line.startswith(("set ", "field ")) and piece_of(line).kind in DECLARING]

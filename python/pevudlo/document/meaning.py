@@ -1,0 +1,238 @@
+"""What a text means: rows, input data and looks, read from above to below as a fresh run takes its lines."""
+
+from __future__ import annotations
+
+from bisect import bisect_left
+from collections.abc import Mapping, Sequence
+from dataclasses import dataclass, field
+from typing import NamedTuple
+
+from pevudlo.document.differences import ends
+from pevudlo.document.pieces import DECLARING, Kind, Piece, piece_of
+from pevudlo.document.verdicts import NO_ROW, ROWS_FULL, Verdicts
+from pevudlo.lang.grammar import wrong_column
+from pevudlo.lang.order import RowOrder
+
+MOST_ROWS = 4_096
+
+
+@dataclass(eq=False)
+class FileRow:
+    """A row that a text means. `book` is its id in the running book, 0 where that doesn't have it yet."""
+
+    text: str
+    book: int = 0
+    is_alive: bool = True
+
+
+class Shown(NamedTuple):
+    """What a line is: its piece, its refusal where it has one, and the row that it puts in or replaces.
+
+    `anchor` is the row behind which a look is taken, None for the start.
+    """
+
+    piece: Piece
+    refused: str = ""
+    row: FileRow | None = None
+    anchor: FileRow | None = None
+
+    @property
+    def kind(self) -> Kind:
+        """What kind of line it is."""
+        return self.piece.kind
+
+    @property
+    def key(self) -> str:
+        """The key of a look or of input data."""
+        return self.piece.key
+
+
+class Hunk(NamedTuple):
+    """Where two lists of rows differ: from `start` on, up to `end` in the old one and `new_end` in the new one."""
+
+    start: int
+    end: int
+    new_end: int
+
+
+@dataclass
+class Meaning:
+    """What lines mean. `ids` are those that a fresh run gives the rows, where all lines were read.
+
+    `hunk` says where the rows are others than before, where that is known. `is_held`: a refused line keeps its old row.
+    """
+
+    lines: list[str] = field(default_factory=list)
+    shown: list[Shown] = field(default_factory=list)
+    rows: list[FileRow] = field(default_factory=list)
+    ids: list[int] = field(default_factory=list)
+    is_straight: bool = False
+    is_held: bool = False
+    hunk: Hunk | None = None
+    head: int = field(init=False)
+    row_lines: list[int] = field(init=False)
+
+    def __post_init__(self) -> None:
+        self.row_lines = [at for at, each in enumerate(self.shown) if each.row is not None]
+        declaring = (at + 1 for at in range(len(self.shown) - 1, -1, -1) if self.shown[at].kind in DECLARING)
+        self.head = next(declaring, 0)
+
+    @property
+    def held(self) -> tuple[int, ...]:
+        """The lines that keep the row that they were, although they are refused."""
+        return tuple(at for at in self.row_lines if self.shown[at].refused) if self.is_held else ()
+
+
+class Reader:
+    """Reads lines from above to below. `refused` are the refusals of declarations, by how many stand above them."""
+
+    def __init__(self, verdicts: Verdicts, refused: Mapping[int, str]) -> None:
+        self._verdicts, self._refused = verdicts, refused
+        self._order, self._rows = RowOrder(), dict[int, FileRow]()
+        self._above: set[str] = set()
+        self._alive = self._declared = 0
+
+    def read(self, lines: list[str]) -> Meaning:
+        """What these lines mean. Raises NewBook where only a fresh run can say it."""
+        pieces = [piece_of(line) for line in lines]
+        shown = [self._line(piece) for piece in pieces]
+        order = [(row, self._rows[row]) for row in self._order]
+        if self._alive < len(order):
+            stands = standing([row for _, row in order])
+            shown = [each if each.anchor is None else each._replace(anchor=stands[each.anchor]) for each in shown]
+            order = [(at, row) for at, row in order if row.is_alive]
+        is_straight = all(piece.is_straight for piece in pieces)
+        return Meaning(lines, shown, [row for _, row in order], [at for at, _ in order], is_straight)
+
+    def _line(self, piece: Piece) -> Shown:
+        """What a line is, below those that were read."""
+        match piece.kind:
+            case Kind.ROW:
+                return self._row(piece)
+            case Kind.SET | Kind.FIELD:
+                return self._declaration(piece)
+            case Kind.DELETE | Kind.REPLACE:
+                return self._edit(piece)
+            case Kind.SHOW:
+                return self._look(piece)
+            case Kind.INPUT | Kind.WRONG:
+                return Shown(piece, self._verdicts.of(piece, self._above))
+        return Shown(piece)
+
+    def _row(self, piece: Piece) -> Shown:
+        """A row that is put in."""
+        if piece.place == "after" and not self._is_alive(piece.row):
+            return Shown(piece, NO_ROW)
+        if self._alive >= MOST_ROWS and wrong_column(piece.line) is None:
+            return Shown(piece, ROWS_FULL)
+        if refused := self._verdicts.of(piece, self._above):
+            return Shown(piece, refused)
+        row, number = FileRow(piece.text), len(self._rows) + 1
+        self._rows[number] = row
+        self._alive += 1
+        if piece.place == "after":
+            self._order.put_after(piece.row, number)
+        elif piece.place == "start":
+            self._order.put_first(number)
+        else:
+            self._order.put_last(number)
+        return Shown(piece, row=row)
+
+    def _declaration(self, piece: Piece) -> Shown:
+        """A set or a field."""
+        refused = self._refused.get(self._declared, "")
+        self._declared += 1
+        if not refused:
+            self._above.add(piece.name)
+        return Shown(piece, refused)
+
+    def _edit(self, piece: Piece) -> Shown:
+        """A row that is taken out, or gets another instruction."""
+        if not self._is_alive(piece.row):
+            return Shown(piece, NO_ROW)
+        row = self._rows[piece.row]
+        if piece.kind is Kind.DELETE:
+            row.is_alive = False
+            self._alive -= 1
+            return Shown(piece)
+        if refused := self._verdicts.of(piece, self._above):
+            return Shown(piece, refused)
+        row.text = piece.text
+        return Shown(piece, row=row)
+
+    def _look(self, piece: Piece) -> Shown:
+        """A look at a place of the present program."""
+        refused = self._verdicts.of(piece, self._above)
+        if not refused and piece.place == "after" and not self._is_alive(piece.row):
+            refused = NO_ROW
+        if refused or piece.place == "start":
+            return Shown(piece, refused)
+        at = piece.row if piece.place == "after" else self._order.last
+        return Shown(piece, anchor=None if at is None else self._rows[at])
+
+    def _is_alive(self, row: int) -> bool:
+        """Whether the text has a row of this id by now."""
+        return row in self._rows and self._rows[row].is_alive
+
+
+def standing(rows: Sequence[FileRow]) -> dict[FileRow, FileRow | None]:
+    """For each row itself, or the one before it that is left where it was taken out further down."""
+    last: FileRow | None = None
+    stands: dict[FileRow, FileRow | None] = {}
+    for row in rows:
+        last = row if row.is_alive else last
+        stands[row] = last
+    return stands
+
+
+def spliced(before: Meaning, lines: list[str], verdicts: Verdicts, above: set[str], hold: bool) -> Meaning | None:
+    """The meaning of a text that differs from an earlier one in rows, looks, input data and comments alone; else None.
+
+    It reads the lines that differ. With `hold`, a line that was a row and is refused keeps the row that it was.
+    """
+    low, high = ends(before.lines, lines)
+    olds = before.shown[low : len(before.lines) - high]
+    news = [piece_of(line) for line in lines[low : len(lines) - high]]
+    start = bisect_left(before.row_lines, low)
+    end = start + sum(shown.row is not None for shown in olds)
+    if not may_splice(before, low, news, start - end):
+        return None
+    rows, shown, is_held = before.rows[:start], list[Shown](), before.is_held
+    olds_by_place = olds if hold and len(olds) == len(news) else []
+    for at, piece in enumerate(news):
+        refused = verdicts.of(piece, above)
+        held = olds_by_place[at].row if refused and olds_by_place else None
+        text = held.text if held is not None else piece.text if piece.kind is Kind.ROW and not refused else ""
+        row = FileRow(text) if text else None
+        rows += [row] if row is not None else []
+        is_held = is_held or held is not None
+        anchor = rows[-1] if rows and piece.kind is Kind.SHOW and piece.place == "end" and not refused else None
+        shown.append(Shown(piece, refused, row, anchor))
+    new_end = len(rows)
+    shown += moved_looks(before.shown[len(before.lines) - high :], rows[-1] if rows else None)
+    rows += before.rows[end:]
+    hunk = Hunk(start, end, new_end)
+    return Meaning(lines, before.shown[:low] + shown, rows, [], True, is_held, hunk)
+
+
+def may_splice(before: Meaning, low: int, news: Sequence[Piece], more: int) -> bool:
+    """Whether lines from `low` on may be read alone, behind all that is declared. `more` rows come, and new ones."""
+    count = len(before.rows) + more + sum(piece.kind is Kind.ROW for piece in news)
+    return (
+        before.is_straight
+        and low >= before.head
+        and count <= MOST_ROWS
+        and all(piece.is_straight for piece in news)
+        and not any(shown.refused == ROWS_FULL for shown in before.shown[low:])
+        and not any(shown.refused for shown in before.shown[: before.head] if shown.kind in DECLARING)
+    )
+
+
+def moved_looks(rest: list[Shown], last: FileRow | None) -> list[Shown]:
+    """The lines below those that were read anew: looks up to the next row are taken behind the last one now."""
+    for at, each in enumerate(rest):
+        if each.row is not None:
+            break
+        if each.kind is Kind.SHOW and each.piece.place == "end" and not each.refused:
+            rest[at] = each._replace(anchor=last)
+    return rest
