@@ -6,7 +6,8 @@ _paris_options() {
         prompt) echo '--help --quiet --workers' ;;
         page) echo '--draw --help --quiet --workers -o' ;;
         live) echo '--help --port --quiet --workers' ;;
-        *) echo '--build --desk --help --quiet --version --where --workers explain prompt page live' ;;
+        watch) echo '--help --plain --workers' ;;
+        *) echo '--build --desk --help --quiet --version --where --workers explain prompt page live watch' ;;
     esac
 }
 

@@ -17,6 +17,7 @@ COMMANDS = {
     "prompt": "pevudlo.prompt.command",
     "page": "pevudlo.page.command",
     "live": "pevudlo.live.command",
+    "watch": "pevudlo.document.command",
 }
 
 

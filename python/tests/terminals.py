@@ -1,4 +1,4 @@
-"""The prompt in a pseudo-terminal: keys go in, what is seen comes out, and nothing is waited for without end."""
+"""A command in a pseudo-terminal: keys go in, what is seen comes out, and nothing is waited for without end."""
 
 from __future__ import annotations
 
@@ -32,7 +32,7 @@ def children_of(process: int) -> list[int]:
 
 
 class Terminal:
-    """A prompt that a user types to. `seen` is all that came out, without the terminal's own signs.
+    """A prompt that a user types to, or another command. `seen` is all that came out, without the terminal's own signs.
 
     A quiet one says nothing of how far it is, which it would say where it is slow.
     """
@@ -45,6 +45,7 @@ class Terminal:
         inputrc: str = "",
         columns: int = 220,
         is_quiet: bool = True,
+        command: str = "prompt",
     ) -> None:
         rc = state / "inputrc"
         rc.write_text(inputrc)
@@ -56,7 +57,8 @@ class Terminal:
             "INPUTRC": str(rc),
             "TERM": "xterm",
         }
-        arguments = [sys.executable, "-P", "-m", "pevudlo", "prompt", *["--quiet"] * is_quiet, *words]
+        arguments = [sys.executable, "-P", "-m", "pevudlo", command, *["--quiet"] * is_quiet, *words]
+        self.command = command
         self.process, self.end = pty.fork()
         if self.process == 0:
             os.execve(sys.executable, arguments, environment)
@@ -110,7 +112,8 @@ class Terminal:
         return bool(data)
 
     def __enter__(self) -> Terminal:
-        self.until(PROMPT)
+        if self.command == "prompt":
+            self.until(PROMPT)
         return self
 
     def __exit__(self, kind: type[BaseException] | None, error: BaseException | None, at: TracebackType | None) -> None:

@@ -83,10 +83,10 @@ def usage_lines(said: str) -> list[str]:
     return said.split("\n\n")[0].splitlines()
 
 
-COMMANDS = ("explain", "prompt", "page", "live")
+COMMANDS = ("explain", "prompt", "page", "live", "watch")
 
 
-@pytest.mark.parametrize("words", ["explain --nope x", "explain", "prompt a b", "page", "live --port"])
+@pytest.mark.parametrize("words", ["explain --nope x", "explain", "prompt a b", "page", "live --port", "watch"])
 def test_wrong_words_behind_a_command(words: str) -> None:
     ran = paris(*words.split())
     assert (ran.returncode, ran.stdout) == (2, "") and is_usage_of(words.split()[0], ran.stderr)
@@ -95,7 +95,7 @@ def test_wrong_words_behind_a_command(words: str) -> None:
 def test_help_and_where() -> None:
     ran = paris("--help")
     assert ran.returncode == 0 and ran.stdout.startswith("usage: paris ")
-    assert len(usage_lines(ran.stdout)) == 6 and "--where" in usage_lines(ran.stdout)[-1]
+    assert len(usage_lines(ran.stdout)) == 7 and "--where" in usage_lines(ran.stdout)[-1]
     ran = paris("--where")
     assert ran.returncode == 0 and os.access(ran.stdout.strip(), os.X_OK)
 
@@ -129,7 +129,7 @@ def test_a_long_script_is_told_of_on_a_terminal(tmp_path: Path) -> None:
 
 
 def test_a_file_that_cannot_be_read() -> None:
-    commands: list[list[str]] = [[], ["explain"], ["prompt"], ["page"], ["live"]]
+    commands: list[list[str]] = [[], *([command] for command in COMMANDS)]
     for words in [[*command, name] for command in commands for name in ("/nope", "/")]:
         ran = paris(*words)
         assert (ran.returncode, ran.stdout) == (2, "")
@@ -155,7 +155,7 @@ def test_a_page_is_not_written_over_its_script(tmp_path: Path) -> None:
 
 
 def test_a_short_word_for_help() -> None:
-    for command in ("", "explain", "prompt", "page", "live"):
+    for command in ("", *COMMANDS):
         words = [command] if command else []
         ran = paris(*words, "-h")
         assert (ran.returncode, ran.stderr) == (0, "") and ran.stdout == paris(*words, "--help").stdout

@@ -1,0 +1,115 @@
+"""What stands beside a line: short values, the state, the refusal. For terminals and editors."""
+
+from __future__ import annotations
+
+from collections.abc import Sequence
+from dataclasses import dataclass
+from enum import Enum
+
+from pevudlo.document.document import Document
+from pevudlo.document.meaning import FileRow
+from pevudlo.document.pieces import Kind
+from pevudlo.document.update import Update
+from pevudlo.draw.arrays import differing, extent
+from pevudlo.lang.keys import width_of
+from pevudlo.record.earlier import Numbers
+
+MOST = 40
+"""How many letters the numbers of a key take."""
+
+MOST_BITS = 64
+
+
+class State(Enum):
+    """What became of a line, with its sign."""
+
+    RAN = "▶"
+    SAME = "="
+    KEPT = " "
+    REFUSED = "✗"
+    FAULT = "!"
+    LOOK = "→"
+    PASSED = "·"
+    NONE = ""
+
+
+@dataclass(frozen=True)
+class Mark:
+    """What stands beside a line."""
+
+    state: State
+    text: str
+
+
+def short(numbers: Sequence[int], before: Numbers | None, width: int, most: int = MOST) -> str:
+    """The first numbers, with `*` behind those that are other than before. Bits stand side by side."""
+    changed = differing(numbers, before) if before is not None and len(before) == len(numbers) else frozenset[int]()
+    if width == 1 and len(numbers) <= MOST_BITS and not changed:
+        return "".join(map(str, numbers))
+    words: list[str] = []
+    for at, number in enumerate(numbers):
+        words.append(f"{number}*" if at in changed else str(number))
+        most -= len(words[-1]) + 1
+        if most < 0 and len(words) > 1:
+            words.pop()
+            break
+    if len(words) == len(numbers):
+        return " ".join(words)
+    least, greatest = extent(numbers)
+    more = f", {len(changed):,} changed" if changed else ""
+    return f"{' '.join(words)} … {len(numbers):,} from {least} to {greatest}{more}"
+
+
+def mark_of(document: Document, number: int, done: Update, most: int = MOST) -> Mark:
+    """What stands beside the line of an index behind an update. It looks where it wasn't looked at since it ran."""
+    shown = document.shown[number]
+    if shown.refused:
+        return Mark(State.REFUSED, refusal_text(document, number))
+    if shown.row is not None:
+        return row_mark(document, shown.row, done, most)
+    if shown.kind is Kind.SHOW:
+        width = width_of(document.book.board, shown.key)
+        return Mark(State.LOOK, f"{shown.key} {short(document.look(number), None, width, most)}")
+    if shown.kind is Kind.TIME:
+        return Mark(State.PASSED, "rows run by themselves here")
+    return Mark(State.NONE, "")
+
+
+def refusal_text(document: Document, number: int) -> str:
+    """Why a line is refused, with a hint, and that its old row stays where it is held."""
+    told = document.explanation(number)
+    assert told is not None
+    row = document.shown[number].row
+    held = f"; the row stays `{row.text}`" if row is not None else ""
+    return f"{document.shown[number].refused}: {told.text}" + (f"; {told.hint}" if told.hint else "") + held
+
+
+def row_mark(document: Document, row: FileRow, done: Update, most: int) -> Mark:
+    """What stands beside a row."""
+    if row.book in document.book.faults:
+        return Mark(State.FAULT, f"it stores nothing, since {document.book.cause(row)}")
+    parts, is_other = [], False
+    has_run = row.book in done.ran
+    for key, numbers in document.written(row).items():
+        before = document.earlier(row, key) if has_run else None
+        is_other = is_other or before is None or before != numbers
+        name = key.partition(".")[2] or key
+        parts.append(f"{name} {short(numbers, before, width_of(document.book.board, key), most)}")
+    state = State.KEPT if not has_run else State.RAN if is_other else State.SAME
+    return Mark(state, "  ".join(parts))
+
+
+def headline(document: Document, done: Update) -> str:
+    """How many rows ran again, why a new book was begun, and what is refused."""
+    rows = "1 row" if done.rows == 1 else f"{done.rows:,} rows"
+    if done.fresh:
+        said = f"a new book ({done.fresh}): {done.count:,} of {rows} ran"
+    else:
+        said = f"{done.count:,} of {rows} ran again"
+    refused = sum(bool(shown.refused) for shown in document.shown)
+    if refused:
+        said += "; 1 line is refused" if refused == 1 else f"; {refused:,} lines are refused"
+    faults = len(document.book.faults)
+    if faults:
+        said += "; 1 row is refused for its data" if faults == 1 else f"; {faults:,} rows are refused for their data"
+    return said

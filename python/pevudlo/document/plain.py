@@ -1,0 +1,66 @@
+"""What changed behind each update, in lines: for logs and screen readers."""
+
+from __future__ import annotations
+
+import time
+from collections.abc import Callable, Iterator
+
+from pevudlo.document.document import Document
+from pevudlo.document.marks import State, headline, mark_of
+from pevudlo.document.pieces import Kind
+from pevudlo.document.update import Update
+from pevudlo.draw.visible import visible
+
+MOST_TOLD = 200
+"""Of how many lines it is told behind one update."""
+
+
+class Plain:
+    """Tells of each line that ran, is refused newly, or looks at other values than before."""
+
+    def __init__(self, document: Document, say: Callable[[str], None]) -> None:
+        self._document, self._say = document, say
+        self._refused: set[tuple[str, str]] = set()
+        self._looks: dict[tuple[str, int], str] = {}
+
+    def show(self, done: Update) -> None:
+        """Tells of an update."""
+        document = self._document
+        self._say(headline(document, done))
+        told = 0
+        for number, words in self._news(done):
+            told += 1
+            if told > MOST_TOLD:
+                self._say(f"  lines from {number + 1} on aren't told of, since they are too many")
+                break
+            self._say(f"  {number + 1}: {visible(document.lines[number])}: {words}")
+        self._refused = {
+            (document.lines[at], shown.refused) for at, shown in enumerate(document.shown) if shown.refused
+        }
+
+    def trouble(self, words: str) -> None:
+        """Tells why there is nothing new."""
+        self._say(words)
+
+    def rest(self, seconds: float) -> bool:
+        """Waits so long. Nobody ends it here."""
+        time.sleep(seconds)
+        return True
+
+    def _news(self, done: Update) -> Iterator[tuple[int, str]]:
+        """The lines with something new to tell, and the words. Looks are asked for as far as they are told."""
+        document = self._document
+        looks, self._looks = self._looks, {}
+        for number, shown in enumerate(document.shown):
+            if shown.refused:
+                if (document.lines[number], shown.refused) not in self._refused or done.fresh:
+                    yield number, mark_of(document, number, done).text
+            elif shown.row is not None and shown.row.book in done.ran:
+                mark = mark_of(document, number, done)
+                same = ", the same as before" if mark.state is State.SAME else ""
+                yield number, visible(mark.text) + same
+            elif shown.kind is Kind.SHOW and len(self._looks) < MOST_TOLD:
+                at = shown.key, shown.anchor.book if shown.anchor is not None else 0
+                self._looks[at] = words = mark_of(document, number, done).text
+                if looks.get(at) != words or done.fresh:
+                    yield number, words

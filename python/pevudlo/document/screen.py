@@ -1,0 +1,112 @@
+"""A view of a document on a terminal: its lines, and beside each what it gives. It asks for the visible lines alone."""
+
+from __future__ import annotations
+
+import os
+import select
+import shutil
+import sys
+import termios
+import tty
+from collections.abc import Iterator
+from contextlib import contextmanager
+
+from pevudlo.document.document import Document
+from pevudlo.document.marks import Mark, State, headline, mark_of
+from pevudlo.document.pieces import Kind
+from pevudlo.document.update import Update
+from pevudlo.draw.visible import visible
+
+FEET = "▶ ran again, * other than before, = ran with the same values, ✗ refused; arrows move, q ends"
+TONES = {
+    State.RAN: "1;33",
+    State.SAME: "36",
+    State.REFUSED: "31",
+    State.FAULT: "35",
+    State.LOOK: "32",
+    State.PASSED: "2",
+}
+STEPS = {b"\x1b[A": -1, b"k": -1, b"\x1b[B": 1, b"j": 1, b"\x1b[5~": -20, b"b": -20, b"\x1b[6~": 20, b" ": 20}
+NUMBER = 5
+"""How many columns a line's number takes."""
+
+
+def cut(text: str, width: int) -> str:
+    """A text of at most so many letters."""
+    return text if len(text) <= width else text[: max(0, width - 1)] + "…"
+
+
+class Screen:
+    """The part of the lines that fits on the terminal."""
+
+    def __init__(self, document: Document, name: str) -> None:
+        self._document, self._name = document, name
+        self._top, self._done, self._trouble = 0, Update(), ""
+
+    def show(self, done: Update) -> None:
+        """Draws what an update did. Where nothing of it is visible it goes to the first line that ran or is refused."""
+        self._done, self._trouble = done, ""
+        height = shutil.get_terminal_size().lines - 2
+        news = [
+            at
+            for at, shown in enumerate(self._document.shown)
+            if shown.refused or (shown.row is not None and shown.row.book in done.ran)
+        ]
+        if news and not done.fresh and not any(self._top <= at < self._top + height for at in news):
+            self._top = max(0, news[0] - 3)
+        self._draw()
+
+    def trouble(self, words: str) -> None:
+        """Says why there is nothing new."""
+        self._trouble = words
+        self._draw()
+
+    def rest(self, seconds: float) -> bool:
+        """Waits so long, or for keys. False where it is to end."""
+        if not select.select([sys.stdin], [], [], seconds)[0]:
+            return True
+        key = os.read(sys.stdin.fileno(), 16)
+        if key in (b"q", b""):
+            return False
+        if key in STEPS:
+            self._top += STEPS[key]
+            self._draw()
+        return True
+
+    def _draw(self) -> None:
+        """Draws all of the screen."""
+        columns, height = shutil.get_terminal_size()
+        lines = self._document.lines
+        self._top = max(0, min(self._top, len(lines) - height + 2))
+        seen = range(self._top, min(len(lines), self._top + height - 2))
+        left = min(max([20, *(len(visible(lines[at])) for at in seen)]), columns * 45 // 100)
+        head = f" {self._name}: {self._trouble or (headline(self._document, self._done) if lines else '')}"
+        rows = [self._line(at, left, columns) for at in seen]
+        foot = f"\x1b[{height};1H\x1b[2m{cut(' ' + FEET, columns)}\x1b[0m"
+        top = f"\x1b[H\x1b[7m{cut(head, columns).ljust(columns)}\x1b[0m\r\n"
+        sys.stdout.write(top + "".join(f"{row}\x1b[K\r\n" for row in rows) + "\x1b[J" + foot)
+        sys.stdout.flush()
+
+    def _line(self, at: int, left: int, columns: int) -> str:
+        """A line with its number, its sign, its text and its values."""
+        mark = Mark(State.NONE, "") if self._trouble else mark_of(self._document, at, self._done)
+        tone = TONES.get(mark.state, "0")
+        pale = "2" if self._document.shown[at].kind in (Kind.NOTHING, Kind.TIME) else "0"
+        text = cut(visible(self._document.lines[at]), left).ljust(left)
+        said = cut(visible(mark.text), columns - left - NUMBER - 4)
+        parts = (("2", f"{at + 1:{NUMBER}}"), (tone, mark.state.value or " "), (pale, text), (tone, said))
+        return " ".join(f"\x1b[{shade}m{part}\x1b[0m" for shade, part in parts)
+
+
+@contextmanager
+def drawn(document: Document, name: str) -> Iterator[Screen]:
+    """A screen in the place of what stands on the terminal, which comes back at the end."""
+    kept = termios.tcgetattr(sys.stdin)
+    try:
+        tty.setcbreak(sys.stdin)
+        sys.stdout.write("\x1b[?1049h\x1b[?25l\x1b[2J")
+        yield Screen(document, name)
+    finally:
+        sys.stdout.write("\x1b[?25h\x1b[?1049l")
+        sys.stdout.flush()
+        termios.tcsetattr(sys.stdin, termios.TCSADRAIN, kept)
