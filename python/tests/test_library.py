@@ -495,3 +495,22 @@ print((values == start * 2 ** len(machine.rows())).all(), 0 < len(machine.rows()
     refused, last = ran.stdout.splitlines()
     assert refused.startswith("there is no memory left")
     assert (last, ran.stderr) == ("True True 0", "")
+
+
+def test_many_lines_are_answered_as_one_after_another(libparis: Path) -> None:
+    lines = [
+        "set S 4",
+        "",
+        "# A comment.",
+        "field a S 8",
+        "insert end u-add-3-1L a a a 8",
+        "list",
+        "show b end",
+        "settle",
+    ]
+    with Library(libparis) as library, Library(libparis) as other:
+        assert library.ask_all(lines) == [other.ask(line) for line in lines]
+        with pytest.raises(ValueError):
+            library.ask_all(["settle", "set T\n4"])
+        assert library.ask("list") == other.ask("list")
+    assert library.close() == 1

@@ -17,8 +17,9 @@ from terminals import Terminal
 
 from pevudlo.document import watched
 from pevudlo.document.document import Document
-from pevudlo.document.marks import State, mark_of, short
+from pevudlo.document.marks import mark_of, short
 from pevudlo.document.plain import MOST_TOLD, Plain
+from pevudlo.document.states import State
 from pevudlo.document.update import Update
 from pevudlo.document.watched import Watched
 from pevudlo.wire.pipe import Pipe

@@ -14,9 +14,10 @@ from pevudlo.document.update import Update
 from pevudlo.document.verdicts import NewBook, Verdicts, refusal_in
 from pevudlo.hints.explanation import Refusal
 from pevudlo.hints.meanings import Where
+from pevudlo.lang.board import Board
 from pevudlo.lang.causes import causes
 from pevudlo.lang.keys import axes_of, width_of
-from pevudlo.lang.replies import NoReply, Ok, Reply, RowAdded, RowFault, Settled, parse_row
+from pevudlo.lang.replies import NoReply, Ok, Reply, RowAdded, RowFault, Settled
 from pevudlo.record.earlier import Numbers
 from pevudlo.record.looks import packed
 from pevudlo.talk import Talk
@@ -26,6 +27,8 @@ from pevudlo.wire.peers import Peer
 Kept = TypeVar("Kept", bound=Reply)
 MOST_SAID = 60
 """How many letters of a line are said."""
+
+LOST = "the book's rows weren't the file's"
 
 MOST_EDITS = 256
 """More edits of rows than these cost more than a new book."""
@@ -43,7 +46,8 @@ class Book:
         self.editions: dict[int, int] = {}
         self.refused: dict[int, str] = {}
         self._data = data_of(self.talk)
-        self._listed: dict[int, tuple[str, str]] = {}
+        self._listed: list[str] = []
+        self._rows: Sequence[FileRow] = []
         self._inputs: dict[str, list[str]] = {}
 
     def close(self) -> None:
@@ -58,8 +62,9 @@ class Book:
         told = [piece for piece in pieces if piece.kind not in (Kind.NOTHING, Kind.TIME)]
         lines = [f"show {piece.key} end" if piece.kind is Kind.SHOW else piece.line for piece in told]
         replies = [reply[0] for reply in self.peer.ask_all(lines)]
-        for line, reply in zip(lines, replies):
-            self.board.note(line, reply)
+        for piece, reply in zip(told, replies):
+            if piece.kind in DECLARING:
+                self.board.note(piece.line, reply)
         declared = [(piece, refusal_in(reply)) for piece, reply in zip(told, replies) if piece.kind in DECLARING]
         self._second.ask_all([piece.line for piece, refused in declared if not refused])
         self.refused = {at: refused for at, (_, refused) in enumerate(declared) if refused}
@@ -94,7 +99,7 @@ class Book:
             raise NewBook(f"{others:,} rows are others")
         for row in left_out:
             self._tell(f"delete {row.book}", Ok, done)
-            self._forget(row.book)
+            self.editions.pop(row.book, None)
         for row, other in replaced:
             self._tell(f"replace {row.book} {other.text}", Ok, done)
             other.book = row.book
@@ -139,7 +144,8 @@ class Book:
 
     def cause(self, row: FileRow) -> str:
         """Why a row is refused for its data, in words."""
-        return causes([self.faults[row.book]], self.board, self.talk.look)[row.book]
+        board = Board(self.board.sets, self.board.fields, texts={row.book: row.text})
+        return causes([self.faults[row.book]], board, self.talk.look)[row.book]
 
     def _tell(self, line: str, kind: type[Kept], done: Update) -> Kept:
         """Tells a command that has to be accepted, and gives its reply. Raises NewBook where it is refused."""
@@ -148,11 +154,6 @@ class Book:
             return self.talk.ask(line, kind)
         except Refusal as refusal:
             raise NewBook(f"`{short_line(line)}` is refused: {refusal.text}") from refusal
-
-    def _forget(self, row: int) -> None:
-        """Drops what is known of a row that is gone."""
-        self._listed.pop(row, None)
-        self.editions.pop(row, None)
 
     def _overlaid(self, key: str, lines: Sequence[str]) -> list[int]:
         """The numbers that input lines leave, later ones over earlier ones, and all over what a set begins with."""
@@ -165,21 +166,22 @@ class Book:
     def _list(self, rows: Sequence[FileRow]) -> list[int]:
         """The ids of the rows that ran since the last list, by the book's list, which has to be that of these rows."""
         listed = self.peer.ask("list")[1:]
-        known, ran = self._listed, list[int]()
-        for line, row in zip(listed, rows):
-            if known.get(row.book) == (line, row.text):
-                continue
-            found = parse_row(line)
-            if (found.row, found.text) != (row.book, row.text):
-                break
-            known[row.book] = line, row.text
-            if self.editions.get(row.book) != found.edition:
-                self.editions[row.book] = found.edition
+        if len(listed) != len(rows):
+            raise NewBook(LOST)
+        low, high = ends(self._listed, listed)
+        end = len(rows) - high
+        if rows[:low] != self._rows[:low] or rows[end:] != self._rows[len(self._rows) - high :]:
+            low, end = 0, len(rows)
+        ran: list[int] = []
+        for line, row in zip(listed[low:end], rows[low:end]):
+            number, _, edition, _, text = line.split(" ", 4)
+            if (number, text) != (str(row.book), row.text):
+                raise NewBook(LOST)
+            if self.editions.get(row.book) != int(edition):
+                self.editions[row.book] = int(edition)
                 ran.append(row.book)
-        else:
-            if len(listed) == len(rows):
-                return ran
-        raise NewBook("the book's rows weren't the file's")
+        self._listed, self._rows = listed, rows
+        return ran
 
 
 def same_ends(old: Sequence[FileRow], new: Sequence[FileRow]) -> Hunk:

@@ -11,8 +11,10 @@ from collections.abc import Callable
 from dataclasses import replace
 
 from pevudlo.document.book import Book, short_line
+from pevudlo.document.differences import ends
 from pevudlo.document.meaning import FileRow, Meaning, Reader, Shown, spliced
 from pevudlo.document.pieces import DECLARING, FIRM, Kind, piece_of
+from pevudlo.document.states import Mark
 from pevudlo.document.update import Update
 from pevudlo.document.verdicts import NO_ROW, NewBook
 from pevudlo.files import lines_of_text
@@ -45,6 +47,8 @@ class Document:
         self._why = "the first text"
         self._looks: dict[tuple[int, str], Seen] = {}
         self._before: dict[tuple[int, str], Numbers] = {}
+        # The marks of rows that didn't run again, with the row's edition and how long their values are.
+        self.marks: dict[int, tuple[tuple[int, int], Mark]] = {}
 
     def __enter__(self) -> Document:
         return self
@@ -85,24 +89,31 @@ class Document:
 
     def _step(self, book: Book, lines: list[str], hold: bool, done: Update) -> None:
         """Leads the book to a text by edits. Raises NewBook where that can't be."""
-        declared = declarations_in(lines)
-        added = self._added(declared)
+        same = ends(self.lines, lines)
+        declared, added = self._declarations(lines, same)
         book.declare(added, done)
         meaning = None
         if not added and (hold or not self.meaning.is_held):
             above = {*book.board.sets, *book.board.fields}
-            meaning = spliced(self.meaning, lines, book.verdicts, above, hold)
+            meaning = spliced(self.meaning, lines, same, book.verdicts, above, hold)
         if meaning is None:
             meaning = Reader(book.verdicts, book.refused).read(lines)
         book.to_rows(self.meaning.rows, meaning.rows, meaning.hunk, done)
-        book.to_inputs(meaning.shown, done)
+        if meaning.has_inputs:
+            book.to_inputs(meaning.shown, done)
         self.meaning, self._declared = meaning, declared
         book.settle(meaning.rows, done)
 
+    def _declarations(self, lines: list[str], same: tuple[int, int]) -> tuple[list[str], list[str]]:
+        """The declarations of a text, and those that come to the present ones. `same` are the lines at both ends."""
+        is_below = same[0] >= self.meaning.head
+        if is_below and not declarations_in(lines[same[0] : len(lines) - same[1]]):
+            return self._declared, []
+        declared = declarations_in(lines)
+        return declared, self._added(declared)
+
     def _added(self, declared: list[str]) -> list[str]:
         """The declarations that come to the present ones. Raises NewBook where others want a new book."""
-        if declared == self._declared:
-            return []
         rest = iter(declared)
         added: list[str] = []
         for old in self._declared:
@@ -113,10 +124,10 @@ class Document:
             else:
                 raise NewBook(f"`{short_line(old)}` is changed or gone, or stands elsewhere")
         added += rest
-        if any(shown.refused for shown in self.shown if shown.kind in DECLARING):
+        if added and any(shown.refused for shown in self.shown if shown.kind in DECLARING):
             raise NewBook("a declaration was refused")
         known: set[str] = set()
-        for piece in map(piece_of, declared):
+        for piece in map(piece_of, declared if added else ()):
             if not piece.names <= known:
                 raise NewBook(f"`{short_line(piece.line)}` stands above its set")
             known.add(piece.name)
@@ -126,6 +137,7 @@ class Document:
         """A new book, to which the lines are told as they stand: a fresh run of the text."""
         self.close()
         self._looks.clear()
+        self.marks.clear()
         self._before.clear()
         book = self._book = Book(self._begin)
         done = Update(fresh=why)

@@ -3,12 +3,11 @@
 from __future__ import annotations
 
 from collections.abc import Sequence
-from dataclasses import dataclass
-from enum import Enum
 
 from pevudlo.document.document import Document
 from pevudlo.document.meaning import FileRow
 from pevudlo.document.pieces import Kind
+from pevudlo.document.states import Mark, State
 from pevudlo.document.update import Update
 from pevudlo.draw.arrays import differing, extent
 from pevudlo.lang.keys import width_of
@@ -18,27 +17,6 @@ MOST = 40
 """How many letters the numbers of a key take."""
 
 MOST_BITS = 64
-
-
-class State(Enum):
-    """What became of a line, with its sign."""
-
-    RAN = "▶"
-    SAME = "="
-    KEPT = " "
-    REFUSED = "✗"
-    FAULT = "!"
-    LOOK = "→"
-    PASSED = "·"
-    NONE = ""
-
-
-@dataclass(frozen=True)
-class Mark:
-    """What stands beside a line."""
-
-    state: State
-    text: str
 
 
 def short(numbers: Sequence[int], before: Numbers | None, width: int, most: int = MOST) -> str:
@@ -88,15 +66,22 @@ def row_mark(document: Document, row: FileRow, done: Update, most: int) -> Mark:
     """What stands beside a row."""
     if row.book in document.book.faults:
         return Mark(State.FAULT, f"it stores nothing, since {document.book.cause(row)}")
-    parts, is_other = [], False
     has_run = row.book in done.ran
+    kept = document.marks.get(row.book)
+    at = document.book.editions[row.book], most
+    if kept is not None and kept[0] == at and not has_run:
+        return kept[1]
+    parts, is_other = [], False
     for key, numbers in document.written(row).items():
         before = document.earlier(row, key) if has_run else None
         is_other = is_other or before is None or before != numbers
         name = key.partition(".")[2] or key
         parts.append(f"{name} {short(numbers, before, width_of(document.book.board, key), most)}")
     state = State.KEPT if not has_run else State.RAN if is_other else State.SAME
-    return Mark(state, "  ".join(parts))
+    mark = Mark(state, "  ".join(parts))
+    if not has_run:
+        document.marks[row.book] = at, mark
+    return mark
 
 
 def headline(document: Document, done: Update) -> str:

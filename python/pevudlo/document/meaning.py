@@ -7,7 +7,6 @@ from collections.abc import Mapping, Sequence
 from dataclasses import dataclass, field
 from typing import NamedTuple
 
-from pevudlo.document.differences import ends
 from pevudlo.document.pieces import DECLARING, Kind, Piece, piece_of
 from pevudlo.document.verdicts import NO_ROW, ROWS_FULL, Verdicts
 from pevudlo.lang.grammar import wrong_column
@@ -16,7 +15,7 @@ from pevudlo.lang.order import RowOrder
 MOST_ROWS = 4_096
 
 
-@dataclass(eq=False)
+@dataclass(eq=False, slots=True)
 class FileRow:
     """A row that a text means. `book` is its id in the running book, 0 where that doesn't have it yet."""
 
@@ -59,23 +58,22 @@ class Hunk(NamedTuple):
 class Meaning:
     """What lines mean. `ids` are those that a fresh run gives the rows, where all lines were read.
 
-    `hunk` says where the rows are others than before, where that is known. `is_held`: a refused line keeps its old row.
+    `head` is how many lines there are up to the last declaration, and `row_lines` are those that have a row. `hunk`
+    says where the rows are others than before, where that is known, and `has_inputs` whether input data may be.
+    `is_held`: a refused line keeps its old row. `is_full`: a row is refused since there are too many.
     """
 
     lines: list[str] = field(default_factory=list)
     shown: list[Shown] = field(default_factory=list)
     rows: list[FileRow] = field(default_factory=list)
     ids: list[int] = field(default_factory=list)
+    head: int = 0
+    row_lines: list[int] = field(default_factory=list)
     is_straight: bool = False
     is_held: bool = False
+    is_full: bool = False
+    has_inputs: bool = True
     hunk: Hunk | None = None
-    head: int = field(init=False)
-    row_lines: list[int] = field(init=False)
-
-    def __post_init__(self) -> None:
-        self.row_lines = [at for at, each in enumerate(self.shown) if each.row is not None]
-        declaring = (at + 1 for at in range(len(self.shown) - 1, -1, -1) if self.shown[at].kind in DECLARING)
-        self.head = next(declaring, 0)
 
     @property
     def held(self) -> tuple[int, ...]:
@@ -91,6 +89,7 @@ class Reader:
         self._order, self._rows = RowOrder(), dict[int, FileRow]()
         self._above: set[str] = set()
         self._alive = self._declared = 0
+        self._is_full = False
 
     def read(self, lines: list[str]) -> Meaning:
         """What these lines mean. Raises NewBook where only a fresh run can say it."""
@@ -101,8 +100,12 @@ class Reader:
             stands = standing([row for _, row in order])
             shown = [each if each.anchor is None else each._replace(anchor=stands[each.anchor]) for each in shown]
             order = [(at, row) for at, row in order if row.is_alive]
-        is_straight = all(piece.is_straight for piece in pieces)
-        return Meaning(lines, shown, [row for _, row in order], [at for at, _ in order], is_straight)
+        meaning = Meaning(lines, shown, [row for _, row in order], [at for at, _ in order])
+        meaning.head = 1 + max((at for at, piece in enumerate(pieces) if piece.kind in DECLARING), default=-1)
+        meaning.row_lines = [at for at, each in enumerate(shown) if each.row is not None]
+        meaning.is_straight = all(piece.is_straight for piece in pieces)
+        meaning.is_full = self._is_full
+        return meaning
 
     def _line(self, piece: Piece) -> Shown:
         """What a line is, below those that were read."""
@@ -124,6 +127,7 @@ class Reader:
         if piece.place == "after" and not self._is_alive(piece.row):
             return Shown(piece, NO_ROW)
         if self._alive >= MOST_ROWS and wrong_column(piece.line) is None:
+            self._is_full = True
             return Shown(piece, ROWS_FULL)
         if refused := self._verdicts.of(piece, self._above):
             return Shown(piece, refused)
@@ -185,34 +189,55 @@ def standing(rows: Sequence[FileRow]) -> dict[FileRow, FileRow | None]:
     return stands
 
 
-def spliced(before: Meaning, lines: list[str], verdicts: Verdicts, above: set[str], hold: bool) -> Meaning | None:
+def spliced(
+    before: Meaning, lines: list[str], same: tuple[int, int], verdicts: Verdicts, above: set[str], hold: bool
+) -> Meaning | None:
     """The meaning of a text that differs from an earlier one in rows, looks, input data and comments alone; else None.
 
-    It reads the lines that differ. With `hold`, a line that was a row and is refused keeps the row that it was.
+    It reads the lines that differ: all but the `same` ones at the start and at the end. With `hold`, a line that was a
+    row and is refused keeps the row that it was.
     """
-    low, high = ends(before.lines, lines)
-    olds = before.shown[low : len(before.lines) - high]
-    news = [piece_of(line) for line in lines[low : len(lines) - high]]
+    low, high = same[0], len(lines) - same[1]
+    olds = before.shown[low : len(before.lines) - same[1]]
+    news = [piece_of(line) for line in lines[low:high]]
     start = bisect_left(before.row_lines, low)
     end = start + sum(shown.row is not None for shown in olds)
     if not may_splice(before, low, news, start - end):
         return None
-    rows, shown, is_held = before.rows[:start], list[Shown](), before.is_held
-    olds_by_place = olds if hold and len(olds) == len(news) else []
+    shown = read_again(olds if hold and len(olds) == len(news) else [], news, before.rows[:start], verdicts, above)
+    put = [each.row for each in shown if each.row is not None]
+    rows = [*before.rows[:start], *put]
+    rest = moved_looks(before.shown[len(before.lines) - same[1] :], rows[-1] if rows else None)
+    more = len(lines) - len(before.lines)
+    here = [low + at for at, each in enumerate(shown) if each.row is not None]
+    return Meaning(
+        lines,
+        [*before.shown[:low], *shown, *rest],
+        [*rows, *before.rows[end:]],
+        head=before.head,
+        row_lines=[*before.row_lines[:start], *here, *(at + more for at in before.row_lines[end:])],
+        is_straight=True,
+        is_held=before.is_held or any(each.refused and each.row is not None for each in shown),
+        has_inputs=any(each.kind is Kind.INPUT for each in (*olds, *shown)),
+        hunk=Hunk(start, end, len(rows)),
+    )
+
+
+def read_again(
+    olds: Sequence[Shown], news: Sequence[Piece], rows: list[FileRow], verdicts: Verdicts, above: set[str]
+) -> list[Shown]:
+    """What new lines are, below these rows. A refused one keeps the row of the old line in its place, if it has one."""
+    shown: list[Shown] = []
     for at, piece in enumerate(news):
         refused = verdicts.of(piece, above)
-        held = olds_by_place[at].row if refused and olds_by_place else None
+        held = olds[at].row if refused and olds else None
         text = held.text if held is not None else piece.text if piece.kind is Kind.ROW and not refused else ""
         row = FileRow(text) if text else None
-        rows += [row] if row is not None else []
-        is_held = is_held or held is not None
-        anchor = rows[-1] if rows and piece.kind is Kind.SHOW and piece.place == "end" and not refused else None
-        shown.append(Shown(piece, refused, row, anchor))
-    new_end = len(rows)
-    shown += moved_looks(before.shown[len(before.lines) - high :], rows[-1] if rows else None)
-    rows += before.rows[end:]
-    hunk = Hunk(start, end, new_end)
-    return Meaning(lines, before.shown[:low] + shown, rows, [], True, is_held, hunk)
+        if row is not None:
+            rows.append(row)
+        is_look = piece.kind is Kind.SHOW and piece.place == "end" and not refused
+        shown.append(Shown(piece, refused, row, rows[-1] if rows and is_look else None))
+    return shown
 
 
 def may_splice(before: Meaning, low: int, news: Sequence[Piece], more: int) -> bool:
@@ -222,8 +247,8 @@ def may_splice(before: Meaning, low: int, news: Sequence[Piece], more: int) -> b
         before.is_straight
         and low >= before.head
         and count <= MOST_ROWS
+        and not before.is_full
         and all(piece.is_straight for piece in news)
-        and not any(shown.refused == ROWS_FULL for shown in before.shown[low:])
         and not any(shown.refused for shown in before.shown[: before.head] if shown.kind in DECLARING)
     )
 

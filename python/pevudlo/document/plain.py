@@ -6,8 +6,9 @@ import time
 from collections.abc import Callable, Iterator
 
 from pevudlo.document.document import Document
-from pevudlo.document.marks import State, headline, mark_of
+from pevudlo.document.marks import headline, mark_of
 from pevudlo.document.pieces import Kind
+from pevudlo.document.states import State
 from pevudlo.document.update import Update
 from pevudlo.draw.visible import visible
 

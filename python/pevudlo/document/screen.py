@@ -12,8 +12,9 @@ from collections.abc import Iterator
 from contextlib import contextmanager
 
 from pevudlo.document.document import Document
-from pevudlo.document.marks import Mark, State, headline, mark_of
+from pevudlo.document.marks import headline, mark_of
 from pevudlo.document.pieces import Kind
+from pevudlo.document.states import Mark, State
 from pevudlo.document.update import Update
 from pevudlo.draw.visible import visible
 

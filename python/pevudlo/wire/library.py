@@ -129,22 +129,14 @@ class Library:
         if "\n" in line:
             raise ValueError("one line is asked at a time")
         with self._turn():
-            data = line.encode("utf-8", "surrogateescape")
-            try:
-                outcome = self._answer(self._at, data, len(data), self._length_at)
-                text = self._replied() if outcome == Outcome.OK else b""
-            except BaseException:
-                self._end("the session was stopped")
-                raise
-        if outcome != Outcome.OK:
-            raise trouble(outcome)
-        if text.startswith(b"refused"):
-            self._status = 1
-        return text.decode("utf-8", "surrogateescape").split("\n")[:-1]
+            return self._answered(line)
 
     def ask_all(self, lines: Sequence[str]) -> list[list[str]]:
         """The replies to many lines, as by `ask` of one after another."""
-        return [self.ask(line) for line in lines]
+        if any("\n" in line for line in lines):
+            raise ValueError("each line is one line")
+        with self._turn():
+            return [self._answered(line) for line in lines]
 
     def set(self, key: str, first: int, words: Words) -> bool:
         """Gives a key these numbers from a processor on, as one edit. False where that is refused, and nothing done."""
@@ -196,6 +188,21 @@ class Library:
             yield
         finally:
             self._lock.release()
+
+    def _answered(self, line: str) -> list[str]:
+        """The lines of the reply to a line, in a turn."""
+        data = line.encode("utf-8", "surrogateescape")
+        try:
+            outcome = self._answer(self._at, data, len(data), self._length_at)
+            text = self._replied() if outcome == Outcome.OK else b""
+        except BaseException:
+            self._end("the session was stopped")
+            raise
+        if outcome != Outcome.OK:
+            raise trouble(outcome)
+        if text.startswith(b"refused"):
+            self._status = 1
+        return text.decode("utf-8", "surrogateescape").split("\n")[:-1]
 
     def _replied(self) -> bytes:
         """The bytes of the kept reply."""

@@ -1,0 +1,27 @@
+"""What becomes of a line, for who looks at it."""
+
+from __future__ import annotations
+
+from dataclasses import dataclass
+from enum import Enum
+
+
+class State(Enum):
+    """What became of a line, with its sign."""
+
+    RAN = "▶"
+    SAME = "="
+    KEPT = " "
+    REFUSED = "✗"
+    FAULT = "!"
+    LOOK = "→"
+    PASSED = "·"
+    NONE = ""
+
+
+@dataclass(frozen=True)
+class Mark:
+    """What stands beside a line."""
+
+    state: State
+    text: str
