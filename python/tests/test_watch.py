@@ -3,6 +3,7 @@
 from __future__ import annotations
 
 import os
+import re
 import select
 import signal
 import subprocess
@@ -250,6 +251,15 @@ def test_what_is_told_in_lines() -> None:
         "  8: show c end: c 4 8 12 20",
     ]
     assert fourth == ["0 of 2 rows ran again; 1 line is refused"]
+
+
+def test_it_tells_what_the_document_says() -> None:
+    document = (ROOT / "docs/PEOPLE.md").read_text(encoding="utf-8").split("\n## watch\n")[1]
+    text, first, rest = re.findall(r"^```\n(.*?)^```$", document, re.S | re.M)
+    texts = [text, text.replace("1 2 3", "1 7 3")]
+    texts += [texts[1].replace("u-max", name) for name in ("u-mx", "u-min")]
+    told = told_of(texts)
+    assert told[0] == first.splitlines() and [line for part in told[1:] for line in part] == rest.splitlines()
 
 
 def test_of_many_rows_some_are_told() -> None:
