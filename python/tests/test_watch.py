@@ -2,12 +2,15 @@
 
 from __future__ import annotations
 
+import fcntl
 import os
 import re
 import select
 import signal
+import struct
 import subprocess
 import sys
+import termios
 import time
 from collections.abc import Callable, Iterator
 from pathlib import Path
@@ -349,6 +352,20 @@ def test_a_file_on_a_terminal(path: Path, tmp_path: Path) -> None:
         assert "✗ u-ad a" in second and "refused 20 1" in second
         terminal.press("j")
         assert "b 2 4 6 10*" in terminal.until("q ends")
+        path.unlink()
+        third = terminal.until("q ends")
+        assert " sum.paris: the file isn't there; what" in third and "b 2 4 6 10*" in third
+        fcntl.ioctl(terminal.end, termios.TIOCSWINSZ, struct.pack("HHHH", 20, 60, 0, 0))
+        assert "b 2 4 6 10*" in terminal.until("▶ ran again, * other than before, = ran with the same valu…")
+        terminal.press("q")
+        assert terminal.wait() == 0
+
+
+def test_a_terminal_without_a_program(path: Path, tmp_path: Path) -> None:
+    with Terminal(
+        tmp_path, "--workers", "1", str(path), command="watch", is_quiet=False, program=Path("/bin/false")
+    ) as terminal:
+        assert " sum.paris: the program has ended" in terminal.until("(exit status 1); the next text begins anew")
         terminal.press("q")
         assert terminal.wait() == 0
 

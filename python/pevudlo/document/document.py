@@ -162,6 +162,11 @@ class Document:
         return self._book
 
     @property
+    def is_in_step(self) -> bool:
+        """Whether the book is that of the text: not so before the first text, and where the last update was stopped."""
+        return not self._why
+
+    @property
     def lines(self) -> list[str]:
         """The lines of the text."""
         return self.meaning.lines

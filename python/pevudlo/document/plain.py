@@ -27,21 +27,21 @@ class Plain:
     def show(self, done: Update) -> None:
         """Tells of an update."""
         document = self._document
-        self._say(headline(document, done))
+        self._say(visible(headline(document, done)))
         told = 0
         for number, words in self._news(done):
             told += 1
             if told > MOST_TOLD:
                 self._say(f"  lines from {number + 1} on aren't told of, since they are too many")
                 break
-            self._say(f"  {number + 1}: {visible(document.lines[number])}: {words}")
+            self._say(f"  {number + 1}: {visible(document.lines[number])}: {visible(words)}")
         self._refused = {
             (document.lines[at], shown.refused) for at, shown in enumerate(document.shown) if shown.refused
         }
 
     def trouble(self, words: str) -> None:
         """Tells why there is nothing new."""
-        self._say(words)
+        self._say(visible(words))
 
     def rest(self, seconds: float) -> bool:
         """Waits so long. Nobody ends it here."""
@@ -59,7 +59,7 @@ class Plain:
             elif shown.row is not None and shown.row.book in done.ran:
                 mark = mark_of(document, number, done)
                 same = ", the same as before" if mark.state is State.SAME else ""
-                yield number, visible(mark.text) + same
+                yield number, mark.text + same
             elif shown.kind is Kind.SHOW and len(self._looks) < MOST_TOLD:
                 at = shown.key, shown.anchor.book if shown.anchor is not None else 0
                 self._looks[at] = words = mark_of(document, number, done).text

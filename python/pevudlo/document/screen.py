@@ -43,11 +43,12 @@ class Screen:
     def __init__(self, document: Document, name: str) -> None:
         self._document, self._name = document, name
         self._top, self._done, self._trouble = 0, Update(), ""
+        self._size = shutil.get_terminal_size()
 
     def show(self, done: Update) -> None:
         """Draws what an update did. Where nothing of it is visible it goes to the first line that ran or is refused."""
         self._done, self._trouble = done, ""
-        height = shutil.get_terminal_size().lines - 2
+        height = self._size.lines - 2
         news = [
             at
             for at, shown in enumerate(self._document.shown)
@@ -65,6 +66,8 @@ class Screen:
     def rest(self, seconds: float) -> bool:
         """Waits so long, or for keys. False where it is to end."""
         if not select.select([sys.stdin], [], [], seconds)[0]:
+            if self._size != shutil.get_terminal_size():
+                self._draw()
             return True
         key = os.read(sys.stdin.fileno(), 16)
         if key in (b"q", b""):
@@ -76,12 +79,12 @@ class Screen:
 
     def _draw(self) -> None:
         """Draws all of the screen."""
-        columns, height = shutil.get_terminal_size()
+        self._size = columns, height = shutil.get_terminal_size()
         lines = self._document.lines
         self._top = max(0, min(self._top, len(lines) - height + 2))
         seen = range(self._top, min(len(lines), self._top + height - 2))
         left = min(max([20, *(len(visible(lines[at])) for at in seen)]), columns * 45 // 100)
-        head = f" {self._name}: {self._trouble or (headline(self._document, self._done) if lines else '')}"
+        head = visible(f" {self._name}: {self._trouble or headline(self._document, self._done)}")
         rows = [self._line(at, left, columns) for at in seen]
         foot = f"\x1b[{height};1H\x1b[2m{cut(' ' + FEET, columns)}\x1b[0m"
         top = f"\x1b[H\x1b[7m{cut(head, columns).ljust(columns)}\x1b[0m\r\n"
@@ -90,7 +93,8 @@ class Screen:
 
     def _line(self, at: int, left: int, columns: int) -> str:
         """A line with its number, its sign, its text and its values."""
-        mark = Mark(State.NONE, "") if self._trouble else mark_of(self._document, at, self._done)
+        is_known = self._document.is_in_step
+        mark = mark_of(self._document, at, self._done) if is_known else Mark(State.NONE, "")
         tone = TONES.get(mark.state, "0")
         pale = "2" if self._document.shown[at].kind in (Kind.NOTHING, Kind.TIME) else "0"
         text = cut(visible(self._document.lines[at]), left).ljust(left)
