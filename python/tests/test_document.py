@@ -238,6 +238,17 @@ def test_a_book_that_another_changes_is_begun_anew(begin: Begin) -> None:
             compare(document, document.lines)
 
 
+def test_nothing_is_kept_of_rows_that_are_gone(begin: Begin) -> None:
+    with Document(begin) as document:
+        document.update(HOLDING)
+        for at in range(40):
+            document.update(HOLDING + f"u-move-constant-1L {'abc'[at % 3]} {at} 8\n" + MAX * (at % 2))
+            seen = [document.written(row) for row in document.rows]
+        rows = {row.book for row in document.rows}
+        kept = [document._looks.keys(), document._before.keys(), [(row, "") for row in document.book.editions]]
+        assert len(seen) == 5 and all({row for row, _ in each} <= rows for each in kept)
+
+
 def test_a_program_that_ends_is_begun_anew() -> None:
     with Document(program) as document:
         document.update(HOLDING)

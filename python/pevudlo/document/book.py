@@ -59,7 +59,7 @@ class Book:
 
     def begin(self, pieces: Sequence[Piece]) -> list[str]:
         """Tells whole lines as a fresh run has them, in one write, and gives those that change something."""
-        told = [piece for piece in pieces if piece.kind not in (Kind.NOTHING, Kind.TIME)]
+        told = told_first(pieces)
         lines = [f"show {piece.key} end" if piece.kind is Kind.SHOW else piece.line for piece in told]
         replies = [reply[0] for reply in self.peer.ask_all(lines)]
         for piece, reply in zip(told, replies):
@@ -182,6 +182,20 @@ class Book:
                 ran.append(row.book)
         self._listed, self._rows = listed, rows
         return ran
+
+
+def told_first(pieces: Sequence[Piece]) -> list[Piece]:
+    """What a new book is told: all that changes something, and one look at a key between two declarations."""
+    told: list[Piece] = []
+    looked: set[str] = set()
+    for piece in pieces:
+        if piece.kind in DECLARING:
+            looked.clear()
+        if piece.kind not in (Kind.NOTHING, Kind.TIME) and not (piece.kind is Kind.SHOW and piece.key in looked):
+            told.append(piece)
+        if piece.kind is Kind.SHOW:
+            looked.add(piece.key)
+    return told
 
 
 def same_ends(old: Sequence[FileRow], new: Sequence[FileRow]) -> Hunk:

@@ -7,7 +7,7 @@ are settled. All numbers and all refusals are replies of the program.
 
 from __future__ import annotations
 
-from collections.abc import Callable
+from collections.abc import Callable, Container
 from dataclasses import replace
 
 from pevudlo.document.book import Book, short_line
@@ -103,6 +103,14 @@ class Document:
             book.to_inputs(meaning.shown, done)
         self.meaning, self._declared = meaning, declared
         book.settle(meaning.rows, done)
+        if done.sent:
+            self._forget(book.editions)
+
+    def _forget(self, present: Container[int]) -> None:
+        """Drops what was seen of rows that are gone."""
+        self._looks = {at: seen for at, seen in self._looks.items() if at[0] in present}
+        self._before = {at: numbers for at, numbers in self._before.items() if at[0] in present}
+        self.marks = {row: mark for row, mark in self.marks.items() if row in present}
 
     def _declarations(self, lines: list[str], same: tuple[int, int]) -> tuple[list[str], list[str]]:
         """The declarations of a text, and those that come to the present ones. `same` are the lines at both ends."""
