@@ -14,6 +14,7 @@ from random import Random
 import pytest
 from random_editor import LOST, compare, edited, saved
 
+from pevudlo.document import verdicts
 from pevudlo.document.differences import by_few_edits, matched
 from pevudlo.document.document import Document
 from pevudlo.document.update import Update
@@ -66,6 +67,12 @@ def test_a_random_editor(seed: int, request: pytest.FixtureRequest) -> None:
     with Document(library_of(request) if seed % 3 == 2 else program) as document:
         values = edited(document, seed, TEXTS_EACH, see)
     assert values > 100 and ran < rows
+
+
+def test_a_random_editor_with_few_refusals_kept(monkeypatch: pytest.MonkeyPatch) -> None:
+    monkeypatch.setattr(verdicts, "MOST_KEPT", 3)
+    with Document(program) as document:
+        assert edited(document, 8, TEXTS_EACH) > 100
 
 
 SET = "set S 4\n"

@@ -182,6 +182,21 @@ def test_states_of_lines() -> None:
         assert "=" in states(told, again)
 
 
+def test_values_that_stand_are_those_of_the_last_run() -> None:
+    """A row runs, stands, runs again and stands: what stands beside it is of its last run, and of its last length."""
+    with document() as told:
+        for number in (2, 7, 2):
+            text = TEXT.replace("1 2 3 4", f"1 {number} 3 4")
+            told.update(text)
+            for comment, most in (("# One.", 40), ("# Two.", 40), ("# Three.", 3)):
+                done = told.update(f"{text}{comment}\n")
+                b = numbers_of(Fresh(text.split("\n")[:-1]).answers(["show b after 1"])[0])
+                mark = mark_of(told, 5, done, most)
+                assert mark.state is State.KEPT
+                assert mark.text.startswith(f"b {b[0]} {b[1]} {b[2]} {b[3]}  carry" if most == 40 else f"b {b[0]}")
+                assert ("…" in mark.text) == (most == 3)
+
+
 def test_a_row_that_is_refused_for_its_data() -> None:
     meet = "set S 4\nfield to S 2\nfield v S 8\nfield d S 8\ninput to 0 0 0 1 2\nsend-1L d to v 8 none\n"
     with document() as told:

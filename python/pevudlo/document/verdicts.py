@@ -15,6 +15,9 @@ ROWS_FULL = "refused 11"
 JUDGED = (Kind.ROW, Kind.REPLACE, Kind.INPUT, Kind.SHOW, Kind.WRONG)
 """The kinds of lines that have a verdict by their text. Declarations are judged by a fresh run alone."""
 
+MOST_KEPT = 100_000
+"""How many refusals are kept: a day of typing has many."""
+
 NOTHING: frozenset[str] = frozenset()
 
 
@@ -57,6 +60,9 @@ class Verdicts:
             if early:
                 raise NewBook(f"`{min(early)}` is declared below a line that names it")
             known = self._kept[asked, early] = self._ask(piece, asked)
+            if len(self._kept) > MOST_KEPT:
+                # Those of names further down only a fresh run can give.
+                self._kept = {key: refused for key, refused in self._kept.items() if key[1]}
         return known
 
     def note(self, piece: Piece, above: Set[str], reply: str) -> None:
