@@ -1,5 +1,5 @@
 -- Words that are refused stop the program before it reads.
-use Rattle.std.proofs.Common.{◌≡◌, ℕ, ◌<◌, List, [], Option, None, Some, refl, arith, ap, false}
+use Rattle.std.proofs.Common.{◌≡◌, ℕ, ◌<◌, ◌⊎◌, List, [], Option, None, Some, refl, arith, ap, false}
 use Rattle.std.proofs.KnownBytes.{Consumes-nil, Appends-nil}
 use Rattle.paris_session.specs.Transcript.{transcript}
 use Rattle.std.specs.Io.KnownBytes.{Appends, Keeps}
@@ -8,7 +8,7 @@ use Rattle.paris_calls.specs.Texts.{WritesFront}
 use Rattle.paris_session.specs.declared.run.RunFault.TheVariants as run_fault
 use Rattle.paris_cli.specs.declared.words.WordsFault.{WordsFault}
 use Rattle.paris_cli.specs.declared.words.WordsFault.TheVariants.{Usage, Untold, NotText, NoMemory}
-use Rattle.paris_cli.specs.Words.{refusal_line, refusal_status}
+use Rattle.paris_cli.specs.Words.{AreTaken, refusal_line, refusal_status}
 use Rattle.paris_cli.specs.Program.{Stops, TellsOfWords}
 
 pub stops_at_words : (reader writer errors_old errors_new : Option (List ℕ)) (run errors : Marks) (fault : WordsFault) (status : ℕ) → run ≡ no_marks
@@ -39,12 +39,13 @@ keeps_all None = tt
 keeps_all (Some xs) = refl
 
 -- words that ask for a desk, and are refused
-pub tells_of_words : (reader writer errors_old errors_new : Option (List ℕ)) (run errors : Marks) (fault : WordsFault) (status : ℕ) → run ≡ no_marks
-    → status ≡ refusal_status fault
+pub tells_of_words : (words : List (List ℕ)) (reader writer errors_old errors_new : Option (List ℕ)) (run errors : Marks) (fault : WordsFault) (status : ℕ)
+    → run ≡ no_marks → (fault ≡ NoMemory) ⊎ (AreTaken words → ⊥) → status ≡ refusal_status fault
     → WritesFront errors_old errors_new (refusal_line fault) → (errors.write_failed ≡ false → Appends errors_old errors_new (refusal_line fault))
-    → TellsOfWords reader reader writer writer errors_old errors_new run errors status
-tells_of_words reader writer errors_old errors_new run errors fault status fresh is said whole = record {
+    → TellsOfWords words reader reader writer writer errors_old errors_new run errors status
+tells_of_words words reader writer errors_old errors_new run errors fault status fresh untaken is said whole = record {
   fault = fault;
+  untaken = untaken;
   status_is = is;
   unread = keeps_all reader;
   unwritten = keeps_all writer;

@@ -10,8 +10,9 @@ use Rattle.paris_names.specs.declared.faults.Fault.TheVariants.{NoEntry}
 use Rattle.paris_parts.specs.declared.run.DeskRunFault.{DeskRunFault}
 use Rattle.paris_parts.specs.declared.run.DeskRunFault.TheVariants as desk
 use Rattle.paris_parts.specs.Run.{HasDeskCause, Runs}
-use Rattle.paris_cli.specs.Words.{AskFor, refusal_line, refusal_status}
+use Rattle.paris_cli.specs.Words.{AreTaken, AskFor, refusal_line, refusal_status}
 use Rattle.paris_cli.specs.declared.words.WordsFault.{WordsFault}
+use Rattle.paris_cli.specs.declared.words.WordsFault.TheVariants as words_fault
 use Rattle.paris_session.specs.declared.run.RunFault.{RunFault}
 use Rattle.paris_session.specs.declared.run.RunFault.TheVariants.{Read, Write, TooLong, NoMemory}
 
@@ -99,10 +100,11 @@ pub record StopsAtDesk (workers : ℕ) (reader_old reader_new writer_old writer_
   pub named : WritesFront errors_old errors_new (desk_fault_line fault)
   pub whole : errors.write_failed ≡ false → Appends errors_old errors_new (desk_fault_line fault)
 
--- the words were refused, and the status says why: nothing was read and nothing was written, and a front of what is said of them was: all of
--- it, unless that writer has failed
-pub record TellsOfWords (reader_old reader_new writer_old writer_new errors_old errors_new : Option (List ℕ)) (run errors : Marks) (status : ℕ) : Type 0 where
+-- the words were refused, since they aren't taken or there is no memory, and the status says which: nothing was read and nothing was
+-- written, and a front of what is said of them was: all of it, unless that writer has failed
+pub record TellsOfWords (words : List (List ℕ)) (reader_old reader_new writer_old writer_new errors_old errors_new : Option (List ℕ)) (run errors : Marks) (status : ℕ) : Type 0 where
   pub fault : WordsFault
+  pub untaken : (fault ≡ words_fault.NoMemory) ⊎ (AreTaken words → ⊥)
   pub status_is : status ≡ refusal_status fault
   pub unread : Keeps reader_old reader_new
   pub unwritten : Keeps writer_old writer_new
@@ -114,4 +116,4 @@ pub record TellsOfWords (reader_old reader_new writer_old writer_new errors_old 
 abbrev pub Halts : List (List ℕ) → Option (List ℕ) → Option (List ℕ) → Option (List ℕ) → Option (List ℕ) → Option (List ℕ) → Option (List ℕ) → Marks → Marks → ℕ → Type 0
 Halts words reader_old reader_new writer_old writer_new errors_old errors_new run errors status =
     ((workers : ℕ) × ((k : ℕ) → AskFor words k → workers ≡ k) × StopsAtDesk workers reader_old reader_new writer_old writer_new errors_old errors_new run errors status)
-    ⊎ TellsOfWords reader_old reader_new writer_old writer_new errors_old errors_new run errors status
+    ⊎ TellsOfWords words reader_old reader_new writer_old writer_new errors_old errors_new run errors status
