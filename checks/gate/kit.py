@@ -114,19 +114,20 @@ def drop(crates: list[Any]) -> None:
             shutil.rmtree(Path(crate.rlib).parent)
 
 
-Task = tuple[list[Any], int, int, Callable[[int], bool]]
+Task = tuple[list[Any], int, int, int, Callable[[int], bool]]
 
 
 def in_lanes(tasks: dict[Any, Task], lanes: int, memory: int) -> dict[Any, bool]:
     """Runs tasks side by side and says of each whether it went well. A task is: those that it waits for, its weight, its bytes of memory,
-    and a call that gets how many jobs it may use. Those with no weight are called at once, since nothing is left to do in them. Of the
-    others first come those with the most weight behind them. One that waits for a task that didn't go well isn't run."""
+    how many jobs it can use, and a call that gets how many it may use. Those with no weight are called at once, since nothing is left to do
+    in them. Of the others first come those with the most weight behind them, and the very first gets half of the idle lanes at least. One
+    that waits for a task that didn't go well isn't run."""
     behind = {key: 0 for key in tasks}
     for key in reversed([*tasks]):
         behind[key] += tasks[key][1]
         for below in tasks[key][0]:
             behind[below] = max(behind[below], behind[key])
-    ended = {key: call(1) for key, (_, weight, _, call) in tasks.items() if not weight}
+    ended = {key: call(1) for key, (_, weight, _, _, call) in tasks.items() if not weight}
     left = sorted((key for key in tasks if key not in ended), key=lambda key: -behind[key])
     running: dict[Future[bool], tuple[Any, int, int]] = {}
     with ThreadPoolExecutor(lanes) as pool:
@@ -138,11 +139,12 @@ def in_lanes(tasks: dict[Any, Task], lanes: int, memory: int) -> dict[Any, bool]
             for place, key in enumerate(ready):
                 idle = lanes - sum(jobs for _, _, jobs in running.values())
                 room = memory - sum(needs for _, needs, _ in running.values())
-                needs = tasks[key][2]
+                needs, most = tasks[key][2:4]
                 if idle > 0 and (needs <= room or not running):
-                    jobs = max(1, min(4, idle // (len(ready) - place), 1 + int((room / needs - 1) / 0.6)))
+                    share = max(idle // (len(ready) - place), 0 if place else (idle + 1) // 2)
+                    jobs = max(1, min(most, share, 1 + int((room / needs - 1) / 0.6)))
                     left.remove(key)
-                    running[pool.submit(tasks[key][3], jobs)] = key, int(needs * (1 + 0.6 * (jobs - 1))), jobs
+                    running[pool.submit(tasks[key][4], jobs)] = key, int(needs * (1 + 0.6 * (jobs - 1))), jobs
             for done in wait(running, return_when=FIRST_COMPLETED).done if running else ():
                 ended[running.pop(done)[0]] = done.result()
     return ended
