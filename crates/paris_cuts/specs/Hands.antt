@@ -10,7 +10,8 @@ use Rattle.paris_machine.specs.Lists.{fault_by}
 use Rattle.paris_machine.specs.declared.events.Event.TheVariants as event
 use Rattle.paris_machine.specs.declared.events.Reply.{Reply}
 use Rattle.paris_machine.specs.declared.events.Reply.TheVariants as reply
-use Rattle.paris_text.specs.CommandReading.{command_of}
+use Rattle.paris_text.specs.CommandReading.{command_in}
+use Rattle.paris_text.specs.declared.verbs.Setting.TheVariants.{SharedBook}
 use Rattle.paris_text.specs.declared.commands.Command.{Command}
 use Rattle.paris_text.specs.declared.commands.Command.TheVariants as command
 use Rattle.paris_replies.specs.Replies.{ok_text, edit_text, order_text, nothing_text, verdict_text, list_text, refusal_text}
@@ -46,7 +47,7 @@ abbrev pub bring_asked : Option Task → Asked
 bring_asked None = asks.Refused NoOrder
 bring_asked (Some order) = asks.Call (event.Bring order)
 
--- what a command asks for, where these orders were taken. A session that has a seat settles nothing
+-- what a command asks for, where these orders were taken. No line of a session that has a seat is `settle`
 abbrev pub asked_by : List Task → Command → Asked
 asked_by tray (command.Edit e) = asks.Call (event.Edit e)
 asked_by tray command.Take = asks.Call event.Take
@@ -64,7 +65,7 @@ asked_by_read tray (Err column) = asks.Refused (Syntax column)
 
 -- what a line asks for
 abbrev pub asked_by_line : List Task → List ℕ → Asked
-asked_by_line tray line = if nat_lt longest_line (length line) then asks.Refused (Syntax (longest_line + 1)) else asked_by_read tray (command_of line)
+asked_by_line tray line = if nat_lt longest_line (length line) then asks.Refused (Syntax (longest_line + 1)) else asked_by_read tray (command_in SharedBook line)
 
 -- whether a line is skipped: it is empty, or begins with `#`
 abbrev pub is_skipped : List ℕ → Bool

@@ -1,7 +1,8 @@
 //! What the lines of a part ask for, and what is told of the replies.
 
 ghost use Rattle.std.specs.Prelude.{◌≡◌, ◌^◌, ◌<◌, ◌≤◌, length, nat_lt, Some, IfOk, IfSome, OnErr, option_map};
-ghost use Rattle.paris_text.specs.CommandReading.{command_of};
+ghost use Rattle.paris_text.specs.CommandReading.{command_in};
+ghost use Rattle.paris_text.specs.declared.verbs.Setting.TheVariants.{SharedBook};
 ghost use Rattle.paris_session.specs.Transcript.{longest_line, order_at, shown_text};
 ghost use Rattle.paris_book.specs.Among.{look_shown};
 ghost use Rattle.paris_replies.specs.Replies.{faults_text};
@@ -17,7 +18,7 @@ use paris_machine::{Event, Reply};
 use paris_names::Fault;
 use paris_names::limits::MAX_LINE;
 use paris_replies::Room;
-use paris_text::{Command, read_command};
+use paris_text::{Command, Setting, read_command_in};
 use std::alloc::{AllocError, Global};
 use std::marker::Model;
 
@@ -131,15 +132,16 @@ impl Player {
             Command::Show { key, spot } => Ok(Asked::Look(key, spot)),
             Command::List => Ok(Asked::Call(Event::List)),
             Command::Faults => Ok(Asked::Faults),
+            // (no line of a book that is shared says so)
             Command::Settle => Ok(Asked::Refused(Fault::Syntax(1))),
         }
     }
 
     /// What a line asks for that is no longer than a line may be.
     fn asked_by_read(&self, line: &[u8]) -> Result<Asked, AllocError>
-        ensures { IfOk result (λ asked. asked ≡ asked_by_read self.now.tray (command_of line.now)) }
+        ensures { IfOk result (λ asked. asked ≡ asked_by_read self.now.tray (command_in SharedBook line.now)) }
     {
-        match read_command(self.alloc(), line) {
+        match read_command_in(self.alloc(), Setting::SharedBook, line) {
             Ok(command) => self.asked_by(command),
             Err(fault) => {
                 if fault.is_no_memory() {

@@ -6,20 +6,22 @@ use Rattle.std.proofs.lemmas.Result.{MatchResult-at_ok, MatchResult-at_err}
 use Rattle.paris_events.specs.declared.edits.Edit.TheVariants as edit
 use Rattle.paris_text.specs.declared.verbs.Verb.{Verb}
 use Rattle.paris_text.specs.declared.verbs.Verb.TheVariants as verb
+use Rattle.paris_text.specs.declared.verbs.Setting.{Setting}
+use Rattle.paris_text.specs.declared.verbs.Setting.TheVariants.{OwnBook}
 use Rattle.paris_text.specs.declared.commands.Command.{Command}
 use Rattle.paris_text.specs.declared.commands.Command.TheVariants as command
 use Rattle.paris_text.specs.Words.{words}
-use Rattle.paris_text.specs.Verbs.{verb_text, verb_word}
+use Rattle.paris_text.specs.Verbs.{verb_text, verb_in, allows}
 use Rattle.paris_text.specs.Kinds.{key_text}
 use Rattle.paris_text.specs.Columns.{IsColumn}
 use Rattle.paris_text.specs.Shapes.{spot_words, shape_of, IsOf, IsCommandLine}
-use Rattle.paris_text.specs.Commands.{command_words, command_spelling, IsCommandInBounds}
+use Rattle.paris_text.specs.Commands.{command_words, command_spelling, IsCommandInBounds, verb_of, MayStand}
 use Rattle.paris_text.specs.Reading.{◌>>=◌, read_word}
-use Rattle.paris_text.specs.CommandReading.{ShapeMeaning, shape_at, command_from, verb_at, rest_at, command_at, command_of}
+use Rattle.paris_text.specs.CommandReading.{ShapeMeaning, shape_at, command_from, verb_at, rest_at, command_at, command_in}
 use Rattle.paris_text.specs.Laws.{CommandsAreRead, ColumnsOfCommands, CommandSpellingsDiffer, LinesAreCommands}
 use Rattle.paris_text.proofs.JoinLemmas.{split_joined}
 use Rattle.paris_text.proofs.MnemonicLemmas.{is_spaceless}
-use Rattle.paris_text.proofs.VerbLemmas.{verb_found, found_verb, verb_spaceless}
+use Rattle.paris_text.proofs.VerbLemmas.{verb_found_in, found_verb_in, verb_spaceless, take_is_allowed}
 use Rattle.paris_text.proofs.ColumnLemmas.{line_has_no_column, column_is_unique}
 use Rattle.paris_text.proofs.StepLemmas.{goes_on, goes_behind, wrong_word, missing_word, after_word}
 use Rattle.paris_text.proofs.ShapeLemmas.{shape_words, ShapeMeaningFits, IsMeant, shape_read, shape_back, shape_spaceless}
@@ -47,6 +49,10 @@ fits_from verb.List xs fit = tt
 fits_from verb.Faults xs fit = tt
 fits_from verb.Settle xs fit = tt
 
+verb_from : (v : Verb) (xs : ShapeMeaning (shape_of v)) → verb_of (command_from v xs) ≡ v
+verb_from verb.Set xs = refl
+verb_from _ xs = refl
+
 -- the meanings that a command is made of
 record MadeOf (c : Command) : Type 0 where
   first : Verb
@@ -70,52 +76,55 @@ made_of command.Faults fit = record { first = verb.Faults; means = tt; whole = r
 made_of command.Settle fit = record { first = verb.Settle; means = tt; whole = refl; fits = tt }
 
 -- what these words read as
-record IsReadAs (ws : List (List ℕ)) (c : Command) : Type 0 where
+record IsReadAs (s : Setting) (ws : List (List ℕ)) (c : Command) : Type 0 where
   same : command_words c ≡ ws
-  fit : IsCommandInBounds c
-  inside : IsCommandLine ws
+  fit : MayStand s c
+  inside : IsCommandLine s ws
 
-abbrev Answers : List (List ℕ) → Result Command ℕ → Type 0
-Answers ws r = MatchResult r (IsReadAs ws) (λ e. IsColumn IsCommandLine ws e)
+abbrev Answers : Setting → List (List ℕ) → Result Command ℕ → Type 0
+Answers s ws r = MatchResult r (IsReadAs s ws) (λ e. IsColumn (IsCommandLine s) ws e)
 
-verb_is : (v : Verb) (w : List ℕ) (xs : List (List ℕ)) → verb_word w ≡ Some v → IsCommandLine (w ∷ xs) → IsOf (shape_of v) xs
-verb_is v w xs found (u, is, all) =
-    let again : verb_word w ≡ Some u = subst (λ (t : List ℕ). verb_word t ≡ Some u) (sym is) (verb_found u) in
+verb_is : (s : Setting) (v : Verb) (w : List ℕ) (xs : List (List ℕ)) → verb_in s w ≡ Some v → IsCommandLine s (w ∷ xs) → IsOf (shape_of v) xs
+verb_is s v w xs found (u, is, may, all) =
+    let again : verb_in s w ≡ Some u = subst (λ (t : List ℕ). verb_in s t ≡ Some u) (sym is) (verb_found_in s u may) in
     let same : v ≡ u = cc in
     subst (λ (t : Verb). IsOf (shape_of t) xs) (sym same) all
 
-not_a_verb : (w : List ℕ) (xs : List (List ℕ)) → verb_word w ≡ None → IsCommandLine (w ∷ xs) → ⊥
-not_a_verb w xs none (u, is, all) =
-    let some : verb_word w ≡ Some u = subst (λ (t : List ℕ). verb_word t ≡ Some u) (sym is) (verb_found u) in
+not_a_verb : (s : Setting) (w : List ℕ) (xs : List (List ℕ)) → verb_in s w ≡ None → IsCommandLine s (w ∷ xs) → ⊥
+not_a_verb s w xs none (u, is, may, all) =
+    let some : verb_in s w ≡ Some u = subst (λ (t : List ℕ). verb_in s t ≡ Some u) (sym is) (verb_found_in s u may) in
     let bad : None ≡ Some u = sym none ∙ some in
     cc
 
-some_command : (ws : List (List ℕ)) × IsCommandLine ws
-some_command = (verb_text verb.Take ∷ [], (verb.Take, refl, tt))
+some_command : (s : Setting) → (ws : List (List ℕ)) × IsCommandLine s ws
+some_command s = (verb_text verb.Take ∷ [], (verb.Take, refl, take_is_allowed s, tt))
 
-command_read : (ws : List (List ℕ)) → Answers ws (command_at (1, ws))
+command_read : (s : Setting) (ws : List (List ℕ)) → Answers s ws (command_at s (1, ws))
 unfolding command_at verb_at rest_at
-command_read [] = missing_word IsCommandLine [] IsCommandLine (goes_on IsCommandLine) some_command 1 (λ line. line) refl
-command_read (w ∷ ws) = go (verb_word w) refl
+command_read s [] = missing_word (IsCommandLine s) [] (IsCommandLine s) (goes_on (IsCommandLine s)) (some_command s) 1 (λ line. line) refl
+command_read s (w ∷ ws) = go (verb_in s w) refl
   where
-    go : (o : Option Verb) → verb_word w ≡ o → Answers (w ∷ ws) (read_word o 1 w ws >>= λ x. rest_at x.0 x.1)
-    go None none = wrong_word IsCommandLine [] IsCommandLine (goes_on IsCommandLine) some_command w ws 1 (λ xs line. not_a_verb w xs none line) refl
+    go : (o : Option Verb) → verb_in s w ≡ o → Answers s (w ∷ ws) (read_word o 1 w ws >>= λ x. rest_at x.0 x.1)
+    go None none = wrong_word (IsCommandLine s) [] (IsCommandLine s) (goes_on (IsCommandLine s)) (some_command s) w ws 1 (λ xs line. not_a_verb s w xs none line) refl
     go (Some v) found =
-        let first : verb_text v ≡ w = found_verb w v found in
-        let goes = goes_behind IsCommandLine [] IsCommandLine (IsOf (shape_of v)) w (goes_on IsCommandLine) (λ xs all. (v, sym first, all)) (λ xs line. verb_is v w xs found line) in
-        after_word (command_from v) (IsMeant (shape_of v) ws) (IsReadAs (w ∷ ws)) (λ e. IsColumn IsCommandLine (w ∷ ws) e) (λ e. IsColumn IsCommandLine (w ∷ ws) e) (shape_at (shape_of v) (1 + length w + 1, ws))
-        (λ xs got. record { same = words_from v xs ∙ (let rest = got.0 in cc); fit = fits_from v xs got.1; inside = (v, sym first, got.2) })
-        (λ e stop. stop) (shape_read (shape_of v) IsCommandLine (w ∷ []) goes ws (1 + length w + 1) (omega arith))
+        let has = found_verb_in s w v found in
+        let first : verb_text v ≡ w = has.0 in
+        let goes = goes_behind (IsCommandLine s) [] (IsCommandLine s) (IsOf (shape_of v)) w (goes_on (IsCommandLine s)) (λ xs all. (v, sym first, has.1, all)) (λ xs line. verb_is s v w xs found line) in
+        after_word (command_from v) (IsMeant (shape_of v) ws) (IsReadAs s (w ∷ ws)) (λ e. IsColumn (IsCommandLine s) (w ∷ ws) e) (λ e. IsColumn (IsCommandLine s) (w ∷ ws) e) (shape_at (shape_of v) (1 + length w + 1, ws))
+        (λ xs got. record { same = words_from v xs ∙ (let rest = got.0 in cc); fit = (ap (allows s) (verb_from v xs) ∙ has.1, fits_from v xs got.1); inside = (v, sym first, has.1, got.2) })
+        (λ e stop. stop) (shape_read (shape_of v) (IsCommandLine s) (w ∷ []) goes ws (1 + length w + 1) (omega arith))
 
--- a command is read back from its words
-command_back : (c : Command) → IsCommandInBounds c → command_at (1, command_words c) ≡ Ok c
+-- a command that may stand there is read back from its words
+command_back : (s : Setting) (c : Command) → MayStand s c → command_at s (1, command_words c) ≡ Ok c
 unfolding command_at verb_at rest_at
-command_back c fit =
+command_back s c (allowed, fit) =
     let m = made_of c fit in
+    let first : verb_of c ≡ m.first = ap verb_of (sym m.whole) ∙ verb_from m.first m.means in
+    let may : allows s m.first ≡ true = ap (allows s) (sym first) ∙ allowed in
     let spelt : command_words c ≡ verb_text m.first ∷ shape_words (shape_of m.first) m.means = ap command_words (sym m.whole) ∙ words_from m.first m.means in
-    let read : command_at (1, verb_text m.first ∷ shape_words (shape_of m.first) m.means) ≡ Ok (command_from m.first m.means) =
-    rw (verb_found m.first, shape_back (shape_of m.first) m.means m.fits (1 + length (verb_text m.first) + 1)) refl in
-    ap (λ (ws : List (List ℕ)). command_at (1, ws)) spelt ∙ read ∙ ap Ok m.whole
+    let read : command_at s (1, verb_text m.first ∷ shape_words (shape_of m.first) m.means) ≡ Ok (command_from m.first m.means) =
+    rw (verb_found_in s m.first may, shape_back (shape_of m.first) m.means m.fits (1 + length (verb_text m.first) + 1)) refl in
+    ap (λ (ws : List (List ℕ)). command_at s (1, ws)) spelt ∙ read ∙ ap Ok m.whole
 
 words_spelled : (c : Command) → IsCommandInBounds c → words (command_spelling c) ≡ command_words c
 unfolding command_spelling
@@ -126,49 +135,52 @@ words_spelled c fit =
     rw (verb_spaceless m.first, shape_spaceless (shape_of m.first) m.means m.fits) refl in
     ap (λ (ws : List (List ℕ)). words (join_with_byte 32 ws)) spelt ∙ split_joined 32 (verb_text m.first) (shape_words (shape_of m.first) m.means) plain ∙ sym spelt
 
-read_back : (line : List ℕ) (c : Command) → IsCommandInBounds c → line ≡ command_spelling c → command_of line ≡ Ok c
-unfolding command_of
-read_back line c fit is =
-    let cut : words line ≡ command_words c = ap words is ∙ words_spelled c fit in
-    ap (λ (ws : List (List ℕ)). command_at (1, ws)) cut ∙ command_back c fit
+read_back : (s : Setting) (line : List ℕ) (c : Command) → MayStand s c → line ≡ command_spelling c → command_in s line ≡ Ok c
+unfolding command_in
+read_back s line c fit is =
+    let cut : words line ≡ command_words c = ap words is ∙ words_spelled c fit.1 in
+    ap (λ (ws : List (List ℕ)). command_at s (1, ws)) cut ∙ command_back s c fit
 
-line_answers : (line : List ℕ) → Answers (words line) (command_of line)
-unfolding command_of
-line_answers line = command_read (words line)
+line_answers : (s : Setting) (line : List ℕ) → Answers s (words line) (command_in s line)
+unfolding command_in
+line_answers s line = command_read s (words line)
 
-read_as : (line : List ℕ) (c : Command) → command_of line ≡ Ok c → IsReadAs (words line) c
-read_as line c read = MatchResult-at_ok (IsReadAs (words line)) (λ e. IsColumn IsCommandLine (words line) e) c read (line_answers line)
+read_as : (s : Setting) (line : List ℕ) (c : Command) → command_in s line ≡ Ok c → IsReadAs s (words line) c
+read_as s line c read = MatchResult-at_ok (IsReadAs s (words line)) (λ e. IsColumn (IsCommandLine s) (words line) e) c read (line_answers s line)
 
 pub commands_are_read : CommandsAreRead
 unfolding command_spelling
-commands_are_read line c = (there, λ h. read_back line c h.0 h.1)
+commands_are_read s line c = (there, λ h. read_back s line c h.0 h.1)
   where
-    there : command_of line ≡ Ok c → IsCommandInBounds c × (line ≡ command_spelling c)
+    there : command_in s line ≡ Ok c → MayStand s c × (line ≡ command_spelling c)
     there read =
-        let got = read_as line c read in
+        let got = read_as s line c read in
         (got.fit, sym (ap (join_with_byte 32) got.same ∙ join_with_byte-slice_split 32 line))
 
 pub columns_of_commands : ColumnsOfCommands
-columns_of_commands line column = (there, λ leaves. back leaves (command_of line) refl)
+columns_of_commands s line column = (there, λ leaves. back leaves (command_in s line) refl)
   where
-    there : command_of line ≡ Err column → IsColumn IsCommandLine (words line) column
-    there stops = MatchResult-at_err (IsReadAs (words line)) (λ e. IsColumn IsCommandLine (words line) e) column stops (line_answers line)
+    there : command_in s line ≡ Err column → IsColumn (IsCommandLine s) (words line) column
+    there stops = MatchResult-at_err (IsReadAs s (words line)) (λ e. IsColumn (IsCommandLine s) (words line) e) column stops (line_answers s line)
 
-    back : IsColumn IsCommandLine (words line) column → (r : Result Command ℕ) → command_of line ≡ r → command_of line ≡ Err column
-    back leaves (Ok c) read = absurd (line_has_no_column IsCommandLine (words line) column (read_as line c read).inside leaves)
+    back : IsColumn (IsCommandLine s) (words line) column → (r : Result Command ℕ) → command_in s line ≡ r → command_in s line ≡ Err column
+    back leaves (Ok c) read = absurd (line_has_no_column (IsCommandLine s) (words line) column (read_as s line c read).inside leaves)
     back leaves (Err e) stops =
-        let other = MatchResult-at_err (IsReadAs (words line)) (λ k. IsColumn IsCommandLine (words line) k) e stops (line_answers line) in
-        stops ∙ ap Err (column_is_unique IsCommandLine (words line) e column other leaves)
+        let other = MatchResult-at_err (IsReadAs s (words line)) (λ k. IsColumn (IsCommandLine s) (words line) k) e stops (line_answers s line) in
+        stops ∙ ap Err (column_is_unique (IsCommandLine s) (words line) e column other leaves)
+
+own_book_allows : (v : Verb) → allows OwnBook v ≡ true
+own_book_allows v = refl
 
 pub command_spellings_differ : CommandSpellingsDiffer
 command_spellings_differ b c fit fit' same =
-    let read : command_of (command_spelling b) ≡ Ok b = read_back (command_spelling b) b fit refl in
-    let read' : command_of (command_spelling b) ≡ Ok c = read_back (command_spelling b) c fit' same in
+    let read : command_in OwnBook (command_spelling b) ≡ Ok b = read_back OwnBook (command_spelling b) b (own_book_allows (verb_of b), fit) refl in
+    let read' : command_in OwnBook (command_spelling b) ≡ Ok c = read_back OwnBook (command_spelling b) c (own_book_allows (verb_of c), fit') same in
     cc
 
 pub lines_are_commands : LinesAreCommands
-lines_are_commands line = (λ inside. there inside (command_of line) refl, λ (c, fit, is). (read_as line c (read_back line c fit is)).inside)
+lines_are_commands s line = (λ inside. there inside (command_in s line) refl, λ (c, fit, is). (read_as s line c (read_back s line c fit is)).inside)
   where
-    there : IsCommandLine (words line) → (r : Result Command ℕ) → command_of line ≡ r → (c : Command) × IsCommandInBounds c × (line ≡ command_spelling c)
-    there inside (Ok c) read = let h = (commands_are_read line c).0 read in (c, h.0, h.1)
-    there inside (Err e) stops = absurd (line_has_no_column IsCommandLine (words line) e inside ((columns_of_commands line e).0 stops))
+    there : IsCommandLine s (words line) → (r : Result Command ℕ) → command_in s line ≡ r → (c : Command) × MayStand s c × (line ≡ command_spelling c)
+    there inside (Ok c) read = let h = (commands_are_read s line c).0 read in (c, h.0, h.1)
+    there inside (Err e) stops = absurd (line_has_no_column (IsCommandLine s) (words line) e inside ((columns_of_commands s line e).0 stops))

@@ -7,8 +7,9 @@ use Rattle.paris_names.specs.declared.faults.Fault.{Fault}
 use Rattle.paris_names.specs.declared.faults.Fault.TheVariants.{Syntax}
 use Rattle.paris_text.specs.declared.reader.Syntax as reader
 use Rattle.paris_text.specs.Reading.{Gives, Place, place}
-use Rattle.paris_text.specs.CommandReading.{IsRefusal, GivesIfRoom, verb_at, rest_at, command_at, command_of}
+use Rattle.paris_text.specs.CommandReading.{IsRefusal, GivesIfRoom, verb_at, rest_at, command_at, command_in}
 use Rattle.paris_text.specs.declared.verbs.Verb.{Verb}
+use Rattle.paris_text.specs.declared.verbs.Setting.{Setting}
 use Rattle.paris_text.specs.Words.{words}
 use Rattle.paris_text.proofs.PlaceLemmas.{place_start}
 
@@ -35,14 +36,14 @@ room_err (Ok x) read h = tt
 room_err (Err fault) read h = h
 
 -- a line's command is what its words behind the verb are
-pub verb_reads : (line : List ℕ) (v : Verb) (p : Place) → verb_at (place line 0) ≡ Ok (v, p) → command_of line ≡ rest_at v p
-unfolding command_of command_at
-verb_reads line v p h =
-    let first : verb_at (1, words line) ≡ Ok (v, p) = rw place_start at h in
+pub verb_reads : (s : Setting) (line : List ℕ) (v : Verb) (p : Place) → verb_at s (place line 0) ≡ Ok (v, p) → command_in s line ≡ rest_at v p
+unfolding command_in command_at
+verb_reads s line v p h =
+    let first : verb_at s (1, words line) ≡ Ok (v, p) = rw place_start at h in
     rw first refl
 
-pub no_verb : (line : List ℕ) (e : ℕ) → verb_at (place line 0) ≡ Err e → command_of line ≡ Err e
-unfolding command_of command_at
-no_verb line e h =
-    let first : verb_at (1, words line) ≡ Err e = rw place_start at h in
+pub no_verb : (s : Setting) (line : List ℕ) (e : ℕ) → verb_at s (place line 0) ≡ Err e → command_in s line ≡ Err e
+unfolding command_in command_at
+no_verb s line e h =
+    let first : verb_at s (1, words line) ≡ Err e = rw place_start at h in
     rw first refl

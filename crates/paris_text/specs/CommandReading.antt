@@ -8,10 +8,12 @@ use Rattle.paris_names.specs.declared.ids.Spot.TheVariants.{Start, After, End}
 use Rattle.paris_events.specs.declared.edits.Edit.TheVariants as edit
 use Rattle.paris_text.specs.declared.verbs.Verb.{Verb}
 use Rattle.paris_text.specs.declared.verbs.Verb.TheVariants as verb
+use Rattle.paris_text.specs.declared.verbs.Setting.{Setting}
+use Rattle.paris_text.specs.declared.verbs.Setting.TheVariants.{OwnBook}
 use Rattle.paris_text.specs.declared.commands.Command.{Command}
 use Rattle.paris_text.specs.declared.commands.Command.TheVariants as command
 use Rattle.paris_text.specs.Words.{words}
-use Rattle.paris_text.specs.Verbs.{verb_word}
+use Rattle.paris_text.specs.Verbs.{verb_in}
 use Rattle.paris_text.specs.Kinds.{Kind, Meaning, meaning}
 use Rattle.paris_text.specs.Kinds.Kind.{NumberWord}
 use Rattle.paris_text.specs.Spelling.{Instruction}
@@ -19,8 +21,9 @@ use Rattle.paris_text.specs.Shapes.{Shape, shape_of}
 use Rattle.paris_text.specs.Shapes.Shape.{Done, One, Many, AtSpot, Whole}
 use Rattle.paris_text.specs.Reading.{Place, ◌>>=◌, read_word, next_word, word_at, kind_at, end_at, instr_at}
 
-unfoldable pub verb_at : Place → Result (Verb × Place) ℕ
-verb_at p = next_word verb_word p.0 p.1
+-- the first word of a command that may stand there
+unfoldable pub verb_at : Setting → Place → Result (Verb × Place) ℕ
+verb_at s p = next_word (verb_in s) p.0 p.1
 
 -- all words from a column on, each of a kind
 abbrev pub each_at : (k : Kind) → ℕ → List (List ℕ) → Result (List (Meaning k)) ℕ
@@ -81,12 +84,16 @@ command_from verb.Settle end = command.Settle
 unfoldable pub rest_at : Verb → Place → Result Command ℕ
 rest_at v p = shape_at (shape_of v) p >>= λ xs. Ok (command_from v xs)
 
-unfoldable pub command_at : Place → Result Command ℕ
-command_at p = verb_at p >>= λ first. rest_at first.0 first.1
+unfoldable pub command_at : Setting → Place → Result Command ℕ
+command_at s p = verb_at s p >>= λ first. rest_at first.0 first.1
 
--- the command that a line is, or the column at which the line leaves the grammar of commands
-unfoldable pub command_of : List ℕ → Result Command ℕ
-command_of line = command_at (1, words line)
+-- the command that a line is, or the column at which the line leaves the grammar of the commands that may stand there
+unfoldable pub command_in : Setting → List ℕ → Result Command ℕ
+command_in s line = command_at s (1, words line)
+
+-- the same of a line of a script, whose book is its own
+abbrev pub command_of : List ℕ → Result Command ℕ
+command_of line = command_in OwnBook line
 
 -- the fault that is due: the column where reading stops; want of memory where nothing stops it
 abbrev pub IsRefusal : {X : Type 0} → Result X ℕ → Fault → Type 0

@@ -1,9 +1,13 @@
 -- The one spelling of each command.
-use Rattle.std.specs.Prelude.{◌≢◌, ℕ, List, [], ◌∷◌, ◌++◌, map, codes}
+use Rattle.std.specs.Prelude.{◌≡◌, ◌≢◌, true, ℕ, List, [], ◌∷◌, ◌++◌, map, codes}
 use Rattle.std.specs.List.{join_with_byte, AllByRecursion}
 use Rattle.std.specs.Fmt.{decimal}
 use Rattle.paris_events.specs.declared.edits.Edit.{Edit}
 use Rattle.paris_events.specs.declared.edits.Edit.TheVariants as edit
+use Rattle.paris_text.specs.declared.verbs.Verb.{Verb}
+use Rattle.paris_text.specs.declared.verbs.Verb.TheVariants as verb
+use Rattle.paris_text.specs.declared.verbs.Setting.{Setting}
+use Rattle.paris_text.specs.Verbs.{allows}
 use Rattle.paris_text.specs.declared.commands.Command.{Command}
 use Rattle.paris_text.specs.declared.commands.Command.TheVariants as command
 use Rattle.paris_text.specs.Kinds.{key_text, axes_text, Fits}
@@ -54,3 +58,26 @@ IsCommandInBounds command.Release = Unit {0}
 IsCommandInBounds command.List = Unit {0}
 IsCommandInBounds command.Faults = Unit {0}
 IsCommandInBounds command.Settle = Unit {0}
+
+-- the verb of an edit and of a command
+abbrev pub edit_verb : Edit → Verb
+edit_verb (edit.AddSet name axes) = verb.Set
+edit_verb (edit.AddField name set width) = verb.Field
+edit_verb (edit.Input key from values) = verb.Input
+edit_verb (edit.Insert spot instr) = verb.Insert
+edit_verb (edit.Delete row) = verb.Delete
+edit_verb (edit.Replace row instr) = verb.Replace
+
+abbrev pub verb_of : Command → Verb
+verb_of (command.Edit e) = edit_verb e
+verb_of command.Take = verb.Take
+verb_of (command.Bring order) = verb.Bring
+verb_of command.Release = verb.Release
+verb_of (command.Show key spot) = verb.Show
+verb_of command.List = verb.List
+verb_of command.Faults = verb.Faults
+verb_of command.Settle = verb.Settle
+
+-- a command that may stand there, with names and numbers within their bounds
+abbrev pub MayStand : Setting → Command → Type 0
+MayStand s c = (allows s (verb_of c) ≡ true) × IsCommandInBounds c

@@ -6,7 +6,8 @@ use Rattle.paris_names.specs.declared.ids.Spot.{Spot}
 use Rattle.paris_names.specs.declared.ids.Spot.TheVariants.{Start, After, End}
 use Rattle.paris_text.specs.declared.verbs.Verb.{Verb}
 use Rattle.paris_text.specs.declared.verbs.Verb.TheVariants as verb
-use Rattle.paris_text.specs.Verbs.{verb_text}
+use Rattle.paris_text.specs.declared.verbs.Setting.{Setting}
+use Rattle.paris_text.specs.Verbs.{verb_text, allows}
 use Rattle.paris_text.specs.Kinds.{Kind, meaning}
 use Rattle.paris_text.specs.Kinds.Kind.{NameWord, NumberWord, ValueWord, KeyWord, AxesWord}
 use Rattle.paris_text.specs.Columns.{IsInstructionLine, Grammar}
@@ -63,7 +64,7 @@ IsOf (Many k) (w ∷ ws) = AllByRecursion (λ v. is_some (meaning k v) ≡ true)
 IsOf (AtSpot rest) ws = (spot : Spot) × (more : List (List ℕ)) × (ws ≡ spot_words spot ++ more) × SpotFits spot × IsOf rest more
 IsOf Whole ws = IsInstructionLine ws
 
--- these words are a line of the grammar of commands
-abbrev pub IsCommandLine : Grammar
-IsCommandLine [] = ⊥
-IsCommandLine (w ∷ ws) = (v : Verb) × (w ≡ verb_text v) × IsOf (shape_of v) ws
+-- these words are a line of the grammar of the commands that may stand there
+abbrev pub IsCommandLine : Setting → Grammar
+IsCommandLine s [] = ⊥
+IsCommandLine s (w ∷ ws) = (v : Verb) × (w ≡ verb_text v) × (allows s v ≡ true) × IsOf (shape_of v) ws

@@ -1,8 +1,10 @@
--- The first words of commands, and the command that a first word is of.
-use Rattle.std.specs.Prelude.{ℕ, List, Option, codes, find}
+-- The first words of commands, the command that a first word is of, and where each of them may stand.
+use Rattle.std.specs.Prelude.{ℕ, List, Bool, true, false, Option, None, Some, codes, find, if◌then◌else◌}
 use Rattle.std.specs.Str.{bytes_eq}
 use Rattle.paris_text.specs.declared.verbs.Verb.{Verb}
 use Rattle.paris_text.specs.declared.verbs.Verb.TheVariants as verb
+use Rattle.paris_text.specs.declared.verbs.Setting.{Setting}
+use Rattle.paris_text.specs.declared.verbs.Setting.TheVariants.{OwnBook, SharedBook}
 use Rattle.paris_text.specs.declared.verbs.TheConstants.{VERBS}
 
 -- the first word of each command
@@ -24,3 +26,18 @@ verb_text verb.Settle = codes "settle"
 -- the verb that a word is, if it is one
 unfoldable pub verb_word : List ℕ → Option Verb
 verb_word w = find (λ v. bytes_eq (verb_text v) w) VERBS
+
+-- whether a command with this first word may stand in a line: of a book that sessions share no line settles all rows
+abbrev pub allows : Setting → Verb → Bool
+allows OwnBook v = true
+allows SharedBook verb.Settle = false
+allows SharedBook _ = true
+
+-- a verb, where it is one that may stand there
+abbrev pub if_allowed : Setting → Option Verb → Option Verb
+if_allowed s None = None
+if_allowed s (Some v) = if allows s v then Some v else None
+
+-- the verb that a word is, if it is one that may stand there
+unfoldable pub verb_in : Setting → List ℕ → Option Verb
+verb_in s w = if_allowed s (verb_word w)

@@ -2,14 +2,14 @@
 
 ghost use Rattle.std.specs.Prelude.{◌≡◌, ◌+◌, ◌≤◌, length, IfOk, IfErr, Ok};
 ghost use Rattle.paris_text.specs.Reading.{place, Gives};
-ghost use Rattle.paris_text.specs.CommandReading.{GivesIfRoom, IsRefusal, alone_at, rest_at, command_of};
+ghost use Rattle.paris_text.specs.CommandReading.{GivesIfRoom, IsRefusal, alone_at, rest_at, command_in, command_of};
 
 use crate::instructions::next_instr;
 use crate::reader::{
     Syntax, last_axes, line_end, next_key, next_name, next_number, next_spot, next_values,
     next_verb,
 };
-use crate::verbs::Verb;
+use crate::verbs::{Setting, Verb};
 use paris_events::Edit;
 use paris_names::{Fault, KeyName, RowId, Spot};
 use std::alloc::Global;
@@ -155,11 +155,19 @@ fn rest_of_command(alloc: Global, verb: Verb, line: &[u8], at: usize) -> Result<
     Ok(command?)
 }
 
-/// The command that a line spells, or the column at which the line leaves the grammar of commands.
+/// The command that a line spells, or the column at which the line leaves the grammar of the commands that may stand there.
+pub fn read_command_in(alloc: Global, setting: Setting, line: &[u8]) -> Result<Command, Fault>
+    ensures ok { IfOk result (λ c. command_in setting line.now ≡ Ok c) }
+    ensures err { IfErr result (λ fault. IsRefusal (command_in setting line.now) fault) }
+{
+    let (verb, at) = next_verb(setting, line, 0)?;
+    rest_of_command(alloc, verb, line, at)
+}
+
+/// The command that a line of a script spells, or the column at which the line leaves the grammar of commands.
 pub fn read_command(alloc: Global, line: &[u8]) -> Result<Command, Fault>
     ensures ok { IfOk result (λ c. command_of line.now ≡ Ok c) }
     ensures err { IfErr result (λ fault. IsRefusal (command_of line.now) fault) }
 {
-    let (verb, at) = next_verb(line, 0)?;
-    rest_of_command(alloc, verb, line, at)
+    read_command_in(alloc, Setting::OwnBook, line)
 }

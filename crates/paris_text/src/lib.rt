@@ -10,8 +10,9 @@ mod verbs;
 mod words;
 mod writer;
 
-pub use commands::{Command, read_command};
+pub use commands::{Command, read_command, read_command_in};
 pub use instructions::read_instr;
 pub use reader::Syntax;
+pub use verbs::Setting;
 pub use words::key_of_word;
 pub use writer::write_instr;

@@ -12,7 +12,7 @@ ghost use Rattle.paris_text.specs.CommandReading.{GivesIfRoom, verb_at, spot_at,
 ghost use Rattle.paris_text.specs.Room.{values_room};
 
 use crate::mnemonics::Mnemonic;
-use crate::verbs::Verb;
+use crate::verbs::{Setting, Verb};
 use crate::words;
 use paris_geometry::Direction;
 use paris_model::Inclusion;
@@ -59,13 +59,13 @@ pub fn next_mnemonic(line: &[u8], at: usize) -> Result<(Mnemonic, usize), Syntax
 }
 
 /// The next word as the first word of a command.
-pub fn next_verb(line: &[u8], at: usize) -> Result<(Verb, usize), Syntax>
+pub fn next_verb(setting: Setting, line: &[u8], at: usize) -> Result<(Verb, usize), Syntax>
     requires { at ≤ length line.now + 1 }
-    ensures gives { Gives (λ x. (x.0, place line.now x.1)) result (verb_at (place line.now at)) }
+    ensures gives { Gives (λ x. (x.0, place line.now x.1)) result (verb_at setting (place line.now at)) }
     ensures within { IfOk result (λ x. x.1 ≤ length line.now + 1) }
 {
     let (word, next) = next_word(line, at)?;
-    match Verb::of_word(word) {
+    match Verb::of_word_in(setting, word) {
         Some(verb) => Ok((verb, next)),
         None => Err(Syntax(at as u64 + 1)),
     }

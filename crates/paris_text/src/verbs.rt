@@ -1,8 +1,8 @@
-//! The first words of commands.
+//! The first words of commands, and where each of them may stand.
 
 ghost use Rattle.std.specs.Prelude.{◌≡◌, find};
 ghost use Rattle.std.specs.Str.{bytes_eq};
-ghost use Rattle.paris_text.specs.Verbs.{verb_text, verb_word};
+ghost use Rattle.paris_text.specs.Verbs.{allows, verb_in, verb_text, verb_word};
 
 /// The first word of a command, by what it stands for.
 #[derive(Clone, Copy, PartialEq, Eq, Debug)]
@@ -20,6 +20,27 @@ pub enum Verb {
     List,
     Faults,
     Settle,
+}
+
+/// Whose book a line is for.
+#[derive(Clone, Copy, PartialEq, Eq, Debug)]
+pub enum Setting {
+    /// A book of the script's own.
+    OwnBook,
+    /// A book that sessions share.
+    SharedBook,
+}
+
+impl Setting {
+    /// Whether a command with this first word may stand there: of a book that sessions share no line settles all rows.
+    fn allows(self, verb: Verb) -> bool
+        ensures { result ≡ allows self verb }
+    {
+        match self {
+            Setting::OwnBook => true,
+            Setting::SharedBook => !matches!(verb, Verb::Settle),
+        }
+    }
 }
 
 /// All verbs.
@@ -68,6 +89,19 @@ impl Verb {
         ensures { result ≡ verb_word word.now }
     {
         first_spelled(&VERBS, word)
+    }
+
+    /// The verb that a word is, if it is one with which a command may begin there.
+    #[tactic(auto, unfolding(crate::specs::Verbs::verb_in))]
+    pub fn of_word_in(setting: Setting, word: &[u8]) -> Option<Verb>
+        ensures { result ≡ verb_in setting word.now }
+    {
+        let verb = Verb::of_word(word)?;
+        if setting.allows(verb) {
+            Some(verb)
+        } else {
+            None
+        }
     }
 }
 
