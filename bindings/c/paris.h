@@ -58,7 +58,8 @@ uint32_t paris_close(paris_handle *handle);
 /* Answers a line of a script, without its line feed. At PARIS_OK the session is the one after the line, its reply, which may be
    empty, is kept until the next such call, and *reply is how many bytes it has. That a command is refused stands in the reply.
    At another status but PARIS_CLOSED the kept reply is as it was, and *reply is how many bytes it has. At PARIS_PARTLY, which only
-   the line `settle` comes to, the orders that were out are given up and the rows that ran are settled; the line can be told again. */
+   the line `settle` comes to, the rows that ran are settled, those that were settled stay so, and orders that were out may be given
+   up; the line can be told again. */
 uint32_t paris_answer(paris_handle *handle, const uint8_t *line, size_t len, size_t *reply);
 
 /* Copies the reply that is kept, or its first bytes where the room has fewer. */
@@ -82,7 +83,7 @@ uint32_t paris_rows(paris_handle *handle, uint64_t *room, size_t len, size_t *co
 
 /* Settles every row. *ran is how many rows were unsettled. PARIS_OK doesn't say that every row did its work: a settled row may be
    refused for its data, and then it changes nothing. paris_faults tells which rows these are. At PARIS_PARTLY so many rows more are
-   settled, the orders that were out are given up, and the call can be made again. */
+   settled, those that were settled stay so, orders that were out may be given up, and the call can be made again. */
 uint32_t paris_settle(paris_handle *handle, uint64_t *ran);
 
 /* Puts the settled rows that are refused for their data, as the command `faults` lists them, into a room, in program order: three

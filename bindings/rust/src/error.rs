@@ -22,8 +22,8 @@ pub enum Error {
     /// A number is wider than a word.
     TooWide,
     /// There was no memory left while rows were settled. Those that ran are settled, so many where
-    /// the call tells it, the orders that were out are given up, and the session can be settled
-    /// again.
+    /// the call tells it, and those that were settled stay so. Orders that were out may be given
+    /// up, and the session can be settled again.
     PartlySettled(Option<u64>),
     /// The library answered by a status that this package doesn't know.
     Unknown(u32),

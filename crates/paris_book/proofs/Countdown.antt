@@ -88,7 +88,7 @@ settled_first (r ∷ rs) = by_status (is_settled r.status) (settled_first rs)
     by_status true rest = ap (λ xs. settled_row r ∷ xs) rest
     by_status false rest = refl
 
-settled_all : (n : ℕ) (rs : List Row) → map settled_row (settled_times n rs) ≡ map settled_row rs
+pub settled_all : (n : ℕ) (rs : List Row) → map settled_row (settled_times n rs) ≡ map settled_row rs
 settled_all zero rs = refl
 settled_all (suc n) rs = settled_first (settled_times n rs) ∙ settled_all n rs
 

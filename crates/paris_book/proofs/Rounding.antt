@@ -16,7 +16,7 @@ use Rattle.paris_machine.specs.Show.{origin_at}
 use Rattle.paris_machine.specs.Orders.{is_firm, order_of, recalled_status, recalled_row, after_release}
 use Rattle.paris_machine.specs.Settling.{unsettled_rows, settled_row, all_settled}
 use Rattle.paris_book.specs.Rounds.{StaySettled}
-use Rattle.paris_book.specs.Steps.{is_free, own_order, order_on, settled_on, settled_at, ran_at}
+use Rattle.paris_book.specs.Steps.{is_free, own_order, order_on, settled_on, settled_at, ran_at, first_settled, settled_times}
 use Rattle.paris_book.proofs.Countdown.{settled_recalled, settled_is}
 
 -- an element is put in the place of one that f can't tell from it
@@ -38,6 +38,22 @@ row_recalled r h = ap (λ (s : Status). record r { status = s }) (by_status r.st
 
 pub stay_recalled : (rows : List Row) → StaySettled rows (map recalled_row rows)
 stay_recalled rows place r at settled = slice_get-map recalled_row rows place ∙ ap (option_map recalled_row) at ∙ ap Some (row_recalled r settled)
+
+-- rows that are settled stay so while the first unsettled one is settled, again and again
+stay_first : (rows : List Row) → StaySettled rows (first_settled rows)
+stay_first [] place r at settled = at
+stay_first (x ∷ rows) place r at settled = by_status (is_settled x.status) refl (stay_first rows) place at
+  where
+    by_status : (b : Bool) → is_settled x.status ≡ b → StaySettled rows (first_settled rows) → (place : ℕ) → slice_get (x ∷ rows) place ≡ Some r
+        → slice_get (cond b (x ∷ first_settled rows) (settled_row x ∷ rows)) place ≡ Some r
+    by_status true t rest zero at = at
+    by_status true t rest (suc place) at = rest place r at settled
+    by_status false t rest zero at = let same : x ≡ r = cc in let bad : false ≡ true = sym t ∙ ap (λ (y : Row). is_settled y.status) same ∙ settled in absurd (cc)
+    by_status false t rest (suc place) at = at
+
+pub stay_times : (n : ℕ) (rows : List Row) → StaySettled rows (settled_times n rows)
+stay_times zero rows place r at settled = at
+stay_times (suc n) rows place r at settled = stay_first (settled_times n rows) place r (stay_times n rows place r at settled) settled
 
 pub all_recalled : (s : State) → all_settled (after_release s) ≡ all_settled s
 all_recalled s = ap (λ (rows : List Row). record s { rows = rows }) (settled_recalled s.rows)

@@ -6,6 +6,7 @@ ghost use Rattle.paris_machine.specs.Orders.{after_release, after_take};
 ghost use Rattle.paris_machine.specs.Settling.{ran_orders, all_settled, unsettled_rows};
 ghost use Rattle.paris_book.specs.Marks.{recalled_data};
 ghost use Rattle.paris_book.specs.Entries.{with_data};
+ghost use Rattle.paris_book.specs.Rounds.{StaySettled};
 ghost use Rattle.paris_book.specs.Statuses.{next_unsettled};
 ghost use Rattle.paris_book.specs.Steps.{own_order, settled_at, ran_at, settled_times};
 
@@ -123,7 +124,8 @@ impl Book {
 
     /// Gives up the orders that are out, and then takes orders, executes them and brings their results until every row is settled.
     /// The answer is how many orders were run, one for each row that was unsettled. The error says that memory was refused: the
-    /// rows of the orders that were run are settled, the row of one more order may be out, and the book can be settled again.
+    /// rows of the orders that were run are settled, those that were settled stay so, the row of one more order may be out, and the
+    /// book can be settled again.
     pub fn settle(&mut self) -> Result<u64, SettleFault>
         ensures count { IfOk result (λ ran. ran ≡ unsettled_rows self.old.rows) }
         ensures settled { OnOk result (self.new ≡ all_settled self.old) }
@@ -132,6 +134,8 @@ impl Book {
             ⊎ (self.new ≡ after_take (ran_orders fault.ran (after_release self.old)))) }
         ensures fewer { IfErr result (λ fault. fault.ran < unsettled_rows self.old.rows) }
         ensures left { IfErr result (λ fault. unsettled_rows self.new.rows + fault.ran ≡ unsettled_rows self.old.rows) }
+        ensures same { OnErr result (all_settled self.new ≡ all_settled self.old) }
+        ensures stay { OnErr result (StaySettled self.old.rows self.new.rows) }
     {
         // The rows are what says that no id stands twice.
         let _rows = &self.rows;

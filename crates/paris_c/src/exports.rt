@@ -3,7 +3,7 @@
 ghost use Rattle.std.specs.Prelude.{◌≡◌, ◌≢◌, ◌⊎◌, ◌≤◌, ◌^◌, None, length};
 ghost use Rattle.paris_text.specs.Words.{key_word};
 ghost use Rattle.paris_session.specs.Transcript.{transcript};
-ghost use Rattle.paris_c.specs.Calls.{filled, looked, IsFresh, IsAnswered, IsFull, IsPartlyAnswered, IsReply, IsSet, IsSetFault, ShowsNumbers, ShowsCount, ShowsPending, ShowsFault, ShowsWide, HasRows, CountsRows, HasFaults, CountsFaults, IsSettled, IsPartlySettled};
+ghost use Rattle.paris_c.specs.Calls.{filled, looked, CountsReply, IsFresh, IsAnswered, IsFull, IsPartlyAnswered, IsReply, IsSet, IsSetFault, ShowsNumbers, ShowsCount, ShowsPending, ShowsFault, ShowsWide, HasRows, CountsRows, HasFaults, CountsFaults, IsSettled, IsPartlySettled};
 ghost use Rattle.paris_c.specs.Texts.{cause_text, status_text};
 ghost use Rattle.paris_c.specs.declared.statuses.TheConstants.{OK, NO_MEMORY, CLOSED, NO_KEY, PENDING, WRONG_ROOM, TOO_MANY, TOO_WIDE, PARTLY};
 
@@ -47,7 +47,7 @@ pub extern "C" fn paris_close(alloc: Global, handle: &mut Handle) -> u32
     }
 }
 
-/// Answers a line, keeps the reply, and says its length.
+/// Answers a line, keeps the reply, and says the length of the reply that is kept.
 #[unsafe(no_mangle)]
 pub extern "C" fn paris_answer(
     alloc: Global,
@@ -62,6 +62,7 @@ pub extern "C" fn paris_answer(
     ensures full { result ≡ TOO_MANY → IsFull handle.old.kept.value }
     ensures partly { result ≡ PARTLY → IsPartlyAnswered handle.old.kept.value handle.new.kept.value line.now }
     ensures open { result ≢ CLOSED → handle.new.kept.value ≢ None }
+    ensures len { result ≢ CLOSED → CountsReply handle.new.kept.value reply.new }
     ensures status { (result ≡ OK) ⊎ ((result ≡ CLOSED) ⊎ ((result ≡ NO_MEMORY) ⊎ ((result ≡ TOO_MANY) ⊎ (result ≡ PARTLY)))) }
 {
     let Some(mut desk) = handle.take(alloc) else {

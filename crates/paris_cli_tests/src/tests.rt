@@ -4,7 +4,7 @@ ghost use Rattle.std.specs.Prelude.{Some};
 
 use paris_calls::Tally;
 use paris_cli::{Tallies, read_words, run_words};
-use paris_session::{Alone, RunFault, Summary, run_counted, transcript};
+use paris_session::{Alone, RunFault, Summary, run_script_bounded, transcript};
 use std::alloc::Global;
 use std::io;
 use std::io::{ErrorKind, Read, Write};
@@ -335,23 +335,27 @@ fn a_fault_of_the_error_writer_changes_no_status(rt: HostRuntime) {
 
 #[test]
 fn counts_read_calls(rt: HostRuntime) {
-    for (bound, want) in [
-        (3u64, Err(RunFault::TooLong)),
+    for (bound, want, written) in [
+        (3u64, Err(RunFault::TooLong), b"".as_slice()),
         (
             6,
             Ok(Summary {
                 commands: 1,
                 refusals: 0,
             }),
+            b"nothing\n".as_slice(),
         ),
     ] {
         let mut out = Vec::new(rt.alloc());
         let mut tally = Tally::new();
         let mut input = slow_reader(b"take\n", 1);
         let alloc = rt.alloc();
-        let summary = run_counted(&rt, &Alone, alloc, &mut input, &mut out, bound, &mut tally);
+        let summary = run_script_bounded(
+            &rt, &Alone, alloc, &mut input, &mut out, bound, &mut tally,
+        );
         assert_eq!(rt; summary, want);
         assert_eq!(rt; tally.reads(), bound);
+        assert_eq!(rt; out.as_slice(), written);
     }
 }
 

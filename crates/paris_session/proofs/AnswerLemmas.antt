@@ -1,7 +1,7 @@
 -- What a session answers, by what its book said.
 use Rattle.std.proofs.Common.{◌≡◌, ℕ, ◌+◌, List, [], ◌∷◌, ◌++◌, length, Option, None, Some, Result, Ok, Err, sym, ap, ◌∙◌, ◌≤◌, arith, nat_eq, nat_lt, true, false, if◌then◌else◌}
 use Rattle.std.specs.Prelude.{slice_index}
-use Rattle.paris_text.specs.CommandReading.{command_of, IsRefusal}
+use Rattle.paris_text.specs.CommandReading.{command_of}
 use Rattle.paris_text.specs.declared.commands.Command.{Command}
 use Rattle.paris_text.specs.declared.commands.Command.TheVariants as command
 use Rattle.paris_names.specs.declared.faults.Fault.{Fault}
@@ -95,15 +95,6 @@ pub rows_settled : (s new : Sitting) (ran : ℕ) (text : List ℕ) → new ≡ w
 unfolding answer_to_settle
 rows_settled s new ran text after count said =
     ap (λ (x : Sitting). (x, text)) after ∙ ap (λ (t : List ℕ). (with_book s (all_settled s.state) s.tray, t)) (said ∙ ap settled_text count)
-
--- a line that is no command, where memory isn't what is wanted
-pub line_refused : (s : Sitting) (line : List ℕ) (fault : Fault) (out : Sitting × List ℕ) → IsRefusal (command_of line) fault
-    → (fault ≡ NoMemory → ⊥) → out ≡ fault_answer s fault → out ≡ answer_to_read s (command_of line)
-line_refused s line fault out = go (command_of line)
-  where
-    go : (read : Result Command ℕ) → IsRefusal read fault → (fault ≡ NoMemory → ⊥) → out ≡ fault_answer s fault → out ≡ answer_to_read s read
-    go (Ok c) none other said = absurd (other none)
-    go (Err column) due other said = said ∙ ap (fault_answer s) due
 
 edit_count : (s : Sitting) (e : Edit) → (answer_to_edit s e).0.commands ≤ s.commands
 unfolding answer_to_edit

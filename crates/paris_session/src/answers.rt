@@ -12,7 +12,7 @@ ghost use Rattle.paris_session.specs.Transcript.{longest_line, shown_text, start
 ghost use Rattle.paris_text.specs.declared.commands.Command.TheVariants as command;
 ghost use Rattle.paris_events.specs.declared.edits.Edit.TheVariants as edit;
 ghost use Rattle.paris_session.specs.Progress.{IsCounted};
-ghost use Rattle.paris_session.specs.NoReplies.{IsLeft, without_command};
+ghost use Rattle.paris_session.specs.NoReplies.{IsLeft, IsSettledFurther, without_command};
 
 use crate::settlers::Settler;
 use paris_book::{Book, Look, SettleFault};
@@ -37,7 +37,8 @@ pub struct Summary {
 pub enum NoReply {
     /// The session is as it was before the line.
     Unchanged,
-    /// The line is `settle`. The orders that were out are given up, and the rows that it ran are settled. It can be told again.
+    /// The line is `settle`. The rows that it ran are settled, those that were settled stay so, and orders that were out may be given
+    /// up. It can be told again.
     Partly,
 }
 
@@ -186,12 +187,12 @@ impl Session {
     }
 
     /// Settles the book, with no line that says so: it is no command, and leaves the counts. The answer is how many rows were
-    /// unsettled. The error says that memory was refused, and the session can be settled again.
+    /// unsettled. The error says that memory was refused: so many rows more are settled, and the session can be settled again.
     pub fn settle<S: Settler>(&mut self, settler: &S) -> Result<u64, SettleFault>
         requires { S.can_settle settler.now }
         ensures count { IfOk result (λ ran. ran ≡ unsettled_rows self.old.state.rows) }
         ensures settled { OnOk result (self.new ≡ with_book self.old (all_settled self.old.state) self.old.tray) }
-        ensures left { IfErr result (λ fault. unsettled_rows self.new.state.rows + fault.ran ≡ unsettled_rows self.old.state.rows) }
+        ensures further { IfErr result (λ fault. IsSettledFurther fault.ran self.old.state self.new.state) }
         ensures book { OnErr result (self.new ≡ with_book self.old self.new.state self.old.tray) }
         ensures fewer { IfErr result (λ fault. fault.ran < unsettled_rows self.old.state.rows) }
     {

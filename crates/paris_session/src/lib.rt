@@ -7,6 +7,6 @@ mod settlers;
 mod whole;
 
 pub use answers::{NoReply, Session, Summary};
-pub use run::{RunFault, run_counted, run_script};
+pub use run::{RunFault, run_script, run_script_bounded};
 pub use settlers::{Alone, Settler};
 pub use whole::transcript;

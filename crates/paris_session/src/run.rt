@@ -172,7 +172,7 @@ impl Script {
 const ROOM: usize = 4096;
 
 /// Reads a script to its end, by at most `bound` reads, and writes its transcript. The tally says what came of it.
-pub fn run_counted<H: Wait, S: Settler, R: Read, W: Write>(
+pub fn run_script_bounded<H: Wait, S: Settler, R: Read, W: Write>(
     rt: &H,
     settler: &S,
     alloc: Global,
@@ -222,5 +222,5 @@ pub fn run_script<H: Wait, S: Settler, R: Read, W: Write>(
         (W.contents writer.old) (W.contents writer.new) fault) }
     ensures fault { IfErr result (λ fault. HasCause fault tally.new most_reads) }
 {
-    run_counted(rt, settler, alloc, reader, writer, MAX_READS, tally)
+    run_script_bounded(rt, settler, alloc, reader, writer, MAX_READS, tally)
 }

@@ -1,7 +1,8 @@
 //! Who settles the book of a session.
 
-ghost use Rattle.std.specs.Prelude.{◌≡◌, ◌<◌, ◌+◌, IfOk, IfErr, OnOk};
+ghost use Rattle.std.specs.Prelude.{◌≡◌, ◌<◌, IfOk, IfErr, OnOk};
 ghost use Rattle.paris_machine.specs.Settling.{all_settled, unsettled_rows};
+ghost use Rattle.paris_session.specs.NoReplies.{IsSettledFurther};
 
 use paris_book::{Book, SettleFault};
 
@@ -11,12 +12,13 @@ pub trait Settler {
     ghost can_settle: { Self → Type 0 };
 
     /// Gives up the orders that are out, and runs every unsettled row. The answer is how many rows were unsettled. The error says that
-    /// memory was refused: so many rows more are settled, and the book can be settled again.
+    /// memory was refused: so many rows more are settled, all else is as it was but for orders that are out, and the book can be
+    /// settled again.
     fn settle(&self, book: &mut Book) -> Result<u64, SettleFault>
         requires { can_settle self.now }
         ensures count { IfOk result (λ ran. ran ≡ unsettled_rows book.old.rows) }
         ensures settled { OnOk result (book.new ≡ all_settled book.old) }
-        ensures left { IfErr result (λ fault. unsettled_rows book.new.rows + fault.ran ≡ unsettled_rows book.old.rows) }
+        ensures further { IfErr result (λ fault. IsSettledFurther fault.ran book.old book.new) }
         ensures fewer { IfErr result (λ fault. fault.ran < unsettled_rows book.old.rows) };
 }
 

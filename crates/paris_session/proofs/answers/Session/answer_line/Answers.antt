@@ -1,9 +1,6 @@
-use Rattle.std.proofs.Common.{◌≡◌, true, false, sym, ap, ◌∙◌}
+use Rattle.std.proofs.Common.{sym, ap, ◌∙◌}
 use Rattle.std.proofs.lemmas.Result.{IfOk-weaker}
-use Rattle.paris_names.specs.Faults.{is_no_memory}
-use Rattle.paris_names.specs.declared.faults.Fault.TheVariants.{NoMemory}
 use Rattle.paris_session.specs.Transcript.{answer_to_read}
-use Rattle.paris_session.proofs.AnswerLemmas.{line_refused}
 use Rattle.paris_session.proofs.answers.Session.answer_line.Goals as goal
 
 pub returns-in-Ok-clause-ok : goal.returns-in-Ok-clause-ok

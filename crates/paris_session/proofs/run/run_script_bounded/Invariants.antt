@@ -1,6 +1,6 @@
 use Rattle.std.proofs.Common.{◌≡◌, ◌*◌, ◌≤◌, length}
 use Rattle.paris_session.proofs.Reading.{Reading, asked}
-use Rattle.paris_session.proofs.run.run_counted.Given as goal
+use Rattle.paris_session.proofs.run.run_script_bounded.Given as goal
 
 abbrev pub invariant-loop : goal.invariant-loop
 invariant-loop g l = record {

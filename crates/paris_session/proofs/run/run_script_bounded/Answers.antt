@@ -4,8 +4,8 @@ use Rattle.std.proofs.lemmas.Result.{err_from_is_err_and, IfOk-weaker, IfErr-wea
 use Rattle.paris_session.specs.Transcript.{Sitting}
 use Rattle.paris_session.proofs.LineLemmas.{ended_said}
 use Rattle.paris_session.proofs.Reading.{reading_nothing, reading_kept, reading_more, stops_reading, stops_answering, stops_at_last, ends_well, answers_nothing, asked, asked_again, read_cause, long_cause, answer_cause, none_failed, ended_is, ended_still}
-use Rattle.paris_session.proofs.run.run_counted.Goals as goal
-use Rattle.paris_session.proofs.run.run_counted.Goals.{in-Bytes+in_ok-take_bytes-in-Bytes, in-Interrupted}
+use Rattle.paris_session.proofs.run.run_script_bounded.Goals as goal
+use Rattle.paris_session.proofs.run.run_script_bounded.Goals.{in-Bytes+in_ok-take_bytes-in-Bytes, in-Interrupted}
 
 pub loop-init : goal.loop-init
 loop-init g c =
