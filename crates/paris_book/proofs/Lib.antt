@@ -17,6 +17,7 @@ pub mod OrderRuns
 pub mod OwnOrders
 pub mod Origins
 pub mod Pending
+pub mod Playing
 pub mod Recalling
 pub mod Recipes
 pub mod RefusalHere

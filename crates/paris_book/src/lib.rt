@@ -11,6 +11,7 @@ mod listing;
 mod look;
 mod looks;
 mod marks;
+mod play;
 mod program_rows;
 mod refusals;
 mod rounds;

@@ -2,6 +2,7 @@ pub mod Edits
 pub mod Events
 pub mod Lists
 pub mod Orders
+pub mod Plays
 pub mod Results
 pub mod Settling
 pub mod Show

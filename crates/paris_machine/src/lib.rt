@@ -3,6 +3,8 @@
 
 mod events;
 mod inputs;
+mod moves;
 
 pub use events::{Event, Reply, Shown};
 pub use inputs::{FlagInputs, Input};
+pub use moves::{Move, MoveReply};
