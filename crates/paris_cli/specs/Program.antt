@@ -9,7 +9,7 @@ use Rattle.paris_session.specs.declared.answers.Summary.{Summary}
 use Rattle.paris_names.specs.declared.faults.Fault.TheVariants.{NoEntry}
 use Rattle.paris_parts.specs.declared.run.DeskRunFault.{DeskRunFault}
 use Rattle.paris_parts.specs.declared.run.DeskRunFault.TheVariants as desk
-use Rattle.paris_parts.specs.Run.{HasDeskCause, Runs}
+use Rattle.paris_parts.specs.Run.{HasDeskCause, IsCutShort, Runs}
 use Rattle.paris_cli.specs.Words.{AreTaken, AskFor, refusal_line, refusal_status}
 use Rattle.paris_cli.specs.declared.words.WordsFault.{WordsFault}
 use Rattle.paris_cli.specs.declared.words.WordsFault.TheVariants as words_fault
@@ -91,12 +91,14 @@ Sits words reader_old reader_new writer_old writer_new errors_old errors_new sta
     (workers : ℕ) × ((k : ℕ) → AskFor words k → workers ≡ k) × FinishesAtDesk workers reader_old reader_new writer_old writer_new errors_old errors_new status
 
 -- a fault stopped a run at a desk with so many workers, it has its cause, and the status says which it is: nothing was written, unless the
--- writer has failed, and a front of the line that names the fault was written: all of the line, unless that writer has failed
+-- writer has failed, and then a front of what the script comes to. A front of the line that names the fault was written: all of the line,
+-- unless that writer has failed
 pub record StopsAtDesk (workers : ℕ) (reader_old reader_new writer_old writer_new errors_old errors_new : Option (List ℕ)) (run errors : Marks) (status : ℕ) : Type 0 where
   pub fault : DeskRunFault
   pub status_is : status ≡ desk_fault_status fault
   pub cause : HasDeskCause workers reader_old reader_new fault run
   pub unwritten : (fault ≡ desk.Run Write → ⊥) → Keeps writer_old writer_new
+  pub front : Keeps writer_old writer_new ⊎ IsCutShort workers reader_old reader_new writer_old writer_new
   pub named : WritesFront errors_old errors_new (desk_fault_line fault)
   pub whole : errors.write_failed ≡ false → Appends errors_old errors_new (desk_fault_line fault)
 

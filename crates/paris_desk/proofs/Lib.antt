@@ -4,6 +4,7 @@ pub mod Gathering
 pub mod Histories
 pub mod Joining
 pub mod Lists
+pub mod Moving
 pub mod Pasts
 pub mod Prefixes
 pub mod Turns

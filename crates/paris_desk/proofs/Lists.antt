@@ -35,6 +35,10 @@ by_number_at (suc m) ss k lt = by_test (by_number_at m ss k) (nat_lt k m) refl
         let number : m ≡ k = omega (arith, ge, lt) in
         ap (λ (j : ℕ). list_of (by_number (suc m) ss) j) (sym same) ∙ get_or-append_seam (by_number m ss) (receipts_of m ss) [] [] ∙ ap (λ (j : ℕ). receipts_of j ss) number
 
+-- a number past the last list has none
+pub by_number_past : (m : ℕ) (ss : List Sitting) (k : ℕ) → m ≤ k → list_of (by_number m ss) k ≡ []
+by_number_past m ss k ge = let l = by_number_length m ss in get_or_past (by_number m ss) k [] (omega (arith, l, ge))
+
 -- each seat's list has a receipt of each of its entries; a seat past the last list has no entry
 pub each_list : (m : ℕ) (ss : List Sitting) (h : List Entry) → ((k : ℕ) → k < m → IsPart k 0 (receipts_of k ss) h) → sum_by length (by_number m ss) ≡ length h
     → (k : ℕ) → list_of (by_number m ss) k ≡ receipts_in k 0 h
@@ -49,5 +53,4 @@ each_list m ss h parts all k = by_test (nat_lt k m) refl
         by_number_at m ss k less ∙ all_counted (λ j. receipts_of j ss) m h parts sum k less
     by_test false is =
         let ge : m ≤ k = grind (arith, nat_tests, is) in
-        let l = by_number_length m ss in
-        get_or_past (by_number m ss) k [] (omega (arith, l, ge)) ∙ no_calls k h (none_counted (λ j. receipts_of j ss) m h parts sum k ge)
+        by_number_past m ss k ge ∙ no_calls k h (none_counted (λ j. receipts_of j ss) m h parts sum k ge)

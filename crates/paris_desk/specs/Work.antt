@@ -1,5 +1,7 @@
 -- What a seat that works has of its calls.
 use Rattle.std.specs.Prelude.{◌≡◌, ◌<◌, ◌≤◌, ◌⊎◌, ℕ, zero, suc, List, [], ◌∷◌, ◌++◌, Bool, true, false, Some, None}
+use Rattle.std.specs.List.{All}
+use mathlib.Core.List.{IsPrefix}
 use Rattle.paris_exec.specs.Tasks.{Task}
 use Rattle.paris_names.specs.declared.faults.Fault.{Fault}
 use Rattle.paris_events.specs.declared.verdicts.Verdict.{Verdict}
@@ -32,10 +34,18 @@ Pairs (suc k) (taken ∷ brought ∷ rs) = IsPair taken brought × Pairs k rs
 abbrev pub Gained : Sitting → Sitting → List Receipt → Type 0
 Gained s s' rs = (s'.number ≡ s.number) × (s'.receipts ≡ s.receipts ++ rs)
 
+-- from a seat to the next there are these receipts more, of entries behind those that it was told of. It was told of no fewer since, and
+-- its past has grown
+pub record Moves (s s' : Sitting) (rs : List Receipt) : Type 0 where
+  pub gained : Gained s s' rs
+  pub begins : IsPrefix s.past s'.past
+  pub front : s.front ≤ s'.front
+  pub late : All (λ (r : Receipt). s.front < r.number) rs
+
 -- one turn of work: an order was run, or there was none
 abbrev pub Turn : Bool → Sitting → Sitting → Type 0
-Turn true s s' = (taken : Receipt) × (brought : Receipt) × IsPair taken brought × Gained s s' (taken ∷ brought ∷ [])
-Turn false s s' = (taken : Receipt) × GaveNone taken × Gained s s' (taken ∷ [])
+Turn true s s' = (taken : Receipt) × (brought : Receipt) × IsPair taken brought × Moves s s' (taken ∷ brought ∷ [])
+Turn false s s' = (taken : Receipt) × GaveNone taken × Moves s s' (taken ∷ [])
 
 -- what stands behind the pairs of a turn that failed: nothing, or the take of an order whose result was not brought
 abbrev pub Left : List Receipt → Type 0
@@ -52,7 +62,7 @@ pub record Worked (limit ran : ℕ) (s s' : Sitting) : Type 0 where
   pub last : List Receipt
   pub are_pairs : Pairs ran pairs
   pub ends : Ends limit ran last
-  pub gained : Gained s s' (pairs ++ last)
+  pub moved : Moves s s' (pairs ++ last)
 
 -- a seat has run some orders, fewer than a limit, and then a call of it was not recorded, or memory for an execution was refused
 pub record Stopped (limit most : ℕ) (s s' : Sitting) (fault : Fault) : Type 0 where
@@ -62,5 +72,5 @@ pub record Stopped (limit most : ℕ) (s s' : Sitting) (fault : Fault) : Type 0 
   pub last : List Receipt
   pub are_pairs : Pairs ran pairs
   pub left : Left last
-  pub gained : Gained s s' (pairs ++ last)
+  pub moved : Moves s s' (pairs ++ last)
   pub excused : Excused most s'.front fault

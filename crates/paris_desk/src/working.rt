@@ -3,7 +3,7 @@
 ghost use Rattle.std.specs.Prelude.{List, [], IfOk, IfErr};
 ghost use Rattle.paris_records.specs.declared.records.Receipt.{Receipt};
 ghost use Rattle.paris_desk.specs.Calls.{Excused};
-ghost use Rattle.paris_desk.specs.Work.{Gained, Left, Turn, Worked, Stopped};
+ghost use Rattle.paris_desk.specs.Work.{Left, Moves, Turn, Worked, Stopped};
 
 use crate::desk::Desk;
 use crate::office::Office;
@@ -23,7 +23,7 @@ fn run_one<L: Office, R: Wait, G: Gate>(
     gate: &G,
 ) -> Result<bool, Fault>
     ensures turn { IfOk result (λ ran. Turn ran seat.old seat.new) }
-    ensures stopped { IfErr result (λ fault. Excused L.limit seat.new.front fault × ((rs : List Receipt) × Left rs × Gained seat.old seat.new rs)) }
+    ensures stopped { IfErr result (λ fault. Excused L.limit seat.new.front fault × ((rs : List Receipt) × Left rs × Moves seat.old seat.new rs)) }
 {
     let Some(order) = desk.take(rt, seat)? else {
         return Ok(false);

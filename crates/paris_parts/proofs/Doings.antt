@@ -77,32 +77,32 @@ told_all_in_time first (s ∷ ss) (job ∷ jobs) new ((s1, learned, is), told) =
     (told_all_in_time first ss jobs (All-tail IsNew s ss new) told)
 
 -- what was told and then run has run behind the first seat
-pub ran_behind : (parts : List (List (List ℕ))) (first : Sitting) (ss : List Sitting) (jobs jobs' : List (Result Doing Fault)) (ds : List Doing) → AreTold first ss jobs
-    → ((i : ℕ) (d : Result Doing Fault) → i < length jobs → HasRunIn parts (get_or jobs i d) (get_or jobs' i d)) → length jobs' ≡ length jobs → map Ok ds ≡ jobs' → AllZip (RunsBehind parts first) ss ds
-ran_behind parts first [] [] jobs' [] told each long all = tt
-ran_behind parts first [] [] jobs' (d ∷ ds) told each long all = absurd (let same = ap length all in omega (arith, same, long))
-ran_behind parts first [] (job ∷ jobs) jobs' ds told each long all = absurd told
-ran_behind parts first (s ∷ ss) [] jobs' ds told each long all = absurd told
-ran_behind parts first (s ∷ ss) (job ∷ jobs) jobs' [] told each long all = absurd (let same = ap length all in omega (arith, same, long))
-ran_behind parts first (s ∷ ss) (job ∷ jobs) jobs' (d ∷ ds) ((s1, learned, is), told) each long all =
-    let ran : HasRunIn parts job (Ok d) = subst (λ (l : List (Result Doing Fault)). HasRunIn parts job (get_or l 0 job)) (sym all) (each 0 job (omega arith)) in
-    let here : HasRun parts s1 d = subst (λ (x : Result Doing Fault). HasRunIn parts x (Ok d)) is ran in (
+pub ran_behind : (limit : ℕ) (parts : List (List (List ℕ))) (first : Sitting) (ss : List Sitting) (jobs jobs' : List (Result Doing Fault)) (ds : List Doing) → AreTold first ss jobs
+    → ((i : ℕ) (d : Result Doing Fault) → i < length jobs → HasRunIn limit parts (get_or jobs i d) (get_or jobs' i d)) → length jobs' ≡ length jobs → map Ok ds ≡ jobs' → AllZip (RunsBehind parts first) ss ds
+ran_behind limit parts first [] [] jobs' [] told each long all = tt
+ran_behind limit parts first [] [] jobs' (d ∷ ds) told each long all = absurd (let same = ap length all in omega (arith, same, long))
+ran_behind limit parts first [] (job ∷ jobs) jobs' ds told each long all = absurd told
+ran_behind limit parts first (s ∷ ss) [] jobs' ds told each long all = absurd told
+ran_behind limit parts first (s ∷ ss) (job ∷ jobs) jobs' [] told each long all = absurd (let same = ap length all in omega (arith, same, long))
+ran_behind limit parts first (s ∷ ss) (job ∷ jobs) jobs' (d ∷ ds) ((s1, learned, is), told) each long all =
+    let ran : HasRunIn limit parts job (Ok d) = subst (λ (l : List (Result Doing Fault)). HasRunIn limit parts job (get_or l 0 job)) (sym all) (each 0 job (omega arith)) in
+    let here : HasRun parts s1 d = (subst (λ (x : Result Doing Fault). HasRunIn limit parts x (Ok d)) is ran).0 in (
       (s1, learned, here),
-      ran_behind parts first ss jobs (map Ok ds) ds told
-          (λ i e within. (subst (λ (l : List (Result Doing Fault)). HasRunIn parts (get_or jobs i e) (get_or l (suc i) e)) (sym all) (each (suc i) e (omega (arith, within)))))
+      ran_behind limit parts first ss jobs (map Ok ds) ds told
+          (λ i e within. (subst (λ (l : List (Result Doing Fault)). HasRunIn limit parts (get_or jobs i e) (get_or l (suc i) e)) (sym all) (each (suc i) e (omega (arith, within)))))
           (let same = ap length all in omega (arith, same, long)) refl,
     )
 
 -- the first job and the others are done
-pub are_done : (parts : List (List (List ℕ))) (seats rest : List Sitting) (s : Sitting) (d : Doing) (jobs jobs' : List (Result Doing Fault)) (ds : List Doing) → seats ≡ s ∷ rest → HasRun parts s d
-    → AreTold d.seat rest jobs → ((i : ℕ) (e : Result Doing Fault) → i < length jobs → HasRunIn parts (get_or jobs i e) (get_or jobs' i e)) → length jobs' ≡ length jobs
+pub are_done : (limit : ℕ) (parts : List (List (List ℕ))) (seats rest : List Sitting) (s : Sitting) (d : Doing) (jobs jobs' : List (Result Doing Fault)) (ds : List Doing) → seats ≡ s ∷ rest → HasRun parts s d
+    → AreTold d.seat rest jobs → ((i : ℕ) (e : Result Doing Fault) → i < length jobs → HasRunIn limit parts (get_or jobs i e) (get_or jobs' i e)) → length jobs' ≡ length jobs
     → map Ok ds ≡ Ok d ∷ jobs' → AreDone parts seats ds
-are_done parts seats rest s d jobs jobs' [] are run told each long all = absurd (let same = ap length all in omega (arith, same))
-are_done parts seats rest s d jobs jobs' (d' ∷ ds) are run told each long all =
+are_done limit parts seats rest s d jobs jobs' [] are run told each long all = absurd (let same = ap length all in omega (arith, same))
+are_done limit parts seats rest s d jobs jobs' (d' ∷ ds) are run told each long all =
     let first : d' ≡ d = cc in
     let others : map Ok ds ≡ jobs' = cc in
     subst (λ (l : List Sitting). AreDone parts l (d' ∷ ds)) (sym are)
-    (subst (λ (x : Doing). HasRun parts s x × AllZip (RunsBehind parts x.seat) rest ds) (sym first) (run, ran_behind parts d.seat rest jobs jobs' ds told each long others))
+    (subst (λ (x : Doing). HasRun parts s x × AllZip (RunsBehind parts x.seat) rest ds) (sym first) (run, ran_behind limit parts d.seat rest jobs jobs' ds told each long others))
 
 -- a list of seats by its first one
 pub first_seat : (seats rest : List Sitting) (s : Sitting) → 1 ≤ length seats → s ≡ get_or seats 0 s → rest ≡ drop 1 seats → seats ≡ s ∷ rest
@@ -117,3 +117,13 @@ pub all_done : (parts : List (List (List ℕ))) (seats : List Sitting) (d : Doin
     → IfOk result (λ all. map Ok all.items ≡ Ok d ∷ jobs) → ((ds : List Doing) → map Ok ds ≡ Ok d ∷ jobs → AreDone parts seats ds) → IfOk result (λ all. AreDone parts seats all.items)
 all_done parts seats d jobs (Ok all) same done = done all.items same
 all_done parts seats d jobs (Err fault) same done = tt
+
+-- one job more of those that no fault has ended
+pub together_next : {X E : Type 0} (done done' : List X) (job : Result X E) (d : X) (before rest all : List (Result X E)) → before ≡ job ∷ rest → job ≡ Ok d → done' ≡ done ++ d ∷ []
+    → map Ok done ++ before ≡ all → map Ok done' ++ rest ≡ all
+together_next done done' job d before rest all next is longer same =
+    ap (λ l. map Ok l ++ rest) longer ∙ ap (λ l. l ++ rest) (map-append Ok done (d ∷ [])) ∙ append_assoc (map Ok done) (Ok d ∷ []) rest
+    ∙ ap (λ j. map Ok done ++ j ∷ rest) (sym is) ∙ ap (λ l. map Ok done ++ l) (sym next) ∙ same
+
+pub rest_so : {X : Type 0} (P : X → Type 0) (x : X) (before rest : List X) → before ≡ x ∷ rest → All P before → All P rest
+rest_so P x before rest next all = All-tail P x rest (subst (All P) next all)

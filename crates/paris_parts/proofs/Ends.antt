@@ -16,7 +16,7 @@ use Rattle.paris_records.specs.Receipts.{receipts_in}
 use Rattle.paris_desk.specs.Closing.{by_number, past_of}
 use Rattle.paris_desk.specs.Seats.{Sitting, fresh}
 use Rattle.paris_parts.specs.Jobs.{AreDone, Doing}
-use Rattle.paris_parts.proofs.Runs.{each_done}
+use Rattle.paris_parts.proofs.Runs.{each_done, first_before_others}
 use Rattle.paris_parts.specs.Texts.{edits_in, closed_text}
 use Rattle.paris_parts.specs.Run.{Concludes, LeftBy, Plays, last_session}
 
@@ -41,17 +41,18 @@ concludes seats sat last text all closing told history book left receipts s s' r
 
 pub plays_done : (seats : ℕ) (played : List (List (List ℕ))) (last : List (List ℕ)) (sat : List Sitting) (text text' : List ℕ) (s s' : Summary) → 1 ≤ length played → 1 ≤ seats
     → ((ds : List Doing) × AreDone played (fresh seats) ds × LeftBy ds (length played) sat text s) → Concludes seats sat last text text' s s' → Plays seats played last text' s'
-plays_done seats played last sat text text' s s' some any (ds, done, (sat_is, text_is, commands, refusals)) end = record {
-  done = ds;
-  history = end.history;
-  each = each_done played seats ds end.history done some any
-      (subst (λ (ss : List Sitting). (n : ℕ) → n < seats → IsPrefix (past_of n ss) end.history) sat_is end.begins)
-      (subst (λ (ss : List Sitting). (n : ℕ) → list_of (by_number seats ss) n ≡ receipts_in n 0 end.history) sat_is end.each);
-  agree = subst (λ (ss : List Sitting). Agree end.history (by_number seats ss)) sat_is end.agree;
-  written = end.written ∙ ap (λ (l : List ℕ). l ++ (closed_text (edits_in end.history) true ++ replies (last_session end.history) last)) text_is;
-  commands = end.commands ∙ ap (λ (n : ℕ). n + (after_lines (last_session end.history) last).commands) commands;
-  refusals = end.refusals ∙ ap (λ (n : ℕ). n + (after_lines (last_session end.history) last).refusals) refusals;
-}
+plays_done seats played last sat text text' s s' some any (ds, done, (sat_is, text_is, commands, refusals)) end =
+    let begins = subst (λ (ss : List Sitting). (n : ℕ) → n < seats → IsPrefix (past_of n ss) end.history) sat_is end.begins in
+    let each = subst (λ (ss : List Sitting). (n : ℕ) → list_of (by_number seats ss) n ≡ receipts_in n 0 end.history) sat_is end.each in record {
+      done = ds;
+      history = end.history;
+      each = each_done played seats ds end.history done some any begins each;
+      order = first_before_others played seats ds end.history done some any begins each;
+      agree = subst (λ (ss : List Sitting). Agree end.history (by_number seats ss)) sat_is end.agree;
+      written = end.written ∙ ap (λ (l : List ℕ). l ++ (closed_text (edits_in end.history) true ++ replies (last_session end.history) last)) text_is;
+      commands = end.commands ∙ ap (λ (n : ℕ). n + (after_lines (last_session end.history) last).commands) commands;
+      refusals = end.refusals ∙ ap (λ (n : ℕ). n + (after_lines (last_session end.history) last).refusals) refusals;
+    }
 
 -- the same of what a run came to
 pub plays_if : (seats : ℕ) (played : List (List (List ℕ))) (last : List (List ℕ)) (sat : List Sitting) (text : List ℕ) (s : Summary) (result : Result Transcript Fault) → 1 ≤ length played → 1 ≤ seats

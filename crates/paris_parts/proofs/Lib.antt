@@ -1,7 +1,9 @@
 pub mod Doings
 pub mod Ends
+pub mod Orders
 pub mod Playing
 pub mod Runs
 pub mod Sights
 pub mod Steps
+pub mod Stops
 pub mod Telling

@@ -15,7 +15,7 @@ use Rattle.paris_replies.specs.Replies.{faults_text}
 use Rattle.paris_cuts.specs.declared.asked.Asked.{Asked}
 use Rattle.paris_cuts.specs.declared.asked.Asked.TheVariants as asks
 use Rattle.paris_parts.proofs.Doings.{lines_more}
-use Rattle.paris_parts.proofs.Steps.{calls, from_first, looks, moves_more, stays, still}
+use Rattle.paris_parts.proofs.Steps.{calls, from_first, looks, moves_on, stays, still}
 use Rattle.paris_records.specs.History.{state_of}
 use Rattle.paris_records.specs.declared.records.Entry.{Entry}
 use Rattle.paris_records.specs.declared.records.Receipt.{Receipt}
@@ -183,10 +183,10 @@ pub played_more : (s s1 s2 : Sitting) (lines : List (List ℕ)) (h h' : Hand) (t
     → HasAnswered s1 s2 h line h' reply → HasPlayed s s2 (lines ++ line ∷ []) h' (text ++ reply)
 played_more s s1 s2 lines h h' text line reply (rs, moved, plays) (more, next, answers) = (
   rs ++ more,
-  moves_more s s1 s2 rs more moved next,
+  moves_on s s1 s2 rs more moved next,
   plays_more (Glimpses s.past s2) s.receipts empty_hand lines rs h text line more h' reply
-      (plays_so (Glimpses s.past s1) (Glimpses s.past s2) s.receipts empty_hand lines rs h text (λ made seen g. still s.past s1 s2 more made seen moved.time next g) plays)
-      (answers_so (Glimpses s1.past s2 s1.receipts) (Glimpses s.past s2 (s.receipts ++ rs)) h line more h' reply (λ seen g. from_first s s1 s2 rs seen moved g) answers),
+      (plays_so (Glimpses s.past s1) (Glimpses s.past s2) s.receipts empty_hand lines rs h text (λ made seen g. still s.past s1 s2 more made seen moved.1 next.0 g) plays)
+      (answers_so (Glimpses s1.past s2 s1.receipts) (Glimpses s.past s2 (s.receipts ++ rs)) h line more h' reply (λ seen g. from_first s s1 s2 rs seen moved.0 g) answers),
 )
 
 told_count : (h : Hand) (r : Reply) → (told h r).0.commands ≡ h.commands

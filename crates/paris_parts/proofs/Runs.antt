@@ -17,17 +17,20 @@ use Rattle.paris_records.specs.Receipts.{receipts_in}
 use Rattle.paris_desk.specs.Closing.{by_number, past_of, receipts_of}
 use Rattle.paris_desk.specs.Pasts.{Learned}
 use Rattle.paris_desk.specs.Seats.{Sitting, sitting, fresh}
-use Rattle.paris_desk.specs.Work.{Gained, Worked}
-use Rattle.paris_desk.proofs.Lists.{by_number_at}
+use Rattle.paris_desk.specs.Work.{Moves, Worked}
+use Rattle.paris_desk.proofs.Lists.{by_number_at, by_number_past}
+use Rattle.paris_desk.proofs.Moving.{Behind, all_both, all_so}
+use Rattle.paris_desk.proofs.Prefixes.{prefix_length, prefix_none}
 use Rattle.paris_cuts.specs.Hands.{empty_hand}
 use Rattle.paris_cuts.specs.Parts.{IsShort}
 use Rattle.paris_parts.specs.Hands.{Plays}
 use Rattle.paris_parts.specs.Jobs.{Doing, AreDone, HasRun, HasWorked, IsDone, IsNew, Played, RunsBehind, begun_at}
 use Rattle.paris_parts.specs.Seeing.{Glimpses, IsInTime, Sees}
 use Rattle.paris_parts.specs.Texts.{at_seat}
-use Rattle.paris_parts.specs.Run.{EachDone}
+use Rattle.paris_parts.specs.Run.{EachDone, FirstBeforeOthers}
+use Rattle.paris_parts.proofs.Orders.{first_before}
 use Rattle.paris_parts.proofs.Playing.{plays_so}
-use Rattle.paris_parts.proofs.Sights.{all_both, seen_so}
+use Rattle.paris_parts.proofs.Sights.{UpTo, seen_so}
 
 pub fresh_length : (n : ℕ) → length (fresh n) ≡ n
 fresh_length zero = refl
@@ -89,21 +92,26 @@ began_told : (first : Sitting) (n : ℕ) (s s1 : Sitting) → BeganAt first n s 
 began_told first zero s s1 is other = absurd (omega (arith, other))
 began_told first (suc n) s s1 l other = l.others
 
--- the number and the receipts of a seat that has run
-run_number : (parts : List (List (List ℕ))) (s : Sitting) (d : Doing) → HasRun parts s d → d.seat.number ≡ s.number
-run_number parts s d = by_part (slice_get parts s.number)
+-- how a seat that has run has moved
+run_moves : (parts : List (List (List ℕ))) (s : Sitting) (d : Doing) → HasRun parts s d → (rs : List Receipt) × Moves s d.seat rs
+run_moves parts s d = by_part (slice_get parts s.number)
   where
-    by_part : (o : Option (List (List ℕ))) → MatchOption o (HasWorked s d.seat) (λ part. Played (Glimpses s.past d.seat) part s d × IsInTime d.seat) → d.seat.number ≡ s.number
-    by_part None (ran, worked) = worked.gained.0
-    by_part (Some part) (played, time) = played.1.0
+    by_part : (o : Option (List (List ℕ))) → MatchOption o (HasWorked s d.seat) (λ part. Played (Glimpses s.past d.seat) part s d × IsInTime d.seat) → (rs : List Receipt) × Moves s d.seat rs
+    by_part None (ran, worked) = (worked.pairs ++ worked.last, worked.moved)
+    by_part (Some part) (played, time) = (played.0, played.1)
 
 -- in the closed history a seat has done what it did
 done_so : (parts : List (List (List ℕ))) (h : List Entry) (n : ℕ) (s1 : Sitting) (d : Doing) → s1.number ≡ n → s1.receipts ≡ [] → HasRun parts s1 d
     → ((made : List Receipt) (seen : List Entry) → Glimpses s1.past d.seat made seen → Sees h n made seen) → IsDone (Sees h n) parts (sitting n [] 0 []) d
 done_so parts h n s1 d number none run so = subst (λ (k : ℕ). MatchOption (slice_get parts k) (HasWorked (sitting n [] 0 []) d.seat) (λ part. Played (Sees h n) part (sitting n [] 0 []) d)) number (by_part (slice_get parts s1.number) run)
   where
-    gained : (rs : List Receipt) → Gained s1 d.seat rs → Gained (sitting n [] 0 []) d.seat rs
-    gained rs g = (g.0 ∙ number, g.1 ∙ ap (λ (l : List Receipt). l ++ rs) none)
+    moved : (rs : List Receipt) → Moves s1 d.seat rs → Moves (sitting n [] 0 []) d.seat rs
+    moved rs m = record {
+      gained = (m.gained.0 ∙ number, m.gained.1 ∙ ap (λ (l : List Receipt). l ++ rs) none);
+      begins = prefix_none d.seat.past;
+      front = omega arith;
+      late = all_so (Behind s1.front) (Behind 0) rs (λ r late. omega (arith, late)) m.late;
+    }
 
     worked : (ran : ℕ) → Worked MAX_HISTORY ran s1 d.seat → Worked MAX_HISTORY ran (sitting n [] 0 []) d.seat
     worked ran w = record {
@@ -112,15 +120,15 @@ done_so parts h n s1 d number none run so = subst (λ (k : ℕ). MatchOption (sl
       last = w.last;
       are_pairs = w.are_pairs;
       ends = w.ends;
-      gained = gained (w.pairs ++ w.last) w.gained;
+      moved = moved (w.pairs ++ w.last) w.moved;
     }
 
     by_part : (o : Option (List (List ℕ))) → MatchOption o (HasWorked s1 d.seat) (λ part. Played (Glimpses s1.past d.seat) part s1 d × IsInTime d.seat)
         → MatchOption o (HasWorked (sitting n [] 0 []) d.seat) (λ part. Played (Sees h n) part (sitting n [] 0 []) d)
     by_part None (ran, w) = (ran, worked ran w)
-    by_part (Some part) ((rs, g, plays, few), time) = (
+    by_part (Some part) ((rs, m, plays, few), time) = (
       rs,
-      gained rs g,
+      moved rs m,
       subst (λ (l : List Receipt). Plays (Sees h n) l empty_hand part rs d.hand d.text) none (plays_so (Glimpses s1.past d.seat) (Sees h n) s1.receipts empty_hand part rs d.hand d.text so plays),
       few,
     )
@@ -145,7 +153,7 @@ number_at : (parts : List (List (List ℕ))) (count : ℕ) (ds : List Doing) →
 number_at parts count ds done n d within =
     let inside : n < length (fresh count) = (let long = fresh_length count in omega (arith, long, within)) in
     let (s1, began, run) = ran_at parts (fresh count) ds n (sitting n [] 0 []) d d done inside in
-    run_number parts s1 (get_or ds n d) run ∙ (began_same (get_or ds 0 d).seat n (get_or (fresh count) n (sitting n [] 0 [])) s1 began).0
+    (run_moves parts s1 (get_or ds n d) run).1.gained.0 ∙ (began_same (get_or ds 0 d).seat n (get_or (fresh count) n (sitting n [] 0 [])) s1 began).0
     ∙ ap (λ (s : Sitting). s.number) (fresh_at count n (sitting n [] 0 []) within)
 
 -- a first seat that has played is in time
@@ -154,10 +162,41 @@ first_in_time parts s d number some run =
     let at : slice_get parts s.number ≡ Some (get_or parts 0 []) = ap (slice_get parts) number ∙ slice_get-get_or parts 0 [] some in
     (subst (λ o. MatchOption o (HasWorked s d.seat) (λ part. Played (Glimpses s.past d.seat) part s d × IsInTime d.seat)) at run).1
 
--- where all seats have run whose desk is closed, it is known in the history what each has done
-pub each_done : (parts : List (List (List ℕ))) (count : ℕ) (ds : List Doing) (h : List Entry) → AreDone parts (fresh count) ds → 1 ≤ length parts → 1 ≤ count
-    → ((n : ℕ) → n < count → IsPrefix (past_of n (map (λ (d : Doing). d.seat) ds)) h) → ((n : ℕ) → list_of (by_number count (map (λ (d : Doing). d.seat) ds)) n ≡ receipts_in n 0 h) → EachDone h parts count ds
-each_done parts count ds h done some any begins each =
+-- how the seat of a number began, and that it has run
+begun : (parts : List (List (List ℕ))) (count : ℕ) (ds : List Doing) (n : ℕ) → AreDone parts (fresh count) ds → n < count
+    → (s1 : Sitting) × BeganAt (at_seat ds 0).seat n (sitting n [] 0 []) s1 × HasRun parts s1 (at_seat ds n)
+begun parts count ds n done within =
+    let inside : n < length (fresh count) = (let long = fresh_length count in omega (arith, long, within)) in
+    let (s1, began, run) = ran_at parts (fresh count) ds n (sitting n [] 0 []) (begun_at (sitting n [] 0 [])) (begun_at (sitting 0 [] 0 [])) done inside in
+    (s1, subst (λ (s : Sitting). BeganAt (at_seat ds 0).seat n s s1) (fresh_at count n (sitting n [] 0 []) within) began, run)
+
+-- the first seat's calls are in its past
+first_upto : (parts : List (List (List ℕ))) (count : ℕ) (ds : List Doing) → AreDone parts (fresh count) ds → 1 ≤ length parts → 1 ≤ count
+    → All (UpTo (length (at_seat ds 0).seat.past)) (at_seat ds 0).seat.receipts
+first_upto parts count ds done some any =
+    let (s1, began, run) = begun parts count ds 0 done any in
+    (first_in_time parts s1 (at_seat ds 0) (ap (λ (s : Sitting). s.number) began) some run).1
+
+-- those of all others are behind it
+others_behind : (parts : List (List (List ℕ))) (count : ℕ) (ds : List Doing) (n : ℕ) → AreDone parts (fresh count) ds → 1 ≤ n → n < count
+    → All (Behind (length (at_seat ds 0).seat.past)) (at_seat ds n).seat.receipts
+others_behind parts count ds zero done other within = absurd (omega (arith, other))
+others_behind parts count ds (suc n) done other within =
+    let known : ℕ = length (at_seat ds 0).seat.past in
+    let (s1, learned, run) = begun parts count ds (suc n) done within in
+    let (rs, moved) = run_moves parts s1 (at_seat ds (suc n)) run in
+    let told : known ≤ s1.front = (let long = prefix_length (at_seat ds 0).seat.past s1.past learned.others in let front = learned.front.1 in omega (arith, long, front)) in
+    let are : (at_seat ds (suc n)).seat.receipts ≡ rs = moved.gained.1 ∙ ap (λ (l : List Receipt). l ++ rs) learned.same.1 in
+    subst (All (Behind known)) (sym are) (all_so (Behind s1.front) (Behind known) rs (λ r late. omega (arith, late, told)) moved.late)
+
+-- each of so many seats has just its receipts of a history, which begins with its past
+abbrev StandIn : List Entry → ℕ → List Doing → Type 0
+StandIn h count ds = (n : ℕ) → n < count → ((at_seat ds n).seat.receipts ≡ receipts_in n 0 h) × IsPrefix (at_seat ds n).seat.past h
+
+-- so it is in the history of a closed desk
+stand_in : (parts : List (List (List ℕ))) (count : ℕ) (ds : List Doing) (h : List Entry) → AreDone parts (fresh count) ds
+    → ((n : ℕ) → n < count → IsPrefix (past_of n (map (λ (d : Doing). d.seat) ds)) h) → ((n : ℕ) → list_of (by_number count (map (λ (d : Doing). d.seat) ds)) n ≡ receipts_in n 0 h) → StandIn h count ds
+stand_in parts count ds h done begins each n within =
     let seat_of : Doing → Sitting = λ d. d.seat in
     let sat : List Sitting = map seat_of ds in
     let long : length ds ≡ count = done_long parts (fresh count) ds done ∙ fresh_length count in
@@ -165,30 +204,49 @@ each_done parts count ds h done some any begins each =
     let numbers : (i : ℕ) (t : Sitting) → i < length sat → (get_or sat i t).number ≡ 0 + i = λ i t inside.
     (ap (λ (s : Sitting). s.number) (get_or-map seat_of ds i (begun_at (sitting i [] 0 [])) t (omega (arith, inside, sat_long)))
     ∙ number_at parts count ds done i (begun_at (sitting i [] 0 [])) (omega (arith, inside, sat_long, long)) ∙ omega arith) in
-    let found : (n : ℕ) → n < count → (receipts_of n sat ≡ (at_seat ds n).seat.receipts) × (past_of n sat ≡ (at_seat ds n).seat.past) = λ n within.
-    (let own = begun_at (sitting n [] 0 []) in
-    let there : get_or sat n (sitting n [] 0 []) ≡ (at_seat ds n).seat = get_or-map seat_of ds n own (sitting n [] 0 []) (omega (arith, within, long)) in
+    let there : get_or sat n (sitting n [] 0 []) ≡ (at_seat ds n).seat = get_or-map seat_of ds n (begun_at (sitting n [] 0 [])) (sitting n [] 0 []) (omega (arith, within, long)) in
     let zero_more : 0 + n ≡ n = omega arith in
-    let both = seat_at 0 sat n (sitting n [] 0 []) numbers (omega (arith, within, sat_long, long)) in (
-      ap (λ (k : ℕ). receipts_of k sat) (sym zero_more) ∙ both.0 ∙ ap (λ (s : Sitting). s.receipts) there,
-      ap (λ (k : ℕ). past_of k sat) (sym zero_more) ∙ both.1 ∙ ap (λ (s : Sitting). s.past) there,
-    )) in
-    let own : (n : ℕ) → n < count → (at_seat ds n).seat.receipts ≡ receipts_in n 0 h = λ n within. (sym (found n within).0 ∙ sym (by_number_at count sat n within) ∙ each n) in
-    let past : (n : ℕ) → n < count → IsPrefix (at_seat ds n).seat.past h = λ n within. (subst (λ (l : List Entry). IsPrefix l h) (found n within).1 (begins n within)) in
+    let both = seat_at 0 sat n (sitting n [] 0 []) numbers (omega (arith, within, sat_long, long)) in
+    let receipts : receipts_of n sat ≡ (at_seat ds n).seat.receipts = ap (λ (k : ℕ). receipts_of k sat) (sym zero_more) ∙ both.0 ∙ ap (λ (s : Sitting). s.receipts) there in
+    let past : past_of n sat ≡ (at_seat ds n).seat.past = ap (λ (k : ℕ). past_of k sat) (sym zero_more) ∙ both.1 ∙ ap (λ (s : Sitting). s.past) there in
+    (sym receipts ∙ sym (by_number_at count sat n within) ∙ each n, subst (λ (l : List Entry). IsPrefix l h) past (begins n within))
+
+-- where all seats have run whose desk is closed, it is known in the history what each has done
+pub each_done : (parts : List (List (List ℕ))) (count : ℕ) (ds : List Doing) (h : List Entry) → AreDone parts (fresh count) ds → 1 ≤ length parts → 1 ≤ count
+    → ((n : ℕ) → n < count → IsPrefix (past_of n (map (λ (d : Doing). d.seat) ds)) h) → ((n : ℕ) → list_of (by_number count (map (λ (d : Doing). d.seat) ds)) n ≡ receipts_in n 0 h) → EachDone h parts count ds
+each_done parts count ds h done some any begins each =
     let first = at_seat ds 0 in
-    let inside : (n : ℕ) → n < count → n < length (fresh count) = λ n within. (let l = fresh_length count in omega (arith, l, within)) in
-    let (s0, began0, run0) = ran_at parts (fresh count) ds 0 (sitting 0 [] 0 []) (begun_at (sitting 0 [] 0 [])) (begun_at (sitting 0 [] 0 [])) done (inside 0 any) in
-    let number0 : s0.number ≡ 0 = ap (λ (s : Sitting). s.number) began0 ∙ ap (λ (s : Sitting). s.number) (fresh_at count 0 (sitting 0 [] 0 []) any) in
-    let upto = (first_in_time parts s0 first number0 some run0).1 in (
-      long,
+    let stand = stand_in parts count ds h done begins each in
+    let upto = first_upto parts count ds done some any in (
+      done_long parts (fresh count) ds done ∙ fresh_length count,
       λ n within. (
-          let (s1, began, run) = ran_at parts (fresh count) ds n (sitting n [] 0 []) (begun_at (sitting n [] 0 [])) (begun_at (sitting 0 [] 0 [])) done (inside n within) in
-          let same = began_same first.seat n (get_or (fresh count) n (sitting n [] 0 [])) s1 began in
-          let fresh_is = fresh_at count n (sitting n [] 0 []) within in
-          done_so parts h n s1 (at_seat ds n) (same.0 ∙ ap (λ (s : Sitting). s.number) fresh_is) (same.1 ∙ ap (λ (s : Sitting). s.receipts) fresh_is) run
-          (seen_so h n (at_seat ds n).seat s1.past first.seat.past first.seat.receipts (past n within) (own n within)
-          (began_told first.seat n (get_or (fresh count) n (sitting n [] 0 [])) s1 began) upto (own 0 any))),
+          let (s1, began, run) = begun parts count ds n done within in
+          let same = began_same first.seat n (sitting n [] 0 []) s1 began in
+          done_so parts h n s1 (at_seat ds n) same.0 same.1 run
+          (seen_so h n (at_seat ds n).seat s1.past first.seat.past first.seat.receipts (stand n within).1 (stand n within).0
+          (began_told first.seat n (sitting n [] 0 []) s1 began) upto (stand 0 any).0)),
     )
+
+-- and in it the first seat's calls come before those of the others
+pub first_before_others : (parts : List (List (List ℕ))) (count : ℕ) (ds : List Doing) (h : List Entry) → AreDone parts (fresh count) ds → 1 ≤ length parts → 1 ≤ count
+    → ((n : ℕ) → n < count → IsPrefix (past_of n (map (λ (d : Doing). d.seat) ds)) h) → ((n : ℕ) → list_of (by_number count (map (λ (d : Doing). d.seat) ds)) n ≡ receipts_in n 0 h) → FirstBeforeOthers h
+first_before_others parts count ds h done some any begins each =
+    first_before known 0 h others (subst (All (UpTo known)) (stand 0 any).0 (first_upto parts count ds done some any))
+  where
+    known : ℕ
+    known = length (at_seat ds 0).seat.past
+
+    stand : StandIn h count ds
+    stand = stand_in parts count ds h done begins each
+
+    sat : List Sitting
+    sat = map (λ (d : Doing). d.seat) ds
+
+    others : (n : ℕ) → 1 ≤ n → All (Behind known) (receipts_in n 0 h)
+    others n other = elim (cases_lt n count) [
+      | inl within ↦ subst (All (Behind known)) (stand n within).0 (others_behind parts count ds n done other within)
+      | inr past ↦ subst (All (Behind known)) (sym (by_number_past count sat n past) ∙ each n) (All-nil (Behind known))
+    ]
 
 -- a part that was played has few commands
 played_few : (parts : List (List (List ℕ))) (n : ℕ) (s : Sitting) (d : Doing) → s.number ≡ n → All IsShort parts → n < length parts → HasRun parts s d → d.hand.commands < 1125899906842624

@@ -9,22 +9,13 @@ use Rattle.paris_records.specs.declared.records.Receipt.{Receipt}
 use Rattle.paris_records.specs.History.{receipt}
 use Rattle.paris_records.specs.Receipts.{receipts_in}
 use Rattle.paris_desk.specs.Seats.{Sitting}
+use Rattle.paris_desk.proofs.Moving.{Behind, all_so}
 use Rattle.paris_desk.proofs.Prefixes.{prefix_length, prefix_trans}
 use Rattle.paris_parts.specs.Seeing.{Glimpses, Sees}
 
-pub all_so : {A : Type 0} (P Q : A → Type 0) (xs : List A) → ((x : A) → P x → Q x) → All P xs → All Q xs
-all_so P Q [] so h = All-nil Q
-all_so P Q (x ∷ xs) so h = All-cons Q x xs (so x (All-head P x xs h)) (all_so P Q xs so (All-tail P x xs h))
-
-pub all_both : {A : Type 0} (P : A → Type 0) (xs ys : List A) → All P xs → All P ys → All P (xs ++ ys)
-all_both P [] ys h g = g
-all_both P (x ∷ xs) ys h g = All-cons P x (xs ++ ys) (All-head P x xs h) (all_both P xs ys (All-tail P x xs h) g)
-
+-- receipts of the first so many entries
 abbrev pub UpTo : ℕ → Receipt → Type 0
 UpTo n r = r.number ≤ n
-
-abbrev pub Behind : ℕ → Receipt → Type 0
-Behind n r = n < r.number
 
 -- a list has one cut between what is up to a number and what is behind it
 cut_once : (n : ℕ) (xs ys us vs : List Receipt) → xs ++ ys ≡ us ++ vs → All (UpTo n) xs → All (Behind n) ys → All (UpTo n) us → All (Behind n) vs → xs ≡ us

@@ -1,66 +1,52 @@
 -- What a player does with its seat, step by step.
-use Rattle.std.proofs.Common.{◌≡◌, ◌+◌, ◌≤◌, List, [], ◌∷◌, ◌++◌, length, refl, sym, ap, ◌∙◌, subst, arith, append_assoc, append-nil, length-append}
+use Rattle.std.proofs.Common.{◌≡◌, ◌≤◌, List, [], ◌∷◌, ◌++◌, length, refl, sym, ap, ◌∙◌, subst, arith, append_assoc, append-nil}
 use Rattle.std.specs.List.{All}
 use Rattle.std.proofs.lemmas.List.Elements.{All-cons, All-nil}
-use mathlib.Core.List.{IsPrefix}
 use Rattle.paris_machine.specs.declared.events.Event.{Event}
 use Rattle.paris_machine.specs.declared.events.Reply.{Reply}
 use Rattle.paris_records.specs.declared.records.Entry.{Entry}
 use Rattle.paris_records.specs.declared.records.Receipt.{Receipt}
-use Rattle.paris_records.specs.History.{entry, receipt}
+use Rattle.paris_records.specs.History.{entry}
 use Rattle.paris_desk.specs.Calls.{Called}
 use Rattle.paris_desk.specs.Seats.{Sitting, called}
+use Rattle.paris_desk.specs.Work.{Moves}
+use Rattle.paris_desk.proofs.Moving.{Behind, all_both, all_so, moves_call, moves_more, moves_none, receipt_of}
 use Rattle.paris_desk.proofs.Prefixes.{prefix_length, prefix_self, prefix_snoc, prefix_trans}
-use Rattle.paris_desk.proofs.Turns.{gained_more, gained_none}
 use Rattle.paris_view.specs.Looks.{Looked}
-use Rattle.paris_parts.specs.Moving.{Moves}
+use Rattle.paris_parts.specs.Moving.{MovesInTime}
 use Rattle.paris_parts.specs.Seeing.{Glimpses, IsInTime}
-use Rattle.paris_parts.proofs.Sights.{Behind, UpTo, all_both, all_so}
+use Rattle.paris_parts.proofs.Sights.{UpTo}
 
 -- no call was made, and no look
-pub stays : (s : Sitting) → IsInTime s → Moves s s []
-stays s time = record {
-  gained = gained_none s;
-  begins = prefix_self s.past;
-  front = omega arith;
-  late = All-nil (Behind s.front);
-  time = time;
-}
+pub stays : (s : Sitting) → IsInTime s → MovesInTime s s []
+stays s time = (moves_none s, time)
 
 -- a call was made
-pub calls : (s s' : Sitting) (event : Event) (reply : Reply) → Called s s' event reply → IsInTime s → (r : Receipt) × Moves s s' (r ∷ []) × (r.event ≡ event) × (r.reply ≡ reply)
+pub calls : (s s' : Sitting) (event : Event) (reply : Reply) → Called s s' event reply → IsInTime s → (r : Receipt) × MovesInTime s s' (r ∷ []) × (r.event ≡ event) × (r.reply ≡ reply)
 calls s s' event reply c time =
     let h : List Entry = c.history ++ entry s.number event reply ∷ [] in
-    let own : Receipt = receipt s.number (length h) event reply in
-    let more : length h ≡ length c.history + 1 = length-append c.history (entry s.number event reply ∷ []) in
-    let begins : IsPrefix s.past h = prefix_trans s.past c.history h c.begins (prefix_snoc c.history (entry s.number event reply)) in
-    let longer : length s.past ≤ length h = prefix_length s.past h begins in
-    let moved : Moves s (called s h event reply) (own ∷ []) = record {
-      gained = (refl, refl);
-      begins = begins;
-      front = (let told = c.told in omega (arith, told, more));
-      late = All-cons (Behind s.front) own [] (let told = c.told in omega (arith, told, more)) (All-nil (Behind s.front));
-      time = (
-        omega arith,
-        all_both (UpTo (length h)) s.receipts (own ∷ []) (all_so (UpTo (length s.past)) (UpTo (length h)) s.receipts (λ r low. omega (arith, low, longer)) time.1)
-            (All-cons (UpTo (length h)) own [] (omega arith) (All-nil (UpTo (length h)))),
-      );
-    } in
-    (own, subst (λ (x : Sitting). Moves s x (own ∷ [])) (sym c.seat) moved, refl, refl)
+    let own : Receipt = receipt_of s s' event reply c in
+    let longer : length s.past ≤ length h = prefix_length s.past h (prefix_trans s.past c.history h c.begins (prefix_snoc c.history (entry s.number event reply))) in
+    let next : IsInTime (called s h event reply) = (
+      omega arith,
+      all_both (UpTo (length h)) s.receipts (own ∷ []) (all_so (UpTo (length s.past)) (UpTo (length h)) s.receipts (λ r low. omega (arith, low, longer)) time.1)
+          (All-cons (UpTo (length h)) own [] (omega arith) (All-nil (UpTo (length h)))),
+    ) in
+    (own, (moves_call s s' event reply c, subst IsInTime (sym c.seat) next), refl, refl)
 
 -- a look was made
-pub looks : (s s' : Sitting) → Looked s s' → IsInTime s → Moves s s' [] × Glimpses s.past s' s.receipts s'.past
+pub looks : (s s' : Sitting) → Looked s s' → IsInTime s → MovesInTime s s' [] × Glimpses s.past s' s.receipts s'.past
 looks s s' l time =
     let longer : length s.past ≤ length s'.past = prefix_length s.past s'.past l.begins in
     let low : All (UpTo (length s'.past)) s.receipts = all_so (UpTo (length s.past)) (UpTo (length s'.past)) s.receipts (λ r few. omega (arith, few, longer)) time.1 in
-    let told = l.front.1 in (
-      record {
-        gained = (l.same.0, l.same.1 ∙ sym (append-nil s.receipts));
-        begins = l.begins;
-        front = l.front.0;
-        late = All-nil (Behind s.front);
-        time = (omega (arith, told), subst (All (UpTo (length s'.past))) (sym l.same.1) low);
-      },
+    let told = l.front.1 in
+    let moved : Moves s s' [] = record {
+      gained = (l.same.0, l.same.1 ∙ sym (append-nil s.receipts));
+      begins = l.begins;
+      front = l.front.0;
+      late = All-nil (Behind s.front);
+    } in (
+      (moved, (omega (arith, told), subst (All (UpTo (length s'.past))) (sym l.same.1) low)),
       record {
         begins = l.begins;
         past = prefix_self s'.past;
@@ -72,16 +58,8 @@ looks s s' l time =
     )
 
 -- one step after another
-pub moves_more : (s s1 s2 : Sitting) (rs more : List Receipt) → Moves s s1 rs → Moves s1 s2 more → Moves s s2 (rs ++ more)
-moves_more s s1 s2 rs more m n =
-    let forth = m.front in
-    let on = n.front in record {
-      gained = gained_more s s1 s2 rs more m.gained n.gained;
-      begins = prefix_trans s.past s1.past s2.past m.begins n.begins;
-      front = omega (arith, forth, on);
-      late = all_both (Behind s.front) rs more m.late (all_so (Behind s1.front) (Behind s.front) more (λ r late. omega (arith, late, forth)) n.late);
-      time = n.time;
-    }
+pub moves_on : (s s1 s2 : Sitting) (rs more : List Receipt) → MovesInTime s s1 rs → MovesInTime s1 s2 more → MovesInTime s s2 (rs ++ more)
+moves_on s s1 s2 rs more m n = (moves_more s s1 s2 rs more m.0 n.0, n.1)
 
 -- what was seen stays so
 pub still : (first : List Entry) (s s' : Sitting) (rs made : List Receipt) (seen : List Entry) → IsInTime s → Moves s s' rs → Glimpses first s made seen → Glimpses first s' made seen

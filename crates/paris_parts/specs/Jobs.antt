@@ -1,14 +1,15 @@
 -- What is done at a desk by its seats, each in a thread of its own: it plays a part, or works.
-use Rattle.std.specs.Prelude.{◌≡◌, ◌≤◌, ℕ, List, [], ◌∷◌, length, slice_get, MatchOption, Result, Ok, IfOk}
-use Rattle.std.specs.List.{AllZip}
+use Rattle.std.specs.Prelude.{◌≡◌, ◌≤◌, ℕ, List, [], ◌∷◌, length, slice_get, MatchOption, Option, Some, None, Result, Ok, Err, IfOk, IfErr}
+use Rattle.std.specs.List.{All, AllZip, Contains}
 use Rattle.paris_names.specs.declared.faults.Fault.{Fault}
 use Rattle.paris_records.specs.declared.limits.TheConstants.{MAX_HISTORY}
 use Rattle.paris_records.specs.declared.records.Entry.{Entry}
 use Rattle.paris_records.specs.declared.records.Receipt.{Receipt}
 use Rattle.paris_desk.specs.Pasts.{Learned}
 use Rattle.paris_desk.specs.Seats.{Sitting}
-use Rattle.paris_desk.specs.Work.{Gained, Worked}
+use Rattle.paris_desk.specs.Work.{Moves, Worked}
 use Rattle.paris_cuts.specs.Hands.{Hand, empty_hand}
+use Rattle.paris_parts.specs.Faults.{StopsRun, rank}
 use Rattle.paris_parts.specs.Hands.{Plays}
 use Rattle.paris_parts.specs.Seeing.{Glimpses, IsInTime}
 
@@ -27,7 +28,7 @@ begun_at seat = doing seat empty_hand []
 
 -- a part was played to its end, where a look sees such histories
 abbrev pub Played : (List Receipt → List Entry → Type 0) → List (List ℕ) → Sitting → Doing → Type 0
-Played Sees part s d = (rs : List Receipt) × Gained s d.seat rs × Plays Sees s.receipts empty_hand part rs d.hand d.text × (d.hand.commands ≤ length part)
+Played Sees part s d = (rs : List Receipt) × Moves s d.seat rs × Plays Sees s.receipts empty_hand part rs d.hand d.text × (d.hand.commands ≤ length part)
 
 -- orders were run until no row was ready, or as many as a history may have entries
 abbrev pub HasWorked : Sitting → Sitting → Type 0
@@ -41,9 +42,14 @@ IsDone Sees parts s d = MatchOption (slice_get parts s.number) (HasWorked s d.se
 abbrev pub HasRun : List (List (List ℕ)) → Sitting → Doing → Type 0
 HasRun parts s d = MatchOption (slice_get parts s.number) (HasWorked s d.seat) (λ part. Played (Glimpses s.past d.seat) part s d × IsInTime d.seat)
 
--- a job, where no fault ends it
-abbrev pub HasRunIn : List (List (List ℕ)) → Result Doing Fault → Result Doing Fault → Type 0
-HasRunIn parts job job' = IfOk job (λ begun. IfOk job' (λ d. HasRun parts begun.seat d))
+-- a job has run, at a desk whose history has room for so many entries, or a fault has ended it
+abbrev pub HasRunIn : ℕ → List (List (List ℕ)) → Result Doing Fault → Result Doing Fault → Type 0
+HasRunIn limit parts job job' = IfOk job (λ begun. IfOk job' (λ d. HasRun parts begun.seat d)) × IfErr job' (λ fault. StopsRun limit fault)
+
+-- this fault ended one of the jobs, and none that ended another ranks above it; or no fault ended a job
+abbrev pub IsWorst : List (Result Doing Fault) → Option Fault → Type 0
+IsWorst jobs (Some fault) = Contains jobs (Err fault) × All (λ (job : Result Doing Fault). IfErr job (λ other. rank other ≤ rank fault)) jobs
+IsWorst jobs None = All (λ (job : Result Doing Fault). IfErr job (λ other. ⊥)) jobs
 
 -- a seat knows nothing
 abbrev pub IsNew : Sitting → Type 0

@@ -1,3 +1,4 @@
+pub mod Faults
 pub mod Hands
 pub mod Seeing
 pub mod Moving

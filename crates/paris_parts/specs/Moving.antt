@@ -1,12 +1,10 @@
 -- What the player of a part does with its seat.
-use Rattle.std.specs.Prelude.{◌<◌, ◌≤◌, ℕ, Bool, true, false, List}
-use Rattle.std.specs.List.{All}
-use mathlib.Core.List.{IsPrefix}
+use Rattle.std.specs.Prelude.{ℕ, Bool, true, false, List}
 use Rattle.paris_names.specs.declared.faults.Fault.{Fault}
 use Rattle.paris_names.specs.declared.faults.Fault.TheVariants.{StrangeSeat, NoEntry}
 use Rattle.paris_records.specs.declared.records.Receipt.{Receipt}
 use Rattle.paris_desk.specs.Seats.{Sitting}
-use Rattle.paris_desk.specs.Work.{Gained}
+use Rattle.paris_desk.specs.Work.{Moves}
 use Rattle.paris_cuts.specs.declared.asked.Asked.{Asked}
 use Rattle.paris_cuts.specs.Hands.{Hand, empty_hand}
 use Rattle.paris_parts.specs.Hands.{Answers, AnswersAsked, Plays}
@@ -18,22 +16,18 @@ is_unmet NoEntry = true
 is_unmet (StrangeSeat f l) = true
 is_unmet _ = false
 
--- from a seat to the next there are these receipts more, of entries behind those that it was told of, and its past has grown
-pub record Moves (s s' : Sitting) (rs : List Receipt) : Type 0 where
-  pub gained : Gained s s' rs
-  pub begins : IsPrefix s.past s'.past
-  pub front : s.front ≤ s'.front
-  pub late : All (λ (r : Receipt). s.front < r.number) rs
-  pub time : IsInTime s'
+-- a seat has moved, and is in time then
+abbrev pub MovesInTime : Sitting → Sitting → List Receipt → Type 0
+MovesInTime s s' rs = Moves s s' rs × IsInTime s'
 
 -- what is asked for is answered at a seat
 abbrev pub Answered : Sitting → Sitting → Hand → Asked → Hand → List ℕ → Type 0
-Answered s s' h asked h' text = (rs : List Receipt) × Moves s s' rs × AnswersAsked (Glimpses s.past s' s.receipts) h asked rs h' text
+Answered s s' h asked h' text = (rs : List Receipt) × MovesInTime s s' rs × AnswersAsked (Glimpses s.past s' s.receipts) h asked rs h' text
 
 -- a line is answered at a seat
 abbrev pub HasAnswered : Sitting → Sitting → Hand → List ℕ → Hand → List ℕ → Type 0
-HasAnswered s s' h line h' text = (rs : List Receipt) × Moves s s' rs × Answers (Glimpses s.past s' s.receipts) h line rs h' text
+HasAnswered s s' h line h' text = (rs : List Receipt) × MovesInTime s s' rs × Answers (Glimpses s.past s' s.receipts) h line rs h' text
 
 -- lines are answered at a seat, one after another
 abbrev pub HasPlayed : Sitting → Sitting → List (List ℕ) → Hand → List ℕ → Type 0
-HasPlayed s s' lines h text = (rs : List Receipt) × Moves s s' rs × Plays (Glimpses s.past s') s.receipts empty_hand lines rs h text
+HasPlayed s s' lines h text = (rs : List Receipt) × MovesInTime s s' rs × Plays (Glimpses s.past s') s.receipts empty_hand lines rs h text

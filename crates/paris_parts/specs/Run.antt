@@ -1,9 +1,12 @@
 -- What a script in parts does at a desk, and what is written for it.
-use Rattle.std.specs.Prelude.{◌≡◌, ◌<◌, ◌≤◌, ℕ, ◌+◌, true, List, Option, [], ◌∷◌, ◌++◌, length, map}
+use Rattle.std.specs.Prelude.{◌≡◌, ◌<◌, ◌≤◌, ℕ, ◌+◌, true, false, List, Option, [], ◌∷◌, ◌++◌, length, map}
+use Rattle.std.specs.List.{All}
 use Rattle.std.specs.Io.KnownBytes.{Consumes, IsAtEnd}
 use mathlib.Core.List.{IsPrefix}
+use Rattle.paris_names.specs.Faults.{is_no_memory}
 use Rattle.paris_machine.specs.Settling.{all_settled}
 use Rattle.paris_calls.specs.Calls.{Marks}
+use Rattle.paris_calls.specs.Texts.{WritesFront}
 use Rattle.paris_session.specs.Run.{HasCause, HasEnded, most_reads}
 use Rattle.paris_session.specs.declared.run.RunFault.TheVariants.{NoMemory}
 use Rattle.paris_parts.specs.declared.run.DeskRunFault.{DeskRunFault}
@@ -11,13 +14,14 @@ use Rattle.paris_parts.specs.declared.run.DeskRunFault.TheVariants.{Run, Parts, 
 use Rattle.paris_session.specs.Transcript.{start, with_book, replies, after_lines}
 use Rattle.paris_session.specs.Transcript.{Sitting as Session}
 use Rattle.paris_session.specs.declared.answers.Summary.{Summary}
-use Rattle.paris_records.specs.declared.limits.TheConstants.{MAX_SEATS}
+use Rattle.paris_records.specs.declared.limits.TheConstants.{MAX_HISTORY, MAX_SEATS}
 use Rattle.paris_records.specs.declared.records.Entry.{Entry}
 use Rattle.paris_records.specs.Agreement.{Agree, list_of}
 use Rattle.paris_records.specs.History.{state_of}
 use Rattle.paris_records.specs.Receipts.{receipts_in}
 use Rattle.paris_desk.specs.Closing.{by_number, past_of}
 use Rattle.paris_desk.specs.Seats.{Sitting, sitting}
+use Rattle.paris_parts.specs.Faults.{StopsRun}
 use Rattle.paris_parts.specs.Jobs.{Doing, IsDone}
 use Rattle.paris_cuts.specs.Parts.{parts}
 use Rattle.paris_parts.specs.Seeing.{Sees}
@@ -48,6 +52,11 @@ pub record Concludes (seats : ℕ) (sat : List Sitting) (last : List (List ℕ))
 abbrev pub EachDone : List Entry → List (List (List ℕ)) → ℕ → List Doing → Type 0
 EachDone history played seats done = (length done ≡ seats) × ((n : ℕ) → n < seats → IsDone (Sees history n) played (sitting n [] 0 []) (at_seat done n))
 
+-- the history is the first seat's entries, and then those of the others
+abbrev pub FirstBeforeOthers : List Entry → Type 0
+FirstBeforeOthers history =
+    (first : List Entry) × (others : List Entry) × (history ≡ first ++ others) × All (λ (e : Entry). e.seat ≡ 0) first × All (λ (e : Entry). 1 ≤ e.seat) others
+
 -- what parts come to at a desk with so many seats: each part but the last is played at the seat of its number, the first of them before
 -- the others, the seats behind them work, and the last part is played on the book that they leave, settled. The history is legal, and agrees with the
 -- receipts of the seats
@@ -55,6 +64,7 @@ pub record Plays (seats : ℕ) (played : List (List (List ℕ))) (last : List (L
   pub done : List Doing
   pub history : List Entry
   pub each : EachDone history played seats done
+  pub order : FirstBeforeOthers history
   pub agree : Agree history (by_number seats (map (λ (d : Doing). d.seat) done))
   pub written : text ≡ parts_text done (length played) ++ (closed_text (edits_in history) true ++ replies (last_session history) last)
   pub commands : summary.commands ≡ commands_in done (length played) + (after_lines (last_session history) last).commands
@@ -64,22 +74,23 @@ pub record Plays (seats : ℕ) (played : List (List (List ℕ))) (last : List (L
 abbrev pub Fits : ℕ → ℕ → Type 0
 Fits played workers = (2 ≤ played) × (played + workers ≤ MAX_SEATS)
 
--- no last part and others before it are the parts of this script, with seats enough
-abbrev pub Unfit : ℕ → List ℕ → Type 0
-Unfit workers script = (played : List (List (List ℕ))) (last : List (List ℕ)) → parts script ≡ played ++ last ∷ [] → Fits (length played) workers → ⊥
+-- a last part and others before it are the parts of this script, with seats enough
+abbrev pub IsFit : ℕ → List ℕ → Type 0
+IsFit workers script = (played : List (List (List ℕ))) × (last : List (List ℕ)) × (parts script ≡ played ++ last ∷ []) × Fits (length played) workers
 
--- why a run of a script that was read is stopped: for want of memory, by parts that are wrong, or by what a desk answers
-abbrev pub StoppedBy : ℕ → List ℕ → DeskRunFault → Type 0
-StoppedBy workers script (Run fault) = fault ≡ NoMemory
-StoppedBy workers script Parts = Unfit workers script
-StoppedBy workers script (Desk fault) = Unit {0}
+-- why a run of a script that was read is stopped, at a desk whose history has room for so many entries: for want of memory, by parts that
+-- don't fit, or, where they do, by what the desk answers, which is no want of memory
+abbrev pub StoppedBy : ℕ → ℕ → List ℕ → DeskRunFault → Type 0
+StoppedBy limit workers script (Run fault) = fault ≡ NoMemory
+StoppedBy limit workers script Parts = IsFit workers script → ⊥
+StoppedBy limit workers script (Desk fault) = IsFit workers script × StopsRun limit fault × (is_no_memory fault ≡ false)
 
 -- each fault of a run has its cause: a reader, a writer or memory has it as in a run without a desk; parts are wrong, and a desk stops a run,
 -- only where the script was read to its end and no call has failed
 abbrev pub HasDeskCause : ℕ → Option (List ℕ) → Option (List ℕ) → DeskRunFault → Marks → Type 0
 HasDeskCause workers reader_old reader_new (Run fault) marks = HasCause fault marks most_reads
-HasDeskCause workers reader_old reader_new Parts marks = HasEnded marks × (script : List ℕ) × Consumes reader_old reader_new script × IsAtEnd reader_new × Unfit workers script
-HasDeskCause workers reader_old reader_new (Desk fault) marks = HasEnded marks
+HasDeskCause workers reader_old reader_new fault marks =
+    HasEnded marks × (script : List ℕ) × Consumes reader_old reader_new script × IsAtEnd reader_new × StoppedBy MAX_HISTORY workers script fault
 
 -- what a script comes to at a desk with so many workers
 pub record Runs (workers : ℕ) (script text : List ℕ) (summary : Summary) : Type 0 where
@@ -88,3 +99,13 @@ pub record Runs (workers : ℕ) (script text : List ℕ) (summary : Summary) : T
   pub parts_are : parts script ≡ played ++ last ∷ []
   pub fits : Fits (length played) workers
   pub plays : Plays (length played + workers) played last text summary
+
+-- a front was written of what a script comes to, which was read to its end
+pub record IsCutShort (workers : ℕ) (reader_old reader_new writer_old writer_new : Option (List ℕ)) : Type 0 where
+  pub script : List ℕ
+  pub text : List ℕ
+  pub summary : Summary
+  pub consumed : Consumes reader_old reader_new script
+  pub at_end : IsAtEnd reader_new
+  pub runs : Runs workers script text summary
+  pub front : WritesFront writer_old writer_new text

@@ -1,11 +1,13 @@
 //! Closes a desk, and plays the last part of a script on the book that it leaves.
 
-ghost use Rattle.std.specs.Prelude.{◌≡◌, ◌<◌, ◌^◌, ℕ, ◌++◌, true, length, map, IfOk};
+ghost use Rattle.std.specs.Prelude.{◌≡◌, ◌<◌, ◌^◌, ℕ, ◌++◌, true, length, map, IfErr, IfOk};
 ghost use mathlib.Core.List.{IsPrefix};
 ghost use Rattle.paris_records.specs.Agreement.{Agree, list_of};
-ghost use Rattle.paris_desk.specs.Closing.{by_number, past_of};
+ghost use Rattle.paris_desk.specs.Closing.{Hinders, by_number, past_of};
+ghost use Rattle.paris_desk.specs.declared.closing.Cause.{Cause};
 ghost use Rattle.paris_records.specs.History.{state_of};
 ghost use Rattle.paris_records.specs.Receipts.{receipts_in};
+ghost use Rattle.paris_parts.specs.Faults.{StopsRun, closing_fault};
 ghost use Rattle.paris_parts.specs.Run.{Concludes};
 ghost use Rattle.paris_parts.specs.Texts.{closed_text, edits_in};
 
@@ -21,7 +23,9 @@ use std::alloc::{AllocError, Global};
 use std::sync::Wait;
 
 /// The fault that ends a run whose desk is not closed.
-fn fault_of(cause: Cause) -> Fault {
+fn fault_of(cause: Cause) -> Fault
+    ensures { result ≡ closing_fault cause }
+{
     match cause {
         Cause::Ahead(_, _) | Cause::Missing(_) => Fault::NoEntry,
         Cause::NoMemory => Fault::NoMemory,
@@ -35,6 +39,7 @@ fn closed<L: Office, R: Wait>(rt: &R, desk: Desk<L>, seats: Vec<Seat<L>>) -> Res
     ensures receipts { IfOk result (λ closed. map (λ r. r.items) closed.receipts.items ≡ by_number L.seats seats.items) }
     ensures begins { IfOk result (λ closed. (n : ℕ) → n < L.seats → IsPrefix (past_of n seats.items) closed.history.items) }
     ensures each { IfOk result (λ closed. (n : ℕ) → list_of (map (λ r. r.items) closed.receipts.items) n ≡ receipts_in n 0 closed.history.items) }
+    ensures cause { IfErr result (λ fault. (cause : Cause) × Hinders L.seats seats.items cause × (fault ≡ closing_fault cause)) }
 {
     match close(rt, desk, seats) {
         Ok(closed) => Ok(closed),
@@ -100,7 +105,8 @@ pub(crate) fn conclude<L: Office, R: Wait, S: Settler>(
 ) -> Result<Transcript, Fault>
     requires settler { S.can_settle settler.now }
     requires few { (length last.now < 2 ^ 62) × (ended.summary.commands < 2 ^ 62) × (ended.summary.refusals < 2 ^ 62) }
-    ensures { IfOk result (λ t. Concludes L.seats ended.seats.items last.now ended.text.items t.text.items ended.summary t.summary) }
+    ensures concluded { IfOk result (λ t. Concludes L.seats ended.seats.items last.now ended.text.items t.text.items ended.summary t.summary) }
+    ensures fault { IfErr result (λ fault. StopsRun L.limit fault) }
 {
     let Ended {
         seats,

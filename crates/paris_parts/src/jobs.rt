@@ -1,11 +1,13 @@
 //! What the seats of a desk do at once: some play a part, the others work.
 
-ghost use Rattle.std.specs.Prelude.{◌≡◌, ◌<◌, ◌≤◌, ◌++◌, ◌∷◌, ℕ, [], Result, Ok, length, map, option_map, slice_get, slice_index_or, IfOk, IfSome, OnOk};
+ghost use Rattle.std.specs.Prelude.{◌≡◌, ◌<◌, ◌≤◌, ◌++◌, ◌∷◌, ℕ, [], Result, Ok, length, map, option_map, slice_get, slice_index_or, IfErr, IfOk, IfSome, OnOk};
 ghost use Rattle.std.specs.List.{All};
 ghost use Rattle.paris_names.specs.declared.faults.Fault.{Fault};
+ghost use Rattle.paris_names.specs.declared.faults.Fault.TheVariants as FaultCase;
 ghost use Rattle.paris_desk.specs.Pasts.{Learned};
 ghost use Rattle.paris_cuts.specs.Parts.{IsShort};
-ghost use Rattle.paris_parts.specs.Jobs.{AreDone, AreTold, Doing, HasRun, HasRunIn, IsNew, begun_at};
+ghost use Rattle.paris_parts.specs.Faults.{StopsRun, rank, worse};
+ghost use Rattle.paris_parts.specs.Jobs.{AreDone, AreTold, Doing, HasRun, HasRunIn, IsNew, IsWorst, begun_at};
 ghost use Rattle.paris_parts.specs.Seeing.{IsInTime};
 
 use crate::players::play;
@@ -66,7 +68,8 @@ impl<L: Office> Job<L> {
     ) -> Result<Job<L>, Fault>
         requires short { All IsShort parts.now }
         requires time { IsInTime self.seat }
-        ensures { IfOk result (λ job. HasRun parts.now self.seat job) }
+        ensures run { IfOk result (λ job. HasRun parts.now self.seat job) }
+        ensures fault { IfErr result (λ fault. StopsRun L.limit fault) }
     {
         let Job {
             mut seat,
@@ -112,7 +115,9 @@ fn jobs_told<L: Office>(
 }
 
 /// Which fault ends a run where several were met: a full history before all others, and want of memory behind them.
-fn rank(fault: Fault) -> u64 {
+fn rank(fault: Fault) -> u64
+    ensures { result ≡ rank fault }
+{
     match fault {
         Fault::HistoryFull(_) => 2,
         Fault::NoMemory => 0,
@@ -120,24 +125,30 @@ fn rank(fault: Fault) -> u64 {
     }
 }
 
-fn worse(first: Option<Fault>, next: Option<Fault>) -> Option<Fault> {
-    match (first, next) {
-        (Some(fault), Some(other)) => Some(if rank(other) > rank(fault) {
-            other
-        } else {
-            fault
-        }),
-        (Some(fault), None) => Some(fault),
-        (None, next) => next,
+/// The next fault, where it ranks above the one before.
+fn worse(before: Option<Fault>, next: Fault) -> Fault
+    ensures { result ≡ worse before next }
+{
+    match before {
+        None => next,
+        Some(fault) => {
+            if rank(next) > rank(fault) {
+                next
+            } else {
+                fault
+            }
+        }
     }
 }
 
 /// Of the faults that ended jobs the one that ends the run.
-fn worst_fault<L: Office>(jobs: &[Result<Job<L>, Fault>]) -> Option<Fault> {
+fn worst_fault<L: Office>(jobs: &[Result<Job<L>, Fault>]) -> Option<Fault>
+    ensures { IsWorst jobs.now result }
+{
     let mut worst = None;
     for job in jobs {
         if let Err(fault) = job {
-            worst = worse(worst, Some(*fault));
+            worst = Some(worse(worst, *fault));
         }
     }
     worst
@@ -154,7 +165,7 @@ fn run_in<L: Office, R: Wait, G: Gate>(
 )
     requires short { All IsShort parts.now }
     requires time { IfOk job.old (λ begun. IsInTime begun.seat) }
-    ensures { HasRunIn parts.now job.old job.new }
+    ensures { HasRunIn L.limit parts.now job.old job.new }
 {
     if let Ok(begun) = mem::replace(job, Err(Fault::NoMemory)) {
         *job = begun.run(rt, alloc, desk, parts, gate);
@@ -173,7 +184,7 @@ fn run_at_once<L: Office + Send + Sync, R: Threads + Wait + Sync, G: Gate + Sync
     requires short { All IsShort parts.now }
     requires time { All (λ job. IfOk job (λ begun. IsInTime begun.seat)) jobs.old }
     ensures len { length jobs.new ≡ length jobs.old }
-    ensures each { (i : ℕ) (d : Result Doing Fault) → i < length jobs.old → HasRunIn parts.now (slice_index_or jobs.old i d) (slice_index_or jobs.new i d) }
+    ensures each { (i : ℕ) (d : Result Doing Fault) → i < length jobs.old → HasRunIn L.limit parts.now (slice_index_or jobs.old i d) (slice_index_or jobs.new i d) }
 {
     let threads = jobs.len().max(1);
     thread::for_each_mut(
@@ -185,7 +196,8 @@ fn run_at_once<L: Office + Send + Sync, R: Threads + Wait + Sync, G: Gate + Sync
 }
 
 fn keep<L: Office>(jobs: &mut Vec<Job<L>>, job: Job<L>) -> Result<(), Fault>
-    ensures { OnOk result (jobs.new.items ≡ jobs.old.items ++ job ∷ []) }
+    ensures jobs { OnOk result (jobs.new.items ≡ jobs.old.items ++ job ∷ []) }
+    ensures fault { IfErr result (λ fault. fault ≡ FaultCase.NoMemory) }
 {
     if jobs.push(job).is_err() {
         return Err(Fault::NoMemory);
@@ -193,13 +205,15 @@ fn keep<L: Office>(jobs: &mut Vec<Job<L>>, job: Job<L>) -> Result<(), Fault>
     Ok(())
 }
 
-/// The first job and the others, of which none was ended by a fault.
+/// The first job and the others. Where a fault ended one of these, the fault.
 fn together<L: Office>(
     alloc: Global,
     first: Job<L>,
     others: Vec<Result<Job<L>, Fault>>,
 ) -> Result<Vec<Job<L>>, Fault>
-    ensures { IfOk result (λ jobs. map Ok jobs.items ≡ Ok first ∷ others.items) }
+    requires { All (λ job. IfErr job (λ fault. StopsRun L.limit fault)) others.items }
+    ensures jobs { IfOk result (λ jobs. map Ok jobs.items ≡ Ok first ∷ others.items) }
+    ensures fault { IfErr result (λ fault. StopsRun L.limit fault) }
 {
     let mut jobs = Vec::new(alloc);
     keep(&mut jobs, first)?;
@@ -220,7 +234,8 @@ pub(crate) fn run_all<L: Office + Send + Sync, R: Threads + Wait + Sync, G: Gate
 ) -> Result<Vec<Job<L>>, Fault>
     requires short { All IsShort parts.now }
     requires seats { (1 ≤ length seats.items) × All IsNew seats.items }
-    ensures { IfOk result (λ jobs. AreDone parts.now seats.items jobs.items) }
+    ensures done { IfOk result (λ jobs. AreDone parts.now seats.items jobs.items) }
+    ensures fault { IfErr result (λ fault. StopsRun L.limit fault) }
 {
     let mut seats = seats;
     let first = Job::new(alloc, seats.remove(0)).run(rt, alloc, desk, parts, gate)?;

@@ -1,10 +1,11 @@
 //! What the parts and workers of a desk leave.
 
-ghost use Rattle.std.specs.Prelude.{◌≡◌, ◌≤◌, ◌<◌, ◌^◌, ℕ, List, length, map, IfOk};
+ghost use Rattle.std.specs.Prelude.{◌≡◌, ◌≤◌, ◌<◌, ◌^◌, ℕ, List, length, map, IfErr, IfOk};
 ghost use Rattle.std.specs.List.{All};
 ghost use Rattle.paris_cuts.specs.Parts.{IsShort};
 ghost use Rattle.paris_records.specs.declared.limits.TheConstants.{MAX_SEATS};
 ghost use Rattle.paris_desk.specs.Seats.{fresh};
+ghost use Rattle.paris_parts.specs.Faults.{StopsRun};
 ghost use Rattle.paris_parts.specs.Jobs.{AreDone, Doing};
 ghost use Rattle.paris_parts.specs.Run.{LeftBy};
 ghost use Rattle.paris_parts.specs.Texts.{at_seat, commands_in, refusals_in};
@@ -93,6 +94,7 @@ pub(crate) fn play_parts<L: Office + Send + Sync, R: Threads + Wait + Sync, G: G
     requires seats { (seats.items ≡ fresh count) × (1 ≤ count) × (count ≤ MAX_SEATS) × (length parts.now ≤ count) }
     ensures done { IfOk result (λ ended. (ds : List Doing) × AreDone parts.now (fresh count) ds × LeftBy ds (length parts.now) ended.seats.items ended.text.items ended.summary) }
     ensures few { IfOk result (λ ended. (ended.summary.commands < 2 ^ 62) × (ended.summary.refusals < 2 ^ 62)) }
+    ensures fault { IfErr result (λ fault. StopsRun L.limit fault) }
 {
     let jobs = run_all(rt, alloc, desk, seats, parts, gate)?;
     Ok(gathered(alloc, jobs, parts.len())?)

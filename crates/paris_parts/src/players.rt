@@ -1,8 +1,9 @@
 //! Plays a part of a script by calls of a seat.
 
-ghost use Rattle.std.specs.Prelude.{◌≡◌, ◌^◌, ◌<◌, ◌≤◌, length, IfOk, OnOk};
+ghost use Rattle.std.specs.Prelude.{◌≡◌, ◌^◌, ◌<◌, ◌≤◌, length, IfErr, IfOk, OnOk};
 ghost use Rattle.paris_cuts.specs.declared.asked.Asked.TheVariants as AskedCase;
 ghost use Rattle.paris_cuts.specs.Hands.{IsCounted, empty_hand};
+ghost use Rattle.paris_parts.specs.Faults.{StopsRun};
 ghost use Rattle.paris_parts.specs.Moving.{Answered, HasAnswered, HasPlayed, is_unmet};
 ghost use Rattle.paris_parts.specs.Seeing.{IsInTime};
 
@@ -33,7 +34,8 @@ fn answer_faults<L: Office, R: Wait>(
     seat: &mut Seat<L>,
 ) -> Result<Vec<u8>, Fault>
     requires { IsInTime seat.old }
-    ensures { IfOk result (λ text. Answered seat.old seat.new player.now AskedCase.Faults player.now text.items) }
+    ensures answered { IfOk result (λ text. Answered seat.old seat.new player.now AskedCase.Faults player.now text.items) }
+    ensures fault { IfErr result (λ fault. StopsRun L.limit fault) }
 {
     let looks = desk.list(rt, seat)?;
     Ok(player.tell_faults(looks.as_slice())?)
@@ -49,7 +51,8 @@ fn answer_call<L: Office, R: Wait>(
 ) -> Result<Vec<u8>, Fault>
     requires time { IsInTime seat.old }
     requires counted { IsCounted player.old }
-    ensures { IfOk result (λ text. Answered seat.old seat.new player.old (AskedCase.Call event) player.new text.items) }
+    ensures answered { IfOk result (λ text. Answered seat.old seat.new player.old (AskedCase.Call event) player.new text.items) }
+    ensures fault { IfErr result (λ fault. StopsRun L.limit fault) }
 {
     match desk.call(rt, seat, event) {
         Ok(reply) => Ok(player.tell(reply)?),
@@ -67,7 +70,8 @@ fn answer_look<L: Office>(
 ) -> Result<(Seat<L>, Vec<u8>), Fault>
     requires time { IsInTime seat }
     requires few { player.old.refusals < player.old.commands }
-    ensures { IfOk result (λ p. Answered seat p.0 player.old (AskedCase.Look key spot) player.new p.1.items) }
+    ensures answered { IfOk result (λ p. Answered seat p.0 player.old (AskedCase.Look key spot) player.new p.1.items) }
+    ensures fault { IfErr result (λ fault. StopsRun L.limit fault) }
 {
     match View::new(desk).look(seat, key, spot) {
         Ok(held) => {
@@ -93,7 +97,8 @@ fn answer_asked<L: Office, R: Wait>(
 ) -> Result<(Seat<L>, Vec<u8>), Fault>
     requires time { IsInTime seat }
     requires counted { IsCounted player.old }
-    ensures { IfOk result (λ p. Answered seat p.0 player.old asked player.new p.1.items) }
+    ensures answered { IfOk result (λ p. Answered seat p.0 player.old asked player.new p.1.items) }
+    ensures fault { IfErr result (λ fault. StopsRun L.limit fault) }
 {
     let mut seat = seat;
     match asked {
@@ -121,7 +126,8 @@ fn answer<L: Office, R: Wait>(
 ) -> Result<(Seat<L>, Vec<u8>), Fault>
     requires time { IsInTime seat }
     requires few { player.old.commands < 2 ^ 62 }
-    ensures { IfOk result (λ p. HasAnswered seat p.0 player.old line.now player.new p.1.items) }
+    ensures answered { IfOk result (λ p. HasAnswered seat p.0 player.old line.now player.new p.1.items) }
+    ensures fault { IfErr result (λ fault. StopsRun L.limit fault) }
 {
     let Some(asked) = player.asked(line)? else {
         return Ok((seat, Vec::new(alloc)));
@@ -143,6 +149,7 @@ pub(crate) fn play<L: Office, R: Wait>(
     requires time { IsInTime seat }
     ensures played { IfOk result (λ p. HasPlayed seat p.0 part.now player.new p.1.items) }
     ensures count { OnOk result (player.new.commands ≤ length part.now) }
+    ensures fault { IfErr result (λ fault. StopsRun L.limit fault) }
 {
     let mut seat = seat;
     let mut text = Vec::new(alloc);

@@ -1,16 +1,18 @@
 //! Runs a script in parts: sessions that share a desk, with workers beside them.
 
-ghost use Rattle.std.specs.Prelude.{◌≡◌, ◌↔◌, ◌≤◌, ◌*◌, ℕ, List, true, length, IfOk, IfErr, OnOk, if◌then◌else◌};
+ghost use Rattle.std.specs.Prelude.{◌≡◌, ◌⊎◌, ◌↔◌, ◌≤◌, ◌*◌, ℕ, List, true, length, IfOk, IfErr, OnErr, OnOk, if◌then◌else◌};
 ghost use Rattle.std.specs.List.{All};
 ghost use Rattle.std.specs.Io.KnownBytes.{Appends, Consumes, Keeps, IsAtEnd};
 ghost use Rattle.paris_calls.specs.Calls.{no_marks};
+ghost use Rattle.paris_calls.specs.Texts.{WritesFront};
 ghost use Rattle.paris_cuts.specs.Parts.{IsShort};
 ghost use Rattle.paris_records.specs.declared.limits.TheConstants.{MAX_HISTORY, MAX_SEATS};
 ghost use Rattle.paris_names.specs.declared.limits.TheConstants.{MAX_WORKERS};
 ghost use Rattle.paris_session.specs.declared.run.RunFault.TheVariants as RunCase;
 ghost use Rattle.paris_session.specs.Run.{HasCause, HasEnded, most_reads};
 ghost use Rattle.paris_parts.specs.declared.run.DeskRunFault.TheVariants as DeskCase;
-ghost use Rattle.paris_parts.specs.Run.{Fits, HasDeskCause, Plays, Runs, StoppedBy};
+ghost use Rattle.paris_parts.specs.Faults.{StopsRun};
+ghost use Rattle.paris_parts.specs.Run.{Fits, HasDeskCause, IsCutShort, Plays, Runs, StoppedBy};
 
 use crate::closing::conclude;
 use crate::outcome::play_parts;
@@ -35,7 +37,7 @@ pub enum DeskRunFault {
     /// There are fewer than three parts, or more sessions and workers than a desk has seats.
     Parts,
     /// A call was not recorded, since the history is full or a seat was told of a longer one, or a seat met no history that it could
-    /// look at.
+    /// look at, or with which its desk is closed.
     Desk(Fault),
 }
 
@@ -83,7 +85,8 @@ fn play_all<L: Office + Send + Sync, R: Threads + Wait + Sync, S: Settler, G: Ga
     requires limit { (limit ≡ L.limit) × (limit ≤ MAX_HISTORY) }
     requires parts { All IsShort parts.now × IsShort last.now }
     requires settler { S.can_settle settler.now }
-    ensures { IfOk result (λ t. Plays seats parts.now last.now t.text.items t.summary) }
+    ensures plays { IfOk result (λ t. Plays seats parts.now last.now t.text.items t.summary) }
+    ensures fault { IfErr result (λ fault. StopsRun limit fault) }
 {
     let (desk, all) = Desk::<L>::new(rt, alloc, opening, seats, limit)?;
     match play_parts(rt, alloc, &desk, all, seats, parts, gate) {
@@ -118,7 +121,7 @@ pub fn run_parts<R: Threads + Wait + Sync, S: Settler, G: Gate + Sync>(
     requires settler { S.can_settle settler.now }
     requires few { length script.now ≤ 4096 * most_reads }
     ensures runs { IfOk result (λ t. Runs workers script.now t.text.items t.summary) }
-    ensures cause { IfErr result (λ fault. StoppedBy workers script.now fault) }
+    ensures cause { IfErr result (λ fault. StoppedBy limit workers script.now fault) }
 {
     let mut parts = parts_of(alloc, script)?;
     let Some(last) = parts.pop() else {
@@ -151,6 +154,7 @@ fn write_text<W: Write>(
 ) -> Result<(), RunFault>
     requires ended { HasEnded tally.old }
     ensures ok { OnOk result (Appends (W.contents writer.old) (W.contents writer.new) text.now) }
+    ensures front { OnErr result (WritesFront (W.contents writer.old) (W.contents writer.new) text.now) }
     ensures fault { IfErr result (λ fault. fault ≡ RunCase.Write) }
     ensures cause { IfErr result (λ fault. HasCause fault tally.new most_reads) }
 {
@@ -180,6 +184,8 @@ pub fn run_sessions<H: Threads + Wait + Sync, S: Settler, R: Read, W: Write, G: 
         × IsAtEnd (R.remaining reader.new) × Appends (W.contents writer.old) (W.contents writer.new) text × Runs workers script text summary) }
     ensures cause { IfErr result (λ fault. HasDeskCause workers (R.remaining reader.old) (R.remaining reader.new) fault tally.new) }
     ensures unwritten { IfErr result (λ fault. (fault ≡ DeskCase.Run RunCase.Write → ⊥) → Keeps (W.contents writer.old) (W.contents writer.new)) }
+    ensures front { IfErr result (λ fault. Keeps (W.contents writer.old) (W.contents writer.new)
+        ⊎ IsCutShort workers (R.remaining reader.old) (R.remaining reader.new) (W.contents writer.old) (W.contents writer.new)) }
 {
     let script = match read_all(alloc, reader, MAX_READS, tally) {
         Ok(script) => script,

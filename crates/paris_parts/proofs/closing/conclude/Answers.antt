@@ -9,8 +9,8 @@ overflow_add-summary g c = omega (arith, c.requires.few, c.in_ok-rest.ensures.fe
 pub overflow_add-summary-2 : goal.overflow_add-summary-2
 overflow_add-summary-2 g c = omega (arith, c.requires.few, c.in_ok-rest.ensures.few)
 
-pub returns : goal.returns
-returns g c =
+pub returns-clause-concluded : goal.returns-clause-concluded
+returns-clause-concluded g c =
     let left = c.in_ok-left.left in
     let receipts : List (List Receipt) = map (λ (r : Vec Receipt Global). r.items) left.receipts.items in
     let texts : (c.args.ended.text.items ++ c.as_slice.result.now) ++ c.as_slice-2.result.now ≡ (c.args.ended.text.items ++ c.in_ok-book.closing.items) ++ c.in_ok-rest.rest.text.items =

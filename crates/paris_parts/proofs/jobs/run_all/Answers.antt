@@ -15,17 +15,17 @@ run_at_once-requires-clause-time g c κs within =
     subst (All (λ (job : Result Doing Fault). IfOk job (λ begun. IsInTime begun.seat))) (sym c.as_mut_slice.ensures.value)
     (told_all_in_time c.first.inside.seat c.remove.new.self.items c.in_ok-others.others.items new c.in_ok-others.ensures)
 
-pub returns-in-None : goal.returns-in-None
-returns-in-None g c =
+pub returns-in-None-clause-done : goal.returns-in-None-clause-done
+returns-in-None-clause-done g c =
     let parts = c.args.parts.now in
     let first : Doing = c.in_ok-first.first in
     let jobs : List (Result Doing Fault) = c.run_at_once.new.jobs in
     let are = first_seat c.args.seats.items c.remove.new.self.items c.remove.result c.requires.seats.0 c.remove.ensures.value c.remove.ensures.items in
-    let run : HasRun parts c.remove.result first = subst (λ (b : Doing). HasRun parts b.seat first) c.new.ensures c.in_ok-first.ensures in
+    let run : HasRun parts c.remove.result first = subst (λ (b : Doing). HasRun parts b.seat first) c.new.ensures c.in_ok-first.ensures.run in
     let told : AreTold first.seat c.remove.new.self.items c.as_mut_slice.result.now =
     subst (AreTold first.seat c.remove.new.self.items) (sym c.as_mut_slice.ensures.value)
     (subst (λ (s : Sitting). AreTold s c.remove.new.self.items c.in_ok-others.others.items) (ap (λ (d : Doing). d.seat) c.first.view_is) c.in_ok-others.ensures) in
     let back = written_back c.in_ok-others.others.len jobs c.in_ok-others.others.items (c.run_at_once.ensures.len ∙ c.as_mut_slice.ensures.len) in
-    all_done parts c.args.seats.items _ _ c.together.result c.together.ensures
-    (λ ds same. are_done parts c.args.seats.items c.remove.new.self.items c.remove.result first c.as_mut_slice.result.now jobs ds are run told c.run_at_once.ensures.each
+    all_done parts c.args.seats.items _ _ c.together.result c.together.ensures.jobs
+    (λ ds same. are_done g.L.Office.limit parts c.args.seats.items c.remove.new.self.items c.remove.result first c.as_mut_slice.result.now jobs ds are run told c.run_at_once.ensures.each
     c.run_at_once.ensures.len (same ∙ (λ i. Ok first ∷ back i)))

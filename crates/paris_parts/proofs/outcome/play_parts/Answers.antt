@@ -15,7 +15,7 @@ run_all-requires-clause-seats g c κs within =
 
 pub gathered-requires-clause-count : goal.gathered-requires-clause-count
 gathered-requires-clause-count g c =
-    let done : AreDone c.args.parts.now (fresh c.args.count) c.in_ok-jobs.jobs.items = subst (λ (l : List Sitting). AreDone c.args.parts.now l c.in_ok-jobs.jobs.items) c.requires.seats.0 c.in_ok-jobs.ensures in
+    let done : AreDone c.args.parts.now (fresh c.args.count) c.in_ok-jobs.jobs.items = subst (λ (l : List Sitting). AreDone c.args.parts.now l c.in_ok-jobs.jobs.items) c.requires.seats.0 c.in_ok-jobs.ensures.done in
     let long = all_long c.args.parts.now c.args.count c.in_ok-jobs.jobs.items done in (
       omega (arith, long, c.requires.seats.3),
       omega (arith, c.requires.seats.2, c.requires.seats.3),
@@ -23,10 +23,10 @@ gathered-requires-clause-count g c =
 
 pub gathered-requires-clause-few : goal.gathered-requires-clause-few
 gathered-requires-clause-few g c =
-    let done : AreDone c.args.parts.now (fresh c.args.count) c.in_ok-jobs.jobs.items = subst (λ (l : List Sitting). AreDone c.args.parts.now l c.in_ok-jobs.jobs.items) c.requires.seats.0 c.in_ok-jobs.ensures in
+    let done : AreDone c.args.parts.now (fresh c.args.count) c.in_ok-jobs.jobs.items = subst (λ (l : List Sitting). AreDone c.args.parts.now l c.in_ok-jobs.jobs.items) c.requires.seats.0 c.in_ok-jobs.ensures.done in
     all_few c.args.parts.now c.args.count c.in_ok-jobs.jobs.items c.requires.parts c.requires.seats.3 done
 
 pub returns-clause-done : goal.returns-clause-done
 returns-clause-done g c =
-    let done : AreDone c.args.parts.now (fresh c.args.count) c.in_ok-jobs.jobs.items = subst (λ (l : List Sitting). AreDone c.args.parts.now l c.in_ok-jobs.jobs.items) c.requires.seats.0 c.in_ok-jobs.ensures in
+    let done : AreDone c.args.parts.now (fresh c.args.count) c.in_ok-jobs.jobs.items = subst (λ (l : List Sitting). AreDone c.args.parts.now l c.in_ok-jobs.jobs.items) c.requires.seats.0 c.in_ok-jobs.ensures.done in
     (c.in_ok-jobs.jobs.items, done, c.in_ok-gathered.ensures.left)

@@ -5,8 +5,8 @@ use Rattle.paris_parts.specs.Moving.{Answered}
 use Rattle.paris_parts.proofs.Playing.{by_refusal}
 use Rattle.paris_parts.proofs.players.answer_asked.Goals as goal
 
-pub returns-in_ok-refuse-in-Refused : goal.returns-in_ok-refuse-in-Refused
-returns-in_ok-refuse-in-Refused g c =
+pub returns-in_ok-refuse-in-Refused-clause-answered : goal.returns-in_ok-refuse-in-Refused-clause-answered
+returns-in_ok-refuse-in-Refused-clause-answered g c =
     let text = c.in_ok-refuse-in-Refused.field-0.items in
     let own = by_refusal c.args.seat c.args.player.now c.refuse.new.self c.in-Refused.fault text c.requires.time c.in_ok-refuse-in-Refused.ensures.ok in
     let asked = subst (λ (a : Asked). Answered c.args.seat c.args.seat c.args.player.now a c.refuse.new.self text) (sym c.in-Refused.is) own in

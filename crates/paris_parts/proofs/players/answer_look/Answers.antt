@@ -10,16 +10,16 @@ use Rattle.paris_parts.specs.Moving.{Answered}
 use Rattle.paris_parts.proofs.Playing.{by_look, missed_so}
 use Rattle.paris_parts.proofs.players.answer_look.Goals as goal
 
-pub returns-in_ok-text-in-Ok : goal.returns-in_ok-text-in-Ok
-returns-in_ok-text-in-Ok g c =
+pub returns-in_ok-text-in-Ok-clause-answered : goal.returns-in_ok-text-in-Ok-clause-answered
+returns-in_ok-text-in-Ok-clause-answered g c =
     let h = c.args.player.now in
     let met : Looked c.args.seat c.end.result = subst (Looked c.args.seat) (sym c.end.ensures) c.in-Ok.ensures.met in
     let said = ap (λ (l : List ℕ). (h, l)) c.in_ok-text-in-Ok.ensures
     ∙ ap (λ a. told h (reply.Show a)) (c.look-in-Ok.ensures ∙ c.in-Ok.ensures.answer ∙ ap (λ (s : Sitting). show_reply (state_of s.past) c.args.key c.args.spot) (sym c.end.ensures)) in
     by_look c.args.seat c.end.result h h c.args.key c.args.spot c.in_ok-text-in-Ok.field-0.items c.requires.time met said
 
-pub returns-in_ok-refuse-in-Err : goal.returns-in_ok-refuse-in-Err
-returns-in_ok-refuse-in-Err g c =
+pub returns-in_ok-refuse-in-Err-clause-answered : goal.returns-in_ok-refuse-in-Err-clause-answered
+returns-in_ok-refuse-in-Err-clause-answered g c =
     let h = c.args.player.now in
     let missed = missed_so c.args.key c.args.spot c.args.seat c.in-Err.seat c.in-Err.fault (sym c.is_unmet.ensures ∙ c.if-is_unmet.false) c.in-Err.ensures.missed in
     let said = c.in_ok-refuse-in-Err.ensures.ok ∙ ap (λ a. told h (reply.Show a)) missed.1 in

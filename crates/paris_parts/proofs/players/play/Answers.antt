@@ -8,5 +8,5 @@ loop-line-preserved g c =
     let next =
     play_next c.args.seat c.loop-line.seat c.in_ok-next.next c.lines-lines.result.now c.loop-line.line-index c.line-item.result c.loop-line.player c.answer.new.player
     c.loop-line.text.items c.extend_from_slice.new.self.items c.in_ok-next.reply.items c.as_slice.result.now c.loop-line-test.true c.line-item.is c.as_slice.ensures.value longer
-    c.loop-line.invariant.0 c.loop-line.invariant.1 c.in_ok-next.ensures in
-    (next.0, next.1, c.in_ok-next.ensures.1.time)
+    c.loop-line.invariant.0 c.loop-line.invariant.1 c.in_ok-next.ensures.answered in
+    (next.0, next.1, c.in_ok-next.ensures.answered.1.1)

@@ -4,8 +4,8 @@ use Rattle.paris_parts.specs.Run.{Concludes}
 use Rattle.paris_parts.proofs.Ends.{plays_if}
 use Rattle.paris_parts.proofs.run.play_all.Goals as goal
 
-pub returns-in-Ok : goal.returns-in-Ok
-returns-in-Ok g c =
+pub returns-in-Ok-clause-plays : goal.returns-in-Ok-clause-plays
+returns-in-Ok-clause-plays g c =
     let ended = c.in-Ok.ended in
     plays_if c.args.seats c.args.parts.now c.args.last.now ended.seats.items ended.text.items ended.summary c.conclude.result c.requires.few.2 c.requires.few.0 c.in-Ok.ensures.done
-    (subst (λ (n : ℕ). IfOk c.conclude.result (λ t. Concludes n ended.seats.items c.args.last.now ended.text.items t.text.items ended.summary t.summary)) (sym c.requires.seats.1) c.conclude.ensures)
+    (subst (λ (n : ℕ). IfOk c.conclude.result (λ t. Concludes n ended.seats.items c.args.last.now ended.text.items t.text.items ended.summary t.summary)) (sym c.requires.seats.1) c.conclude.ensures.concluded)
