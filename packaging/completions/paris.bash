@@ -5,9 +5,10 @@ _paris_options() {
         explain) echo '--help --json --quiet --stop --workers' ;;
         prompt) echo '--help --quiet --workers' ;;
         page) echo '--draw --help --quiet --workers -o' ;;
-        live) echo '--help --port --quiet --workers' ;;
+        live) echo '--follow --help --port --quiet --workers' ;;
         watch) echo '--help --plain --workers' ;;
-        *) echo '--build --desk --help --quiet --version --where --workers explain prompt page live watch' ;;
+        lsp) echo '--help --stdio --workers' ;;
+        *) echo '--build --desk --help --quiet --version --where --workers explain prompt page live watch lsp' ;;
     esac
 }
 

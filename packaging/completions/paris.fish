@@ -1,12 +1,13 @@
 # Completion of fish for paris.
 
-set -l commands explain prompt page live watch
+set -l commands explain prompt page live watch lsp
 set -l first "not __fish_seen_subcommand_from $commands"
 complete -c paris -n $first -a explain -d 'say of each line what came of it'
 complete -c paris -n $first -a prompt -d 'take commands one by one'
 complete -c paris -n $first -a page -d 'write a page of a script'
 complete -c paris -n $first -a live -d 'serve a page on which a program is edited'
 complete -c paris -n $first -a watch -d 'follow a file that is edited'
+complete -c paris -n $first -a lsp -d 'serve an editor'
 complete -c paris -n $first -l desk -d 'the script is in parts'
 complete -c paris -n $first -l build -d 'prove and build first'
 complete -c paris -n $first -l where -d 'say where the program is'
@@ -20,3 +21,5 @@ complete -c paris -n '__fish_seen_subcommand_from page' -s o -r -d 'where the pa
 complete -c paris -n '__fish_seen_subcommand_from page' -l draw -x -d 'how many numbers are drawn'
 complete -c paris -n '__fish_seen_subcommand_from live' -l port -x -d 'port'
 complete -c paris -n '__fish_seen_subcommand_from watch' -l plain -d 'write what changed line by line'
+complete -c paris -n '__fish_seen_subcommand_from lsp' -l stdio -d 'over standard input and output, as it is anyway'
+complete -c paris -n '__fish_seen_subcommand_from live' -l follow -d 'hold the page in step with the file'

@@ -18,6 +18,7 @@ COMMANDS = {
     "page": "pevudlo.page.command",
     "live": "pevudlo.live.command",
     "watch": "pevudlo.document.command",
+    "lsp": "pevudlo.lsp.command",
 }
 
 

@@ -39,17 +39,22 @@ def write_lines(path: Path, lines: list[str]) -> None:
 
     The file has its name only when it is whole. Raises OSError, or ValueError where no file can have such a name.
     """
-    text = "".join(f"{line}\n" for line in lines).encode("utf-8", "surrogateescape")
+    write_text(path, "".join(f"{line}\n" for line in lines), is_kept=True)
+
+
+def write_text(path: Path, text: str, is_kept: bool = False) -> None:
+    """Writes a text as `write_lines` does. `is_kept` says whether what the file held stays beside it."""
+    data = text.encode("utf-8", "surrogateescape")
     if path.exists() and not path.is_file():
-        path.write_bytes(text)
+        path.write_bytes(data)
         return
     target = Path(os.path.realpath(path))
     handle, name = tempfile.mkstemp(dir=target.parent, prefix=f".{target.name}.")
     try:
         with os.fdopen(handle, "wb") as file:
-            file.write(text)
+            file.write(data)
         os.chmod(name, target.stat().st_mode & 0o777 if target.is_file() else 0o666 & ~umask())
-        if target.is_file():
+        if is_kept and target.is_file():
             shutil.copy2(target, target.with_name(f"{target.name}~"))
         os.replace(name, target)
     except BaseException:

@@ -11,7 +11,7 @@ import os
 import sys
 import threading
 import time
-from collections.abc import Iterator
+from collections.abc import Callable, Iterator
 from contextlib import contextmanager
 from types import TracebackType
 from typing import Protocol, TextIO
@@ -152,6 +152,50 @@ class ProgressLine(Progress):
             self._stream.flush()
         except OSError:
             self._over.set()
+
+
+class Later(Progress):
+    """Hands over what is being done, where that takes longer than a moment, and `""` when it is over.
+
+    It is entered again and again. `tell` is called by a thread of its own, and by who says something.
+    """
+
+    is_told = True
+
+    def __init__(self, tell: Callable[[str], None], delay: float = DELAY) -> None:
+        self._tell, self._delay = tell, delay
+        self._lock = threading.Lock()
+        self._timer: threading.Timer | None = None
+        self._words, self._is_late = "", False
+
+    def say(self, words: str) -> None:
+        with self._lock:
+            self._words = words
+            if self._is_late:
+                self._tell(words)
+
+    def __enter__(self) -> Progress:
+        timer = threading.Timer(self._delay, lambda: self._begin(timer))
+        timer.daemon = True
+        self._words, self._timer = "", timer
+        timer.start()
+        return self
+
+    def __exit__(self, kind: type[BaseException] | None, error: BaseException | None, at: TracebackType | None) -> None:
+        with self._lock:
+            if self._timer is not None:
+                self._timer.cancel()
+            self._timer = None
+            if self._is_late:
+                self._tell("")
+            self._is_late = False
+
+    def _begin(self, timer: threading.Timer) -> None:
+        """Hands over the words, where what they are of isn't over."""
+        with self._lock:
+            if self._timer is timer:
+                self._is_late = True
+                self._tell(self._words)
 
 
 PROGRESS = Progress()

@@ -31,7 +31,7 @@ def test_words_that_name_no_command(words: list[str]) -> None:
 def test_help_names_each_command() -> None:
     ran = run("--help")
     assert (ran.returncode, ran.stderr) == (0, "") and ran.stdout == run("-h").stdout
-    assert all(command in ran.stdout for command in ("explain", "prompt", "page", "live", "watch"))
+    assert all(command in ran.stdout for command in ("explain", "prompt", "page", "live", "watch", "lsp"))
 
 
 @pytest.mark.parametrize("command", cli.COMMANDS)

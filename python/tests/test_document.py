@@ -204,6 +204,7 @@ def test_one_line_that_is_typed_keeps_its_row(begin: Begin) -> None:
             done = document.update(HOLDING.replace(ADD, f"{typed}\n"), hold=True)
             assert (done.held, done.sent, done.count, len(done.ran)) == ((at,), [], 0, 0)
             assert document.shown[at].refused and [row.text for row in document.rows][0] == ADD[:-1]
+            assert document.stays(at) == f"the row stays `{ADD[:-1]}`" and not document.stays(at + 1)
         done = document.update(HOLDING, hold=True)
         assert (done.held, done.sent, done.count) == ((), [], 0)
         compare(document, document.lines)
@@ -227,6 +228,64 @@ def test_several_lines_that_are_typed_keep_their_rows(begin: Begin) -> None:
         assert [row.text for row in document.rows] == [ADD[:-1], SUB[:-1].replace("b a c", "b c a"), MAX[:-1]]
         # What is saved drops all that is held.
         assert saved(document, typed.split("\n")[:-1]) and len(document.rows) == 1
+
+
+def test_a_declaration_that_is_typed_keeps_what_it_declares(begin: Begin) -> None:
+    with Document(begin) as document:
+        document.update(HOLDING)
+        at, field = document.lines.index("field c S 8"), "field c S 8\n"
+        for typed in ("field c S \n", "field c S\n", "fiel c S\n"):
+            done = document.update(HOLDING.replace(field, typed), hold=True)
+            assert (done.held, done.sent, done.fresh) == ((at,), [], "")
+            assert document.lines[at] == typed[:-1] and document.shown[at].refused.startswith("refused 20 ")
+            told = document.explanation(at)
+            assert told is not None and told.line == typed[:-1] and document.stays(at) == "`field c S 8` stays"
+            assert [shown.refused for shown in document.shown if shown.row is not None] == [""] * 3
+        # Another line is changed meanwhile, a line comes above, and one below.
+        other = HOLDING.replace(field, "fiel c S\n").replace("5 6 7", "5 9 7")
+        done = document.update(other, hold=True)
+        assert (done.held, done.fresh, done.sent) == ((at,), "", ["input b 1 9"])
+        done = document.update(f"# Above.\n{other}", hold=True)
+        assert (done.held, done.fresh, done.count) == ((at + 1,), "", 0)
+        done = document.update(f"# Above.\n{other}{MAX}", hold=True)
+        assert (done.held, done.fresh, done.count) == ((at + 1,), "", 1)
+        # It is right again, and then it is saved half typed.
+        right = f"# Above.\n{HOLDING}{MAX}".replace("5 6 7", "5 9 7")
+        done = document.update(right, hold=True)
+        assert (done.held, done.sent, done.fresh) == ((), [], "")
+        compare(document, right.split("\n")[:-1])
+        document.update(HOLDING.replace(field, "field c S\n"), hold=True)
+        assert saved(document, HOLDING.replace(field, "field c S\n").split("\n")[:-1]) and not document.rows
+
+
+def test_what_is_no_declaration_that_is_typed(begin: Begin) -> None:
+    """A declaration that becomes a comment or another one, or goes with a line of its own, is gone at once."""
+    field = "field c S 8\n"
+    for other in ("# field c S 8\n", "field c S 16\n", "field c S\nfield d S 8\n", ""):
+        with Document(begin) as document:
+            document.update(HOLDING)
+            done = document.update(HOLDING.replace(field, other), hold=True)
+            assert done.fresh == "`field c S 8` is changed or gone, or stands elsewhere" and not done.held
+            compare(document, document.lines)
+
+
+def test_a_declaration_that_was_refused_is_not_held() -> None:
+    with Document(program) as document:
+        document.update(f"{HOLDING}field d S 99\n")
+        done = document.update(f"{HOLDING}field d S\n", hold=True)
+        assert not done.held and document.stays(len(document.lines) - 1) == ""
+        compare(document, document.lines)
+
+
+def test_a_program_that_ends_while_a_declaration_is_typed() -> None:
+    with Document(program) as document:
+        document.update(HOLDING)
+        document.update(HOLDING.replace("field c S 8", "field c S"), hold=True)
+        peer = document.book.peer
+        assert isinstance(peer, Pipe)
+        peer.kill()
+        done = document.update(HOLDING.replace("field c S 8", "field c"), hold=True)
+        assert "killed by signal 9" in done.fresh and len(done.held) == 1 and len(document.rows) == 3
 
 
 def test_a_held_row_among_rows_of_its_text() -> None:

@@ -14,6 +14,7 @@ import pytest
 from random_lines import RandomLines
 from usages import is_usage_of
 
+from pevudlo.explain.command import main
 from pevudlo.wire.program import find
 
 REPOSITORY = Path(__file__).resolve().parents[2]
@@ -110,17 +111,18 @@ def last_line(commands: int, refused: list[int], faults: list[str] | None = None
 
 
 @pytest.mark.parametrize("path", SCRIPTS, ids=lambda path: str(path.relative_to(REPOSITORY)))
-def test_each_script_has_the_replies_of_its_transcript(path: Path) -> None:
+def test_each_script_has_the_replies_of_its_transcript(path: Path, capsys: pytest.CaptureFixture[str]) -> None:
+    """It is run in this process; that the command's own process writes the same is seen of random lines."""
     lines = path.read_text().split("\n")
     replies = replies_of(path.with_suffix(".expected").read_text().splitlines())
-    ran = run(path)
-    assert ran.stderr == ""
-    assert_matches(ran.stdout, lines, replies)
+    status, (written, wrong) = main([str(path)]), capsys.readouterr()
+    assert wrong == ""
+    assert_matches(written, lines, replies)
     refused = refused_lines(lines, replies)
-    assert ran.returncode == bool(refused)
+    assert status == bool(refused)
     *told, faults = plain_replies(path)
     assert told == replies
-    assert ran.stdout.split("\n")[-2] == f"{path}: {last_line(len(replies), refused, faults[1:])}"
+    assert written.split("\n")[-2] == f"{path}: {last_line(len(replies), refused, faults[1:])}"
 
 
 def test_ten_thousand_random_lines(tmp_path: Path) -> None:

@@ -83,10 +83,13 @@ def usage_lines(said: str) -> list[str]:
     return said.split("\n\n")[0].splitlines()
 
 
-COMMANDS = ("explain", "prompt", "page", "live", "watch")
+OF_FILES = ("explain", "prompt", "page", "live", "watch")
+COMMANDS = (*OF_FILES, "lsp")
 
 
-@pytest.mark.parametrize("words", ["explain --nope x", "explain", "prompt a b", "page", "live --port", "watch"])
+@pytest.mark.parametrize(
+    "words", ["explain --nope x", "explain", "prompt a b", "page", "live --port", "watch", "lsp x"]
+)
 def test_wrong_words_behind_a_command(words: str) -> None:
     ran = paris(*words.split())
     assert (ran.returncode, ran.stdout) == (2, "") and is_usage_of(words.split()[0], ran.stderr)
@@ -95,7 +98,7 @@ def test_wrong_words_behind_a_command(words: str) -> None:
 def test_help_and_where() -> None:
     ran = paris("--help")
     assert ran.returncode == 0 and ran.stdout.startswith("usage: paris ")
-    assert len(usage_lines(ran.stdout)) == 7 and "--where" in usage_lines(ran.stdout)[-1]
+    assert len(usage_lines(ran.stdout)) == 8 and "--where" in usage_lines(ran.stdout)[-1]
     ran = paris("--where")
     assert ran.returncode == 0 and os.access(ran.stdout.strip(), os.X_OK)
 
@@ -129,7 +132,7 @@ def test_a_long_script_is_told_of_on_a_terminal(tmp_path: Path) -> None:
 
 
 def test_a_file_that_cannot_be_read() -> None:
-    commands: list[list[str]] = [[], *([command] for command in COMMANDS)]
+    commands: list[list[str]] = [[], *([command] for command in OF_FILES)]
     for words in [[*command, name] for command in commands for name in ("/nope", "/")]:
         ran = paris(*words)
         assert (ran.returncode, ran.stdout) == (2, "")

@@ -17,7 +17,7 @@ from terminals import Terminal
 
 from pevudlo import progress
 from pevudlo.page.page import page_of
-from pevudlo.progress import Progress, ProgressLine, line_of, seconds_text
+from pevudlo.progress import Later, Progress, ProgressLine, line_of, seconds_text
 from pevudlo.wire.pipe import Pipe
 from pevudlo.wire.program import ROOT, find
 
@@ -222,6 +222,34 @@ def test_nothing_is_told_where_there_is_no_terminal() -> None:
     with progress.progress() as line:
         assert type(line) is Progress and not line.is_told
         line.settling("settle", Peer(0))
+
+
+def test_what_takes_longer_than_a_moment_is_handed_over() -> None:
+    told: list[str] = []
+    with (later := Later(told.append, 0.02)):
+        later.say("settles rows")
+        time.sleep(0.2)
+        assert told == ["settles rows"]
+        later.say("draws")
+    assert told == ["settles rows", "draws", ""]
+    with (later := Later(told.append, 60.0)):
+        later.say("is done at once")
+    with pytest.raises(KeyError), later:
+        raise KeyError
+    assert len(told) == 3
+
+
+def test_watch_says_what_it_waits_for(tmp_path: Path) -> None:
+    late = tmp_path / "late"
+    late.write_text(LATE.format(find()).replace("1.4", "0.9"))
+    late.chmod(0o755)
+    path = tmp_path / "sum.paris"
+    path.write_text("set S 4\nfield a S 8\nu-move-constant-1L a 7 8\n")
+    words = ("--workers", "1", str(path))
+    with Terminal(tmp_path, *words, command="watch", is_quiet=False, program=late) as terminal:
+        assert " sum.paris: settles 1 row .." in terminal.until("q ends")
+        terminal.press("q")
+        assert terminal.wait() == 0
 
 
 def test_words_for_time_and_lines() -> None:

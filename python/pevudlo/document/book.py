@@ -6,7 +6,6 @@ from collections.abc import Callable, Sequence
 from math import prod
 from typing import TypeVar
 
-from pevudlo.data import data_of
 from pevudlo.document.differences import aligned, differing_ranges, ends, matched
 from pevudlo.document.meaning import FileRow, Hunk, Shown
 from pevudlo.document.pieces import DECLARING, Kind, Piece
@@ -16,12 +15,12 @@ from pevudlo.hints.explanation import Refusal
 from pevudlo.hints.meanings import Where
 from pevudlo.lang.board import Board
 from pevudlo.lang.causes import causes
-from pevudlo.lang.keys import axes_of, width_of
+from pevudlo.lang.keys import axes_of
 from pevudlo.lang.replies import NoReply, Ok, Reply, RowAdded, RowFault, Settled
 from pevudlo.record.earlier import Numbers
-from pevudlo.record.looks import packed
+from pevudlo.record.looks import Looker
 from pevudlo.talk import Talk
-from pevudlo.values.shaped import Pending, input_lines
+from pevudlo.values.shaped import input_lines
 from pevudlo.wire.peers import Peer
 
 Kept = TypeVar("Kept", bound=Reply)
@@ -37,15 +36,15 @@ MOST_EDITS = 256
 class Book:
     """A book, and a second one with the same declarations that gives the verdicts."""
 
-    def __init__(self, begin: Callable[[], Peer]) -> None:
-        self.peer, self._second = begin(), begin()
+    def __init__(self, begin: Callable[[], Peer], begin_second: Callable[[], Peer]) -> None:
+        self.peer, self._second = begin(), begin_second()
         self.talk = Talk(self.peer, Where.FILE)
         self.board = self.talk.board
         self.verdicts = Verdicts(self._second, self.board)
         self.faults: dict[int, RowFault] = {}
         self.editions: dict[int, int] = {}
         self.refused: dict[int, str] = {}
-        self._data = data_of(self.talk)
+        self._looker = Looker(self.peer, self.board)
         self._listed: list[str] = []
         self._rows: Sequence[FileRow] = []
         self._inputs: dict[str, list[str]] = {}
@@ -137,10 +136,10 @@ class Book:
 
     def look(self, key: str, anchor: FileRow | None) -> Numbers:
         """The numbers of a key behind a row, or at the start. All rows are settled."""
-        numbers = self._data.look(key, "start" if anchor is None else f"after {anchor.book}")
-        if isinstance(numbers, Pending):
-            raise NoReply(f"row {numbers.row} is unsettled behind a settle")
-        return packed(numbers, width_of(self.board, key))
+        look = self._looker.look(key, "start" if anchor is None else f"after {anchor.book}")
+        if look.numbers is None:
+            raise NoReply(f"row {look.pending} is unsettled behind a settle")
+        return look.numbers
 
     def cause(self, row: FileRow) -> str:
         """Why a row is refused for its data, in words."""

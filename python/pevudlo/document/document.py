@@ -23,6 +23,7 @@ from pevudlo.hints.meanings import Where
 from pevudlo.lang.board import Board
 from pevudlo.lang.faults import FAULTS
 from pevudlo.lang.replies import NoReply, Refused, parse
+from pevudlo.progress import PROGRESS, Progress
 from pevudlo.record.earlier import Numbers
 from pevudlo.wire.peers import Peer, peer_of
 from pevudlo.wire.pipe import PipeError
@@ -37,14 +38,24 @@ def library_or_program() -> Peer:
 
 
 class Document:
-    """A text in step with a book. `begin` starts a peer with nothing declared."""
+    """A text in step with a book.
 
-    def __init__(self, begin: Callable[[], Peer] = library_or_program) -> None:
-        self.meaning = Meaning()
-        self._begin = begin
+    `begin` starts a peer with nothing declared, and `begin_second` another one, which gives verdicts alone. `told` is
+    told what an update does.
+    """
+
+    def __init__(
+        self,
+        begin: Callable[[], Peer] = library_or_program,
+        told: Progress = PROGRESS,
+        begin_second: Callable[[], Peer] | None = None,
+    ) -> None:
+        self.meaning, self.told = Meaning(), told
+        self._begin, self._begin_second = begin, begin_second or begin
         self._book: Book | None = None
         self._declared: list[str] = []
         self._why = "the first text"
+        self._typed: tuple[list[str], list[Shown]] | None = None
         self._looks: dict[tuple[int, str], Seen] = {}
         self._before: dict[tuple[int, str], Numbers] = {}
         # The marks of rows that didn't run again, with the row's edition and how long their values are.
@@ -67,29 +78,61 @@ class Document:
     def update(self, text: str, hold: bool = False) -> Update:
         """Takes a new text, sends what leads to it, and runs what that unsettled.
 
-        With `hold`, a line that was a row and is refused now, since it is being typed, keeps the row that it was.
+        With `hold`, a line that was a row and is refused now, since it is being typed, keeps the row that it was. One
+        that declared something and isn't in the grammar now keeps what it declared.
         Where the program ends it is begun anew, once. Raises PipeError where that ends too, and NotFound.
         """
         return self.update_lines(lines_of_text(text), hold)
 
     def update_lines(self, lines: list[str], hold: bool = False) -> Update:
         """As `update`, of a text that is cut into lines."""
+        with self.told:
+            return self._update(lines, hold)
+
+    def _update(self, lines: list[str], hold: bool) -> Update:
+        """As `update_lines`."""
         done = Update()
+        told = self._as_declared(lines) if hold else lines
         why, self._why = self._why, "the last update was stopped"
         try:
             if why or self._book is None:
                 raise NewBook(why)
-            self._step(self._book, lines, hold, done)
-        except NewBook as wanted:
-            done = self._afresh(lines, str(wanted))
-        except PipeError as error:
-            done = self._afresh(lines, str(error))
-        self._why, done.held = "", self.meaning.held
+            self._step(self._book, told, hold, done)
+            typed = self._see_typed(lines)
+        except (NewBook, PipeError) as error:
+            done = self._afresh(told, str(error))
+            typed = self._see_typed(lines)
+        self._why, done.held = "", tuple(sorted({*self.meaning.held, *typed}))
         return done
+
+    def _as_declared(self, lines: list[str]) -> list[str]:
+        """A text whose declarations are as they were where they are half typed: in the grammar before, and not now."""
+        had, was = self.lines, self.meaning.lines
+        low, high = ends(had, lines)
+        olds, news = self.meaning.shown[low : len(was) - high], lines[low : len(lines) - high]
+        if self._typed is None and not any(old.kind in DECLARING for old in olds):
+            return lines
+        if len(olds) == len(news):
+            news = [was[low + at] if is_half_typed(old, new) else new for at, (old, new) in enumerate(zip(olds, news))]
+        return [*was[:low], *news, *was[len(was) - high :]]
+
+    def _see_typed(self, lines: list[str]) -> list[int]:
+        """Sees why the lines that are half typed are refused, and says which they are."""
+        told, self._typed = self.meaning.lines, None
+        if told is lines:
+            return []
+        typed = [at for at, (line, as_told) in enumerate(zip(lines, told)) if line != as_told]
+        if typed:
+            shown = self.meaning.shown.copy()
+            for at in typed:
+                piece = piece_of(lines[at])
+                shown[at] = Shown(piece, self.book.verdicts.of(piece, frozenset()))
+            self._typed = lines, shown
+        return typed
 
     def _step(self, book: Book, lines: list[str], hold: bool, done: Update) -> None:
         """Leads the book to a text by edits. Raises NewBook where that can't be."""
-        same = ends(self.lines, lines)
+        same = ends(self.meaning.lines, lines)
         declared, added = self._declarations(lines, same)
         book.declare(added, done)
         meaning = None
@@ -102,6 +145,7 @@ class Document:
         if meaning.has_inputs:
             book.to_inputs(meaning.shown, done)
         self.meaning, self._declared = meaning, declared
+        self.told.say("settles rows")
         book.settle(meaning.rows, done)
         if done.sent:
             self._forget(book.editions)
@@ -132,7 +176,7 @@ class Document:
             else:
                 raise NewBook(f"`{short_line(old)}` is changed or gone, or stands elsewhere")
         added += rest
-        if added and any(shown.refused for shown in self.shown if shown.kind in DECLARING):
+        if added and any(shown.refused for shown in self.meaning.shown if shown.kind in DECLARING):
             raise NewBook("a declaration was refused")
         known: set[str] = set()
         for piece in map(piece_of, declared if added else ()):
@@ -147,13 +191,15 @@ class Document:
         self._looks.clear()
         self.marks.clear()
         self._before.clear()
-        book = self._book = Book(self._begin)
+        book = self._book = Book(self._begin, self._begin_second)
         done = Update(fresh=why)
+        self.told.say(f"tells {len(lines):,} lines")
         done.sent = book.begin([piece_of(line) for line in lines])
         try:
             meaning = Reader(book.verdicts, book.refused).read(lines)
             for number, row in zip(meaning.ids, meaning.rows):
                 row.book = number
+            self.told.say(f"settles {len(meaning.rows):,} row{'s' * (len(meaning.rows) != 1)}")
             book.settle(meaning.rows, done)
         except NewBook as error:
             raise NoReply(f"a fresh run isn't what the text means: {error}") from error
@@ -177,12 +223,12 @@ class Document:
     @property
     def lines(self) -> list[str]:
         """The lines of the text."""
-        return self.meaning.lines
+        return self.meaning.lines if self._typed is None else self._typed[0]
 
     @property
     def shown(self) -> list[Shown]:
         """What each line is."""
-        return self.meaning.shown
+        return self.meaning.shown if self._typed is None else self._typed[1]
 
     @property
     def rows(self) -> list[FileRow]:
@@ -201,11 +247,18 @@ class Document:
         text = FAULTS[SYNTAX].words(column) if column else told.text
         return replace(told, text=text, line=self.lines[number], detail=column or told.detail, column=column)
 
+    def stays(self, number: int) -> str:
+        """What a line is for now, where it is refused and held: its row, or its declaration. Else nothing."""
+        row, told = self.shown[number].row, self.meaning.shown[number]
+        if self.shown[number].refused and row is not None:
+            return f"the row stays `{row.text}`"
+        return f"`{told.piece.line}` stays" if self.shown[number] is not told else ""
+
     def board_above(self, number: int) -> Board:
         """What is declared above a line, and the rows by the ids of a fresh run where the line has lost its row."""
         board, count = Board(), 0
         is_of_rows = self.shown[number].refused == NO_ROW
-        for each in self.shown[: number if is_of_rows else min(number, self.meaning.head)]:
+        for each in self.meaning.shown[: number if is_of_rows else min(number, self.meaning.head)]:
             if each.refused or each.kind not in (*FIRM, Kind.ROW):
                 continue
             count += each.kind is Kind.ROW
@@ -234,6 +287,11 @@ class Document:
     def earlier(self, row: FileRow, key: str) -> Numbers | None:
         """What was seen of a key behind a row before its last run."""
         return self._before.get((row.book, key))
+
+
+def is_half_typed(old: Shown, new: str) -> bool:
+    """Whether a line declared something, and is none of the grammar now."""
+    return old.kind in DECLARING and not old.refused and piece_of(new).kind is Kind.WRONG
 
 
 def declarations_in(lines: list[str]) -> list[str]:

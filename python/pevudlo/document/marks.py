@@ -54,12 +54,12 @@ def mark_of(document: Document, number: int, done: Update, most: int = MOST) -> 
 
 
 def refusal_text(document: Document, number: int) -> str:
-    """Why a line is refused, with a hint, and that its old row stays where it is held."""
+    """Why a line is refused, with a hint, and what stays where it is held."""
     told = document.explanation(number)
     assert told is not None
-    row = document.shown[number].row
-    held = f"; the row stays `{row.text}`" if row is not None else ""
-    return f"{document.shown[number].refused}: {told.text}" + (f"; {told.hint}" if told.hint else "") + held
+    return "; ".join(
+        part for part in (f"{document.shown[number].refused}: {told.text}", told.hint, document.stays(number)) if part
+    )
 
 
 def row_mark(document: Document, row: FileRow, done: Update, most: int) -> Mark:

@@ -17,6 +17,7 @@ from pevudlo.document.pieces import Kind
 from pevudlo.document.states import Mark, State
 from pevudlo.document.update import Update
 from pevudlo.draw.visible import visible
+from pevudlo.progress import Later
 
 FEET = "▶ ran again, * other than before, = ran with the same values, ✗ refused; arrows move, q ends"
 TONES = {
@@ -62,6 +63,13 @@ class Screen:
         """Says why there is nothing new."""
         self._trouble = words
         self._draw()
+
+    def progress(self, words: str) -> None:
+        """Says what is being done, while an update takes its time."""
+        if words:
+            head = cut(visible(f" {self._name}: {words} .."), self._size.columns)
+            sys.stdout.write(f"\x1b[H\x1b[7m{head.ljust(self._size.columns)}\x1b[0m")
+            sys.stdout.flush()
 
     def rest(self, seconds: float) -> bool:
         """Waits so long, or for keys. False where it is to end."""
@@ -110,7 +118,9 @@ def drawn(document: Document, name: str) -> Iterator[Screen]:
     try:
         tty.setcbreak(sys.stdin)
         sys.stdout.write("\x1b[?1049h\x1b[?25l\x1b[2J")
-        yield Screen(document, name)
+        screen = Screen(document, name)
+        document.told = Later(screen.progress)
+        yield screen
     finally:
         sys.stdout.write("\x1b[?25h\x1b[?1049l")
         sys.stdout.flush()

@@ -45,6 +45,11 @@ class Watched:
         self._text = text
         return text
 
+    @property
+    def is_there(self) -> bool:
+        """Whether it was there when it was looked at last."""
+        return self._away_from is None
+
     def is_lost(self) -> bool:
         """Whether the file is away and no longer waited for. It is said once."""
         is_lost = self._away_from is not None and time.monotonic() - self._away_from > AWAY

@@ -4,13 +4,15 @@ from __future__ import annotations
 
 import signal
 import sys
-from argparse import ArgumentTypeError
+import threading
+from argparse import ArgumentTypeError, Namespace
 from pathlib import Path
 from types import FrameType
 
 from pevudlo.arguments import Arguments, add_quiet, file_name
 from pevudlo.draw.visible import visible
 from pevudlo.files import read_lines, why
+from pevudlo.live.followed import FollowedSession
 from pevudlo.live.server import Server
 from pevudlo.live.session import Session, Stopped
 from pevudlo.wire.pipe import PipeError
@@ -34,6 +36,8 @@ def arguments() -> Arguments:
     parser = Arguments("live", DOES)
     parser.add_argument("file", nargs="?", type=file_name, metavar="FILE", help="a script that the program begins with")
     add_quiet(parser)
+    said = "hold the page in step with FILE while it is edited, on the page as a text too, which is written into FILE"
+    parser.add_argument("--follow", action="store_true", help=said)
     said = "the port; 0 is any that is free (default: %(default)s)"
     parser.add_argument("--port", type=port, default=0, metavar="0-65535", help=said)
     return parser
@@ -55,9 +59,30 @@ def serve(session: Session, title: str, port: int) -> None:
         server.serve_forever(poll_interval=0.2)
 
 
+def begun(said: Namespace, lines: list[str]) -> Session:
+    """A session of a script, or of a file that is followed. Raises NotFound, Stopped and PipeError."""
+    if said.follow:
+        followed = FollowedSession(Path(said.file), find(), said.workers, said.quiet)
+        followed.look()
+        threading.Thread(target=followed.follow, daemon=True).start()
+        return followed
+    session = Session(find(), said.workers, said.quiet)
+    try:
+        refused = session.load(lines)
+    except BaseException:
+        session.close()
+        raise
+    if refused:
+        print(f"paris live: {len(refused)} of the script's lines were refused; the page says why", file=sys.stderr)
+    return session
+
+
 def main(words: list[str]) -> int:
     """Serves a page. The exit status is 0 after Ctrl-C, and 2 where the words are wrong or nothing can be served."""
-    said = arguments().parse_args(words)
+    parser = arguments()
+    said = parser.parse_args(words)
+    if said.follow and said.file is None:
+        parser.error("--follow wants a FILE")
     path = Path(said.file) if said.file is not None else None
     signal.signal(signal.SIGTERM, interrupt)
     session = None
@@ -67,10 +92,7 @@ def main(words: list[str]) -> int:
         print(f"paris live: can't read {visible(str(path))}: {why(error)}", file=sys.stderr)
         return 2
     try:
-        session = Session(find(), said.workers, said.quiet)
-        refused = session.load(lines)
-        if refused:
-            print(f"paris live: {len(refused)} of the script's lines were refused; the page says why", file=sys.stderr)
+        session = begun(said, lines)
         serve(session, path.name if path is not None else "a new program", said.port)
     except KeyboardInterrupt:
         print()

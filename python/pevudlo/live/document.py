@@ -17,15 +17,16 @@ _PARTS = (
 
 
 @cache
-def live_document(title: str) -> str:
-    """The page of a session, without anything of the session but its title."""
-    links = [f'<li><a href="#{part}">{words}</a></li>' for part, words in _PARTS]
-    scripts = [read_static("page.js"), read_static("live.js")]
+def live_document(title: str, is_followed: bool = False) -> str:
+    """The page of a session, without anything of the session but its title. That of a file has the file's text."""
+    parts = (_TEXT_PART, *_PARTS) if is_followed else _PARTS
+    links = [f'<li><a href="#{part}">{words}</a></li>' for part, words in parts]
+    scripts = [read_static("page.js"), read_static("live.js"), *[read_static("text.js")] * is_followed]
     return document(
         title,
         "A program that is edited and run here. Ctrl-C where it was started ends it.",
         links,
-        _BODY,
+        _BODY.replace("<!-- text -->", _TEXT if is_followed else ""),
         scripts,
         read_static("live.css"),
     )
@@ -35,6 +36,7 @@ _BODY = """
 <div id="trouble"></div>
 <div id="head" class="head" aria-live="polite"></div>
 <div id="note" aria-live="assertive"></div>
+<!-- text -->
 <section class="block" id="edit-part">
 <div id="edit" aria-live="polite"><p class="quiet">No edit of settled rows so far.</p></div>
 </section>
@@ -76,4 +78,19 @@ _BODY = """
 <div class="answer" aria-live="assertive"></div>
 </form>
 </template>
+"""
+
+_TEXT_PART = ("text-part", "The file")
+_TEXT = """
+<section class="block" id="text-part">
+<h2>The file <small id="ran"></small></h2>
+<div class="sheet">
+<textarea id="text" wrap="off" spellcheck="false" autocomplete="off" aria-label="The text of the file"></textarea>
+<div id="beside" aria-label="What each line gives"></div>
+</div>
+<div id="text-answer" aria-live="assertive"></div>
+<p class="quiet">What is typed here is written into the file. A row that isn't right while it is typed stays as it was,
+until the text is left or saved by Ctrl-S. <b>▶</b> ran again, <b>*</b> other than before, <b>=</b> ran with the same
+values, <b>✗</b> refused, <b>!</b> refused for its data.</p>
+</section>
 """

@@ -17,7 +17,9 @@ from typing import Any
 from urllib.parse import parse_qs, urlsplit
 
 from pevudlo.live.connections import ANSWER_SECONDS, LimitedServer, TimelyReader
+from pevudlo.files import why
 from pevudlo.live.document import live_document
+from pevudlo.live.followed import FollowedSession, OtherText
 from pevudlo.live.session import OtherRow, Session, Stopped
 from pevudlo.live.view import View, other_row, told
 
@@ -28,6 +30,26 @@ MOST_BYTES = 65_536 + 1_024
 MOST_LISTENERS = 32
 HEARTBEAT = 10.0
 """Seconds between two signs of life to a tab that waits for news."""
+
+
+def is_number(word: str) -> bool:
+    """Whether a word is a number that isn't too long."""
+    return word.isascii() and word.isdigit() and len(word) < 19
+
+
+def type_text(session: FollowedSession, asked: dict[str, str]) -> dict[str, object]:
+    """Puts what was typed into the text. Raises ValueError where that can't be."""
+    places = [asked[name] for name in ("was", "start", "end")]
+    if not all(map(is_number, places)):
+        raise ValueError("a part of the text is wanted")
+    was, start, end = map(int, places)
+    try:
+        session.type(was, start, end, asked["text"], asked["hold"] == "yes")
+    except OtherText:
+        return {"other": True}
+    except OSError as error:
+        raise ValueError(f"can't write the file: {why(error)}") from error
+    return {"number": session.number}
 
 
 class Unwelcome(Exception):
@@ -114,15 +136,20 @@ class Handler(BaseHTTPRequestHandler):
         """Answers with what has this name."""
         session = self.server.session
         if name == "":
-            self._send(HTTPStatus.OK, live_document(self.server.title).encode("utf-8"), "text/html; charset=utf-8")
+            page = live_document(self.server.title, isinstance(session, FollowedSession))
+            self._send(HTTPStatus.OK, page.encode("utf-8"), "text/html; charset=utf-8")
         elif name == "news":
             self._news()
         elif name == "state":
-            self._send_json(self.server.view.since(self._seen()))
+            self._send_json(self.server.view.since(self._asked("seen")))
         elif name == "script":
+            self._send(HTTPStatus.OK, session.script().encode("utf-8", "surrogateescape"), "text/plain; charset=utf-8")
+        elif name == "text" and isinstance(session, FollowedSession):
             with session.lock:
-                text = "".join(line + "\n" for line in session.taken)
-            self._send(HTTPStatus.OK, text.encode("utf-8", "surrogateescape"), "text/plain; charset=utf-8")
+                text: dict[str, object] = {"number": session.number, "text": session.text}
+            self._send_json(text)
+        elif name == "lines" and isinstance(session, FollowedSession):
+            self._send_json(session.values(self._asked("first"), self._asked("last")))
         else:
             raise Unwelcome(HTTPStatus.NOT_FOUND)
 
@@ -134,6 +161,8 @@ class Handler(BaseHTTPRequestHandler):
                 step = session.run(asked["line"], asked.get("was"))
             except OtherRow as error:
                 return {"reply": [], "refused": other_row(error), "text": error.text}
+            except OSError as error:
+                raise ValueError(f"can't write the file: {why(error)}") from error
             return {"reply": list(step.lines[:1]), "refused": told(step) if step.is_refused else ""}
         if name == "order":
             return {"reply": [step.lines[0] for step in session.run_order()], "refused": ""}
@@ -141,6 +170,8 @@ class Handler(BaseHTTPRequestHandler):
             session.move(asked["place"])
         elif name == "restart":
             session.restart()
+        elif name == "text" and isinstance(session, FollowedSession):
+            return type_text(session, asked)
         else:
             raise ValueError("nothing is done at this address")
         return {"reply": [], "refused": ""}
@@ -180,10 +211,10 @@ class Handler(BaseHTTPRequestHandler):
             raise Unwelcome(HTTPStatus.BAD_REQUEST)
         return asked
 
-    def _seen(self) -> int:
-        """The version that a tab has seen, 0 where it has seen none."""
-        words = parse_qs(urlsplit(self.path).query).get("seen", ["0"])
-        return int(words[0]) if words[0].isascii() and words[0].isdigit() and len(words[0]) < 19 else 0
+    def _asked(self, name: str) -> int:
+        """A number of the address, such as the version that a tab has seen; 0 where it has none."""
+        words = parse_qs(urlsplit(self.path).query).get(name, ["0"])
+        return int(words[0]) if is_number(words[0]) else 0
 
     def _news(self) -> None:
         """Server-sent events: the version, each time that it is another."""

@@ -47,12 +47,16 @@ class Stopped(Exception):
 
 
 class Session:
-    """One program and what is known of it. `version` rises with each change."""
+    """One program and what is known of it. `version` rises with each change.
+
+    `number` counts the texts of a file that is followed, and is 0 without one.
+    """
 
     def __init__(self, program: Path, workers: int = 2, is_quiet: bool = True) -> None:
         """`is_quiet` says that a terminal isn't told how far a command is."""
         self.lock = threading.RLock()
         self.version = 1
+        self.number = 0
         self.trouble = ""
         self.caret = "end"
         self.taken: list[str] = []
@@ -123,6 +127,11 @@ class Session:
             self._see_rows()
             self.changed()
             return refused
+
+    def script(self) -> str:
+        """The accepted commands as a script."""
+        with self.lock:
+            return "".join(f"{line}\n" for line in self.taken)
 
     def move(self, place: str) -> None:
         """Moves the caret. Raises ValueError where there is no such place."""

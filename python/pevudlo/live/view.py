@@ -46,6 +46,7 @@ class View:
             return {
                 "version": self.version,
                 "caret": self.session.caret,
+                "text": self.session.number,
                 "orders": {name: order for name, (order, version) in self.orders.items() if version > seen},
                 "html": {name: html for name, (html, version) in self.fragments.items() if version > seen},
             }
@@ -181,11 +182,13 @@ def head(session: Session) -> str:
     seen = session.seen
     unsettled = seen.unsettled
     off = "" if unsettled else " disabled"
-    return (
-        f'<p role="status">{state_words(len(seen.rows), unsettled, session)}</p>'
+    acts = (
         f'<div class="acts"><button data-act="order"{off}>Run one order</button>'
-        f'<button class="main" data-act="settle"{off}>Settle</button></div>{refused_rows(seen)}'
+        f'<button class="main" data-act="settle"{off}>Settle</button></div>'
     )
+    # Rows of a file that is followed run by themselves.
+    acts = "" if session.number else acts
+    return f'<p role="status">{state_words(len(seen.rows), unsettled, session)}</p>{acts}{refused_rows(seen)}'
 
 
 def state_words(count: int, unsettled: int, session: Session) -> str:

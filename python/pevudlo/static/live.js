@@ -146,6 +146,7 @@
     for (const grid of at("inputs-part").querySelectorAll("figure")) ready(grid);
     refocus(focus);
     document.body.dataset.version = version;
+    if (news.text) document.dispatchEvent(new CustomEvent("paris-text", { detail: news.text }));
   }
 
   // What is new is asked for once at a time.

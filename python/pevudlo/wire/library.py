@@ -86,7 +86,7 @@ def trouble(outcome: int) -> Exception:
         case Outcome.NO_MEMORY:
             return MemoryError("there is no memory left, and nothing has changed")
         case Outcome.PARTLY:
-            return MemoryError("there is no memory left: the rows that ran are settled, and orders are given up")
+            return MemoryError("there is no memory left: the rows that ran are settled, and orders may be given up")
     return RuntimeError(f"the library answered {outcome}")
 
 

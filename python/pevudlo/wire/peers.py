@@ -2,20 +2,33 @@
 
 from __future__ import annotations
 
-from typing import Union
+from collections.abc import Sequence
+from typing import Protocol
 
 from pevudlo.wire.library import Library
 from pevudlo.wire.library_places import find_library
 from pevudlo.wire.pipe import Pipe
 from pevudlo.wire.program import NotFound, find
 
-Peer = Union[Pipe, Library]
+
+class Peer(Protocol):
+    """What answers lines: a `Pipe`, a `Library`, or who hands lines on to one."""
+
+    def ask(self, line: str) -> list[str]:
+        """The lines of the reply to one line."""
+
+    def ask_all(self, lines: Sequence[str]) -> list[list[str]]:
+        """The replies to many lines."""
+
+    def close(self) -> int:
+        """Ends the talk, and gives its status."""
+
 
 USUAL_WORKERS = 2
 """In how many threads a program settles rows where nothing is said."""
 
 
-def peer_of(workers: int | None, is_large: bool) -> Peer:
+def peer_of(workers: int | None, is_large: bool) -> Pipe | Library:
     """A peer with nothing declared.
 
     For large sets it is the library where that is there, since its numbers come as arrays. It settles rows in one

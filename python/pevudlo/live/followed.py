@@ -1,0 +1,243 @@
+"""A live session of a file that is followed: it is edited elsewhere, as a text on the page, and row by row."""
+
+from __future__ import annotations
+
+import threading
+from collections.abc import Sequence
+from pathlib import Path
+
+from pevudlo.document.document import Document
+from pevudlo.document.edits import edited
+from pevudlo.document.marks import headline, mark_of
+from pevudlo.document.pieces import Kind, piece_of
+from pevudlo.document.update import Update
+from pevudlo.document.watched import Watched
+from pevudlo.files import write_text
+from pevudlo.lang.replies import NoReply, parse
+from pevudlo.live.session import CHANGING, LISTED_A_STEP, Session, Stopped
+from pevudlo.record.recorder import LOOKS, Step
+from pevudlo.wire.pipe import Pipe, PipeError, is_comment
+
+PERIOD = 0.05
+"""Seconds between two looks at the file."""
+
+EDITING = ("set", "field", "input", "insert", "delete", "replace")
+MOST_LINES = 400
+"""Of so many lines it is told at once what they give."""
+
+BY_THEMSELVES = "rows run by themselves here, when the text changes"
+
+
+class OtherText(Exception):
+    """The text is another than it was when it was edited."""
+
+
+class Gone(PipeError):
+    """The session's program has ended."""
+
+    def __init__(self, words: str) -> None:
+        Exception.__init__(self, words)
+        self.status, self.line = -1, ""
+
+
+class SessionPeer:
+    """A session as the peer of a document: what changes the program is a step of it, and looks go to the program."""
+
+    def __init__(self, session: FollowedSession) -> None:
+        self._session = session
+        session.begin_anew()
+
+    def ask(self, line: str) -> list[str]:
+        """The lines of the reply to one line. Raises PipeError."""
+        return self._session.told_line(line)
+
+    def ask_all(self, lines: Sequence[str]) -> list[list[str]]:
+        """The replies to many lines."""
+        return self._session.told_lines(lines)
+
+    def close(self) -> int:
+        """The session ends its program itself."""
+        return 0
+
+
+class FollowedSession(Session):
+    """A session of a file. `text` is its text, `number` counts texts, and `done` is what the last update did."""
+
+    def __init__(self, path: Path, program: Path, workers: int = 2, is_quiet: bool = True) -> None:
+        super().__init__(program, workers, is_quiet)
+        self.file = Watched(path)
+        self.text, self.done, self.is_away = "", Update(), False
+        self.document = Document(lambda: SessionPeer(self), begin_second=lambda: Pipe(program, 1))
+        self._is_new = True
+        self._over = threading.Event()
+
+    # The file.
+
+    def follow(self) -> None:
+        """Looks at the file until the session is closed. Raises nothing: what goes wrong is the session's trouble."""
+        while not self._over.wait(PERIOD):
+            try:
+                self.look()
+            except Exception as error:
+                self.trouble = f"{type(error).__name__}: {error}"
+                self.changed()
+
+    def look(self) -> None:
+        """Takes the file's text where it is another."""
+        with self.lock:
+            text = self.file.news()
+            if text is not None and (text != self.text or not self.number):
+                self.take(text)
+            if self.file.is_lost() or (self.is_away and self.file.is_there):
+                self.is_away = not self.file.is_there
+                self.changed()
+
+    def take(self, text: str, hold: bool = False) -> None:
+        """Brings the program in step with a text."""
+        with self.lock:
+            self.text, self.number = text, self.number + 1
+            try:
+                with self._telling(self.file.path.name):
+                    self.done = self.document.update(text, hold)
+                    self._see_rows()
+            except (PipeError, Stopped, NoReply, MemoryError) as error:
+                self.trouble = self.trouble or str(error)
+            # The text is what a program is begun anew with.
+            self.taken.clear()
+            self.changed()
+
+    def type(self, was: int, start: int, end: int, text: str, hold: bool) -> None:
+        """Puts a text into the place of a part, by units of UTF-16, and writes the file.
+
+        Raises OtherText where the text isn't that of the number any more, ValueError where it has no such part, and
+        OSError where the file can't be written.
+        """
+        with self.lock:
+            self.look()
+            if was != self.number:
+                raise OtherText
+            raw = self.text.encode("utf-16-le", "surrogatepass")
+            if not 0 <= 2 * start <= 2 * end <= len(raw):
+                raise ValueError("the text has no such part")
+            data = raw[: 2 * start] + text.encode("utf-16-le", "surrogatepass") + raw[2 * end :]
+            self._write(data.decode("utf-16-le", "surrogatepass"), hold)
+
+    def _write(self, text: str, hold: bool) -> None:
+        """Writes the file, and takes the text."""
+        if text != self.text:
+            write_text(self.file.path, text)
+        self.take(text, hold)
+
+    # What is done on the page.
+
+    def run(self, line: str, was: str | None = None) -> Step:
+        """Does an edit of a row or of input data in the text. Looks are asked of the program."""
+        word = line.split(" ")[0]
+        if is_comment(line) or "\n" in line or word in LOOKS:
+            return super().run(line, was)
+        with self.lock:
+            self.look()
+            self._check_row(line, was)
+            if word in CHANGING and word not in EDITING:
+                raise ValueError(BY_THEMSELVES)
+            piece = piece_of(line)
+            if word not in EDITING or piece.kind is Kind.WRONG:
+                return self._refused_step(line)
+            return self._edit(line)
+
+    def _refused_step(self, line: str) -> Step:
+        """A line that isn't in the grammar: the program says so, and nothing is changed."""
+        step = self._step(line)
+        self.changed()
+        return step
+
+    def _edit(self, line: str) -> Step:
+        """An edit of the text. Where the program refuses it, or the file can't be written, the text stays as it was.
+
+        Raises OSError for the latter.
+        """
+        before = self.text
+        lines, at = edited(self.document, line)
+        self.take("".join(f"{each}\n" for each in lines))
+        word, shown = line.split(" ")[0], self.document.shown
+        told = self.document.explanation(at) if word != "delete" else None
+        if told is not None:
+            refused = shown[at].refused
+            self.take(before)
+            return Step(0, line, (refused,), parse([refused]), explanation=told)
+        try:
+            write_text(self.file.path, self.text)
+        except OSError:
+            self.take(before)
+            raise
+        row = shown[at].row if word == "insert" else None
+        reply = "ok" if row is None else f"row {row.book}"
+        return Step(0, line, (reply,), parse([reply]))
+
+    def run_order(self) -> list[Step]:
+        """No order is taken by hand. Raises ValueError."""
+        raise ValueError(BY_THEMSELVES)
+
+    @property
+    def commands(self) -> int:
+        """How many commands the text has."""
+        return sum(not is_comment(line) for line in self.document.lines)
+
+    def script(self) -> str:
+        """The text of the file."""
+        return self.text
+
+    def restart(self) -> None:
+        """Begins another program with the text."""
+        with self.lock:
+            self.document.close()
+            self.take(self.text)
+
+    def values(self, first: int, last: int) -> dict[str, object]:
+        """What the lines of a range give, and what the last update did."""
+        with self.lock:
+            document, told = self.document, list[list[str]]()
+            try:
+                if document.is_in_step and not self.trouble:
+                    for number in range(max(0, first), min(last + 1, len(document.lines), first + MOST_LINES)):
+                        mark = mark_of(document, number, self.done)
+                        told.append([mark.state.name.lower(), mark.state.value, mark.text])
+                    away = "; the file isn't there, and this is its last text" if self.is_away else ""
+                    return {"number": self.number, "lines": told, "head": headline(document, self.done) + away}
+            except (PipeError, NoReply):
+                pass
+            return {"number": self.number, "lines": [], "head": self.trouble}
+
+    def close(self) -> None:
+        """Ends the programs."""
+        self._over.set()
+        super().close()
+        self.document.close()
+
+    # The program, as the document's peer.
+
+    def begin_anew(self) -> None:
+        """Begins another program, where this one was told something."""
+        if not self._is_new:
+            self._pipe.close()
+            self._forget()
+            self._begin()
+        self._is_new = False
+
+    def told_line(self, line: str) -> list[str]:
+        """The reply to one line of the document. Raises PipeError."""
+        if line.split(" ", 1)[0] not in CHANGING:
+            return self._pipe.ask(line)
+        try:
+            return list(self._step(line, LISTED_A_STEP).lines)
+        except Stopped as error:
+            raise Gone(str(error)) from error
+
+    def told_lines(self, lines: Sequence[str]) -> list[list[str]]:
+        """The replies to the lines that a new book is told."""
+        replies = self._pipe.ask_all(lines)
+        for line, reply in zip(lines, replies):
+            if reply:
+                self.board.note(line, reply[0])
+                self.told += 1
+        return replies

@@ -1,0 +1,272 @@
+"""A language server over two streams: it reads messages, holds open files in step, and answers.
+
+One thread does all, since a session of the library belongs to one. What has come is read before the next message is
+answered, so a request that is cancelled meanwhile isn't answered. Where nothing comes for a moment, what was typed is
+one update.
+"""
+
+from __future__ import annotations
+
+import json
+import os
+import select
+import threading
+from collections import deque
+from collections.abc import Callable
+from types import TracebackType
+from typing import Any
+
+from pevudlo.document.marks import headline
+from pevudlo.lang.replies import NoReply
+from pevudlo.lsp.answers import ANSWERS, CAPABILITIES, Client, client_of
+from pevudlo.lsp.diagnostics import diagnostics, told_of, ERROR
+from pevudlo.lsp.failures import (
+    CANCELLED,
+    INTERNAL_ERROR,
+    INVALID_PARAMS,
+    INVALID_REQUEST,
+    METHOD_NOT_FOUND,
+    NOT_INITIALIZED,
+    PARSE_ERROR,
+    REQUEST_FAILED,
+    Failed,
+)
+from pevudlo.lsp.frames import Frames, Message, framed
+from pevudlo.lsp.opened import Opened
+from pevudlo.lsp.told import Told
+from pevudlo.progress import DELAY, PROGRESS, Later
+from pevudlo.version import release
+from pevudlo.wire.peers import Peer
+from pevudlo.wire.pipe import PipeError
+from pevudlo.wire.program import NotFound
+
+LATE = DELAY
+"""Seconds behind which it is told what takes its time."""
+
+PAUSE = 0.03
+"""What is typed with shorter pauses is one update."""
+
+CHUNK = 1 << 20
+SAID = (PipeError, NotFound, NoReply)
+"""Why there is no book of a text, in words of their own."""
+
+WRONG = (KeyError, TypeError, ValueError, IndexError, AttributeError)
+"""What is raised where parameters aren't those of the protocol."""
+
+
+class Server:
+    """A server that reads from a file descriptor. `send` writes bytes, and `begin` starts a peer."""
+
+    def __init__(self, source: int, send: Callable[[bytes], object], begin: Callable[[], Peer]) -> None:
+        self.files: dict[str, Opened] = {}
+        self._source, self._write, self._begin = source, send, begin
+        self._frames, self._queue = Frames(), deque[Message]()
+        self._cancelled: set[object] = set()
+        self._client = Client()
+        self._is_begun = self._is_shut = self._is_ended = False
+        self._asked, self._lock = 0, threading.Lock()
+        self.status: int | None = None
+
+    def __enter__(self) -> Server:
+        return self
+
+    def __exit__(self, kind: type[BaseException] | None, error: BaseException | None, at: TracebackType | None) -> None:
+        for file in self.files.values():
+            file.document.close()
+
+    # Messages.
+
+    def serve(self) -> int:
+        """Answers until the client ends it. The status is 0 where it asked for that before, else 1. Raises NoFrame."""
+        while self.status is None:
+            if self._queue:
+                self._take(self._queue.popleft())
+                self._read(0.0)
+            elif self._is_ended:
+                self.status = 1
+            elif not self._read(PAUSE if self._has_old() else None):
+                for file in [*self.files.values()]:
+                    self._renew_quietly(file)
+        return self.status
+
+    def _read(self, seconds: float | None) -> bool:
+        """Takes in what comes within so many seconds. False where nothing does."""
+        if self._is_ended or not select.select([self._source], [], [], seconds)[0]:
+            return False
+        data = os.read(self._source, CHUNK)
+        self._is_ended = not data
+        self._frames.feed(data)
+        while (body := self._frames.body()) is not None:
+            self._arrive(body)
+        return True
+
+    def _arrive(self, body: bytes) -> None:
+        """Puts a message behind those that wait. A request that is cancelled while it waits is marked."""
+        try:
+            message = json.loads(body)
+        except (ValueError, RecursionError):
+            self._send(id=None, error={"code": PARSE_ERROR, "message": "a body is no JSON"})
+            return
+        if not isinstance(message, dict):
+            self._send(id=None, error={"code": INVALID_REQUEST, "message": "a message is an object"})
+        elif message.get("method") == "$/cancelRequest":
+            number = (message.get("params") or {}).get("id")
+            if any(waiting.get("id") == number for waiting in self._queue if "method" in waiting):
+                self._cancelled.add(number)
+        else:
+            self._queue.append(message)
+
+    def _send(self, **message: Any) -> None:
+        """Sends a message, whole, from any thread."""
+        with self._lock:
+            self._write(framed(message))
+
+    def _tell(self, method: str, **params: Any) -> None:
+        """Tells the client something."""
+        self._send(method=method, params=params)
+
+    def _ask(self, method: str, **params: Any) -> None:
+        """Asks the client something, whose answer isn't waited for."""
+        self._asked += 1
+        self._send(id=f"paris-{self._asked}", method=method, params=params)
+
+    def _take(self, message: Message) -> None:
+        """Answers a request, or does what is told. An answer of the client says nothing."""
+        method, params = message.get("method"), message.get("params") or {}
+        if not isinstance(method, str):
+            return
+        if "id" not in message:
+            self._note(method, params)
+            return
+        try:
+            self._send(id=message["id"], result=self._answer(method, params, message["id"]))
+        except Failed as failed:
+            self._send(id=message["id"], error={"code": failed.code, "message": str(failed)})
+
+    def _answer(self, method: str, params: Any, number: object) -> Any:
+        """The result of a request. Raises Failed where it has none."""
+        if number in self._cancelled:
+            self._cancelled.discard(number)
+            raise Failed(CANCELLED, "the request was cancelled")
+        if method == "initialize" and not self._is_begun:
+            return self._initialize(params)
+        if not self._is_begun:
+            raise Failed(NOT_INITIALIZED, "the first request is `initialize`")
+        if self._is_shut or method == "initialize":
+            raise Failed(INVALID_REQUEST, "the server is shut down" if self._is_shut else "it is initialized already")
+        if method == "shutdown":
+            self._is_shut = True
+            return None
+        if method not in ANSWERS:
+            raise Failed(METHOD_NOT_FOUND, f"there is no method {method}")
+        try:
+            return self._of_file(method, params)
+        except WRONG as error:
+            raise Failed(INVALID_PARAMS, f"{method}: {type(error).__name__}: {error}") from error
+        except Exception as error:
+            if isinstance(error, Failed):
+                raise
+            raise Failed(INTERNAL_ERROR, f"{method}: {type(error).__name__}: {error}") from error
+
+    def _of_file(self, method: str, params: Any) -> Any:
+        """The result of a request about a file. Where the program has ended since, it is begun anew, once."""
+        file = self._file(params)
+        self._renew(file)
+        try:
+            return ANSWERS[method](file, params, self._client)
+        except PipeError:
+            file.is_old = True
+            self._renew(file)
+            try:
+                return ANSWERS[method](file, params, self._client)
+            except PipeError as error:
+                raise Failed(REQUEST_FAILED, str(error)) from error
+
+    def _initialize(self, params: Any) -> dict[str, Any]:
+        """What this server can do."""
+        capabilities = params.get("capabilities") if isinstance(params, dict) else None
+        self._client = client_of(capabilities or {})
+        self._is_begun = True
+        return {"serverInfo": {"name": "paris", "version": release()}, "capabilities": CAPABILITIES}
+
+    # Files.
+
+    def _note(self, method: str, params: Any) -> None:
+        """Does what the client tells. What isn't of the protocol is said to it, and changes nothing."""
+        if method == "exit":
+            self.status = 0 if self._is_shut else 1
+        if self._is_shut or not self._is_begun:
+            return
+        try:
+            match method:
+                case "textDocument/didOpen":
+                    self._open(params["textDocument"])
+                case "textDocument/didChange":
+                    self._file(params).change(params["contentChanges"], params["textDocument"].get("version", 0))
+                case "textDocument/didSave":
+                    self._file(params).save()
+                case "textDocument/didClose":
+                    self._close(self._file(params))
+        except (Failed, *WRONG) as error:
+            self._tell("window/logMessage", type=ERROR, message=f"{method}: {type(error).__name__}: {error}")
+
+    def _file(self, params: Any) -> Opened:
+        """The open file that a message is about. Raises Failed where it isn't open."""
+        uri = params["textDocument"]["uri"]
+        if uri not in self.files:
+            raise Failed(INVALID_PARAMS, f"{uri} isn't open")
+        return self.files[uri]
+
+    def _open(self, item: dict[str, Any]) -> None:
+        """Opens a file."""
+        if item["uri"] in self.files:
+            self.files[item["uri"]].document.close()
+        told = Later(Told(item["uri"], self._send).tell, LATE) if self._client.shows_progress else PROGRESS
+        self.files[item["uri"]] = Opened(item["uri"], item["text"], item.get("version", 0), self._begin, told)
+
+    def _close(self, file: Opened) -> None:
+        """Closes a file, of which nothing is wrong then."""
+        del self.files[file.uri]
+        file.document.close()
+        self._tell("textDocument/publishDiagnostics", uri=file.uri, diagnostics=[])
+
+    def _has_old(self) -> bool:
+        """Whether something was typed that no document has yet."""
+        return any(file.is_old for file in self.files.values())
+
+    def _renew_quietly(self, file: Opened) -> None:
+        """Brings a file in step. That there is no book is among what is told of it."""
+        try:
+            self._renew(file)
+        except Failed:
+            pass
+
+    def _renew(self, file: Opened) -> None:
+        """Brings a file in step where it was changed, and tells what is wrong. Raises Failed where it has no book."""
+        if file.is_old:
+            try:
+                file.renew()
+                file.trouble = ""
+                found = diagnostics(file, self._client.draws_pale)
+            except Exception as error:
+                file.trouble = str(error) if isinstance(error, SAID) else f"{type(error).__name__}: {error}"
+                found = [told_of(0, file.lines[0], ERROR, f"no values: {file.trouble}")]
+            self._publish(file, found)
+            if not file.trouble:
+                self._tell_values(file)
+        if file.trouble:
+            raise Failed(REQUEST_FAILED, file.trouble)
+
+    def _publish(self, file: Opened, found: list[dict[str, Any]]) -> None:
+        """Tells what is wrong, where that is other than it was."""
+        if found != file.told:
+            file.told = found
+            self._tell("textDocument/publishDiagnostics", uri=file.uri, version=file.version, diagnostics=found)
+
+    def _tell_values(self, file: Opened) -> None:
+        """Tells that values may be others, and what the last update did."""
+        done = file.done
+        said = {"text": headline(file.document, done), "ran": done.count, "rows": done.rows}
+        self._tell("$/paris/ran", uri=file.uri, **said)
+        if self._client.refreshes_hints and done.sent:
+            self._ask("workspace/inlayHint/refresh")

@@ -1,0 +1,460 @@
+"""A live page of a file that is followed: edited elsewhere, as a text on the page, and row by row."""
+
+from __future__ import annotations
+
+import json
+import os
+import signal
+import threading
+import time
+from collections.abc import Iterator
+from pathlib import Path
+from random import Random
+from typing import Any
+
+import pytest
+from browsers import cells, complaints, evaluated, one, until
+from random_editor import Fresh, RandomEditor, compare, numbers_of
+from selenium.webdriver.common.by import By
+from selenium.webdriver.common.keys import Keys
+from selenium.webdriver.remote.webdriver import WebDriver
+from test_live_http import asked, page
+from usages import is_usage_of
+
+from pevudlo.document import watched
+from pevudlo.lang.replies import Status
+from pevudlo.live import command
+from pevudlo.live.followed import BY_THEMSELVES, FollowedSession, OtherText
+from pevudlo.live.server import Server
+from pevudlo.live.session import OtherRow, Session
+from pevudlo.wire.program import find
+
+HEAD = "set S 4\nfield a S 8\nfield b S 8\nfield c S 8\ninput a 0 1 2 3 4\n"
+ADD, TWICE = "u-add-3-1L b a a 8\n", "u-add-3-1L c b b 8\n"
+TEXT = HEAD + ADD + "# Twice.\n" + f"insert end {TWICE}" + "show c end\n"
+
+
+@pytest.fixture
+def path(tmp_path: Path) -> Path:
+    """A file with a text."""
+    (tmp_path / "sum.paris").write_text(TEXT)
+    return tmp_path / "sum.paris"
+
+
+@pytest.fixture
+def session(path: Path) -> Iterator[FollowedSession]:
+    """A session of the file, which looks at it when it is told to."""
+    session = FollowedSession(path, find(), 1)
+    session.look()
+    yield session
+    session.close()
+
+
+def agree(session: FollowedSession, text: str) -> None:
+    """Fails where text, file, rows and values aren't those of a text that is saved."""
+    assert session.text == text and session.file.path.read_bytes() == bytes_of(text) and not session.trouble
+    session.take(text)
+    compare(session.document, text.split("\n")[:-1])
+    texts = [text for _, text in Fresh(text.split("\n")[:-1]).rows]
+    assert [row.text for row in session.seen.rows] == texts
+    assert {row.status for row in session.seen.rows} <= {Status.SETTLED}
+
+
+def bytes_of(text: str) -> bytes:
+    """A text as a file has it."""
+    return text.encode("utf-8", "surrogateescape")
+
+
+def typed(session: FollowedSession, old: str, new: str, hold: bool = False) -> None:
+    """Puts a part of the text, which stands there once, into the place of another."""
+    before, part, _ = session.text.partition(old)
+    assert part and session.text.count(old) == 1
+    start = len(before.encode("utf-16-le")) // 2
+    session.type(session.number, start, start + len(old.encode("utf-16-le")) // 2, new, hold)
+
+
+# The text.
+
+
+def test_a_change_of_the_file_is_taken(session: FollowedSession, path: Path) -> None:
+    agree(session, TEXT)
+    version = session.version
+    session.look()
+    assert session.version == version
+    path.write_text(TEXT.replace("3 4", "3 5"))
+    session.look()
+    assert session.version > version and session.done.count == 2
+    agree(session, TEXT.replace("3 4", "3 5"))
+
+
+def test_what_is_typed_on_the_page_is_written_into_the_file(session: FollowedSession, path: Path) -> None:
+    typed(session, "3 4", "3 5")
+    assert path.read_text() == TEXT.replace("3 4", "3 5") and session.done.count == 2
+    path.chmod(0o640)
+    typed(session, "# Twice.", "# 😀 é.")
+    typed(session, "é", "\udcff")
+    assert path.read_bytes() == TEXT.replace("3 4", "3 5").replace("Twice", "😀 \udcff").encode(
+        "utf-8", "surrogateescape"
+    )
+    assert path.stat().st_mode & 0o777 == 0o640 and not path.with_name("sum.paris~").exists()
+    number = session.number
+    session.look()
+    assert session.number == number
+
+
+def test_a_row_that_is_typed_stays_until_it_is_saved(session: FollowedSession) -> None:
+    typed(session, "u-add-3-1L b", "u-add-3-1 b", hold=True)
+    assert len(session.seen.rows) == 2 and session.done.count == 0
+    lines: Any = session.values(0, 99)["lines"]
+    assert lines[5][0] == "refused" and lines[5][2].endswith("the row stays `u-add-3-1L b a a 8`")
+    session.type(session.number, 0, 0, "", False)
+    assert len(session.seen.rows) == 1
+
+
+def test_what_is_typed_into_another_text_is_refused(session: FollowedSession, path: Path) -> None:
+    with pytest.raises(OtherText):
+        session.type(session.number - 1, 0, 0, "x", False)
+    # A change of the file that nobody has seen yet isn't overwritten.
+    number = session.number
+    path.write_text(TEXT.replace("3 4", "3 5"))
+    with pytest.raises(OtherText):
+        session.type(number, 0, 0, "x", False)
+    agree(session, TEXT.replace("3 4", "3 5"))
+    for start, end in ((0, 9_999), (5, 3), (-1, 3)):
+        with pytest.raises(ValueError, match="no such part"):
+            session.type(session.number, start, end, "x", False)
+
+
+def test_a_file_that_cannot_be_written(session: FollowedSession, path: Path) -> None:
+    path.unlink()
+    path.parent.rmdir()
+    with pytest.raises(OSError):
+        typed(session, "3 4", "3 5")
+    assert session.text == TEXT and session.seen.rows
+    # An edit of the page is taken back.
+    for line in ("replace 1 u-max-3-1L b a a 8", "delete 1", "insert end u-max-3-1L b a a 8", "input a 3 5"):
+        with pytest.raises(OSError):
+            session.run(line)
+        assert session.text == TEXT and [row.text for row in session.seen.rows] == [ADD[:-1], TWICE[:-1]]
+    path.parent.mkdir()
+    path.write_text(TEXT)
+    session.look()
+    agree(session, TEXT)
+
+
+# Edits of rows and input data.
+
+EDITS = {
+    "a row": ("replace 1 u-max-3-1L b a a 8", TEXT.replace("u-add-3-1L b", "u-max-3-1L b")),
+    "a row behind its command": ("replace 2 u-max-3-1L c b b 8", TEXT.replace("u-add-3-1L c", "u-max-3-1L c")),
+    "no row": ("delete 1", TEXT.replace(ADD, "")),
+    "behind a row": ("insert after 1 lognot-2-1L b b 8", TEXT.replace(ADD, f"{ADD}lognot-2-1L b b 8\n")),
+    "at the start": ("insert start lognot-2-1L b b 8", TEXT.replace(ADD, f"lognot-2-1L b b 8\n{ADD}")),
+    "at the end": ("insert end lognot-2-1L b b 8", TEXT.replace("show", "lognot-2-1L b b 8\nshow")),
+    "a number": ("input a 2 9", TEXT.replace("3 4", "9 4")),
+    "two numbers": ("input a 2 9 8", TEXT.replace("3 4\n", "3 4\ninput a 2 9 8\n")),
+    "a first number": ("input b 2 9", TEXT.replace("b S 8\n", "b S 8\ninput b 2 9\n")),
+    "a flag": ("input S.context 3 0", TEXT.replace("S 4\n", "S 4\ninput S.context 3 0\n", 1)),
+    "a field": ("field d S 4", TEXT.replace("c S 8\n", "c S 8\nfield d S 4\n")),
+}
+
+
+@pytest.mark.parametrize("case", EDITS)
+def test_edits_on_the_page_are_edits_of_the_text(session: FollowedSession, case: str) -> None:
+    line, text = EDITS[case]
+    step = session.run(line)
+    assert not step.is_refused and session.done.fresh == ""
+    if line.startswith("insert"):
+        assert step.lines == ("row 3",)
+    agree(session, text)
+
+
+def test_the_number_that_counts_is_changed(session: FollowedSession) -> None:
+    """Of several lines that give a number the last one, as it lies over the others."""
+    session.take(TEXT + "input a 1 7 7\ninput a 0 5\n")
+    session.run("input a 2 9")
+    session.run("input a 0 6")
+    agree(session, TEXT + "input a 1 7 9\ninput a 0 6\n")
+
+
+@pytest.mark.parametrize(
+    ("line", "refused"),
+    [
+        ("replace 1 u-max-3-1L b a a 80", "refused 12"),
+        ("insert after 1 u-max-3-1L b a x 8", "refused 7"),
+        ("insert end u-mx-3-1L b a a 8", "refused 20 12"),
+        ("input a 0 256", "refused 9 0"),
+        ("input a 9 1", "refused 8"),
+        ("field a S 8", "refused 3"),
+        ("u-add-3-1L b a a 8", "refused 20 1"),
+        ("nope", "refused 20 1"),
+    ],
+)
+def test_edits_that_are_refused_leave_text_and_file(session: FollowedSession, line: str, refused: str) -> None:
+    step = session.run(line)
+    assert step.lines == (refused,) and step.explanation is not None
+    agree(session, TEXT)
+
+
+def test_what_cannot_be_done_on_such_a_page(session: FollowedSession) -> None:
+    for line in ("settle", "take", "bring 1", "release"):
+        with pytest.raises(ValueError, match=BY_THEMSELVES):
+            session.run(line)
+    with pytest.raises(ValueError, match=BY_THEMSELVES):
+        session.run_order()
+    with pytest.raises(ValueError, match="one command is wanted"):
+        session.run("# x")
+    with pytest.raises(ValueError, match="there is no row 9"):
+        session.run("delete 9")
+    with pytest.raises(OtherRow):
+        session.run("delete 1", "u-max-3-1L b a a 8")
+    assert session.run("show c end").lines == ("values 4 8 12 16",)
+    # Where the text names rows its edits would shift them.
+    session.take(TEXT + "show c after 1\n")
+    with pytest.raises(ValueError, match="names rows by their ids"):
+        session.run("delete 1")
+
+
+def test_a_program_that_is_killed_is_begun_anew(session: FollowedSession, path: Path) -> None:
+    os.kill(session.process, signal.SIGKILL)
+    path.write_text(TEXT.replace("3 4", "3 5"))
+    session.look()
+    assert "killed by signal 9" in session.done.fresh
+    agree(session, TEXT.replace("3 4", "3 5"))
+    os.kill(session.process, signal.SIGKILL)
+    session.restart()
+    assert session.done.fresh == "the book was closed"
+    agree(session, TEXT.replace("3 4", "3 5"))
+
+
+def test_nothing_is_kept_of_what_was_typed(session: FollowedSession) -> None:
+    for number in range(5):
+        typed(session, f"input a 0 {number or 1} 2", f"input a 0 {number + 1} 2")
+    assert session.taken == [] and session.commands == 8 and session.script() == session.text
+
+
+def test_a_file_that_is_away_is_told(session: FollowedSession, path: Path, monkeypatch: pytest.MonkeyPatch) -> None:
+    monkeypatch.setattr(watched, "AWAY", 0.0)
+    path.unlink()
+    version = session.version
+    for _ in range(2):
+        session.look()
+        time.sleep(0.01)
+    assert session.version == version + 1 and str(session.values(0, 9)["head"]).endswith("this is its last text")
+    path.write_text(TEXT)
+    session.look()
+    assert session.values(0, 9)["head"] == "a new book (the first text): 2 of 2 rows ran"
+
+
+def test_what_goes_wrong_while_it_follows_is_told(session: FollowedSession, monkeypatch: pytest.MonkeyPatch) -> None:
+    monkeypatch.setattr(session.file, "news", lambda: 1 / 0)
+    follows = threading.Thread(target=session.follow, daemon=True)
+    follows.start()
+    version = session.version
+    session.wait(version, 10.0)
+    assert session.trouble == "ZeroDivisionError: division by zero" and follows.is_alive()
+
+
+@pytest.mark.parametrize("seed", range(2))
+def test_three_hands_at_random(seed: int, tmp_path: Path) -> None:
+    """Each text is what the file has, and the program is what a fresh run of it says."""
+    made, chance = RandomEditor(seed), Random(seed)
+    path = tmp_path / "random.paris"
+    path.write_bytes(bytes_of("".join(f"{line}\n" for line in made.lines)))
+    session = FollowedSession(path, find(), 1)
+    session.look()
+    for _ in range(10):
+        made.lines = session.text.split("\n")[:-1]
+        made.edit()
+        text = "".join(f"{line}\n" for line in made.lines)
+        match chance.randrange(3):
+            case 0:
+                path.write_bytes(bytes_of(text))
+                session.look()
+            case 1:
+                session.type(session.number, 0, len(session.text), text, chance.random() < 0.5)
+            case _ if session.seen.rows:
+                row = chance.choice(session.seen.rows)
+                try:
+                    session.run(f"replace {row.row} {made.made.instruction()}", row.text)
+                except ValueError as error:
+                    assert "names rows" in str(error)
+        agree(session, session.text)
+    session.close()
+
+
+# The server.
+
+
+@pytest.fixture
+def served(session: FollowedSession) -> Iterator[Server]:
+    """A server of the session, which follows the file."""
+    follows = threading.Thread(target=session.follow, daemon=True)
+    with Server(session, "sum.paris") as server:
+        serves = threading.Thread(target=server.serve_forever, args=(0.05,), daemon=True)
+        for thread in (follows, serves):
+            thread.start()
+        yield server
+        server.shutdown()
+        serves.join(10)
+
+
+def got(server: Server, name: str) -> Any:
+    """What the server answers."""
+    status, data, _ = asked(server, "GET", page(server, name))
+    assert status == 200
+    return json.loads(data)
+
+
+def posted(server: Server, **body: str) -> tuple[int, Any]:
+    """What comes of an edit of the text."""
+    status, data, _ = asked(server, "POST", page(server, "text"), json.dumps(body).encode())
+    return status, json.loads(data)
+
+
+def test_the_text_and_its_values_are_served(served: Server, path: Path) -> None:
+    text = got(served, "text")
+    assert text == {"number": 1, "text": TEXT} and got(served, "state")["text"] == 1
+    lines = got(served, "lines?first=5&last=7")
+    assert lines["head"] == "a new book (the first text): 2 of 2 rows ran" and lines["number"] == 1
+    assert lines["lines"] == [
+        ["ran", "▶", "b 2 4 6 8  carry 0000  overflow 0000"],
+        ["none", "", ""],
+        ["ran", "▶", "c 4 8 12 16  carry 0000  overflow 0000"],
+    ]
+    edit = {"was": "1", "start": "0", "end": "0", "text": "# New.\n", "hold": ""}
+    assert posted(served, **edit) == (200, {"number": 2}) and path.read_text() == f"# New.\n{TEXT}"
+    assert posted(served, **edit) == (200, {"other": True})
+    assert posted(served, **{**edit, "was": "2", "start": "x"}) == (400, {"wrong": "a part of the text is wanted"})
+    assert posted(served, **{**edit, "was": "2", "end": "9999"}) == (400, {"wrong": "the text has no such part"})
+    assert asked(served, "GET", page(served, "script"))[1].decode() == f"# New.\n{TEXT}"
+    path.unlink()
+    path.parent.rmdir()
+    status, answer = posted(served, **{**edit, "was": "2"})
+    assert status == 400 and answer["wrong"].startswith("can't write the file: ")
+    status, data, _ = asked(served, "POST", page(served, "command"), json.dumps({"line": "input a 3 5"}).encode())
+    assert (status, json.loads(data)) == (400, answer) and got(served, "text")["text"] == f"# New.\n{TEXT}"
+
+
+def test_a_page_without_a_file_has_no_text() -> None:
+    session = Session(find(), 1)
+    with Server(session, "new") as server:
+        thread = threading.Thread(target=server.serve_forever, args=(0.05,), daemon=True)
+        thread.start()
+        assert asked(server, "GET", page(server, "text"))[0] == asked(server, "GET", page(server, "lines"))[0] == 404
+        assert posted(server, was="0", start="0", end="0", text="x", hold="")[0] == 400
+        assert b'id="text"' not in asked(server, "GET", page(server))[1]
+        assert got(server, "state")["text"] == 0
+        server.shutdown()
+        thread.join(10)
+    session.close()
+
+
+def test_follow_wants_a_file(capsys: pytest.CaptureFixture[str]) -> None:
+    with pytest.raises(SystemExit) as ended:
+        command.main(["--follow"])
+    assert ended.value.code == 2 and is_usage_of("live", capsys.readouterr().err)
+
+
+# The page.
+
+
+def opened(driver: WebDriver, server: Server) -> None:
+    """Opens the page, and waits for the text and its values."""
+    driver.get(server.address)
+    until(driver, lambda: is_shown(driver, server))
+
+
+def is_shown(driver: WebDriver, server: Server) -> bool:
+    """Whether the page shows the text as it is, and what its lines give."""
+    text = evaluated(driver, "return [document.getElementById('text').value, document.body.dataset.text]")
+    session = server.session
+    return isinstance(session, FollowedSession) and text == [session.text, str(session.number)]
+
+
+def beside(driver: WebDriver) -> list[str]:
+    """What stands beside the lines."""
+    found: list[str] = evaluated(
+        driver, "return [...document.querySelectorAll('#beside li')].map(li => li.textContent)"
+    )
+    return found
+
+
+def select(driver: WebDriver, part: str) -> Any:
+    """Selects a part of the text, and gives the area."""
+    area = one(driver, "#text")
+    script = (
+        "const [a, part] = arguments, at = a.value.indexOf(part); a.focus(); a.setSelectionRange(at, at + part.length)"
+    )
+    evaluated(driver, script, area, part)
+    return area
+
+
+def shown(text: str) -> str:
+    """The look of a text, as it stands beside its line."""
+    (reply,) = Fresh(text.split("\n")[:-1]).answers(["show c end"])
+    return "→ c " + " ".join(map(str, numbers_of(reply)))
+
+
+def test_a_text_is_typed_on_the_page(browser: WebDriver, served: Server, path: Path) -> None:
+    opened(browser, served)
+    assert beside(browser)[5] == "▶ b 2 4 6 8  carry 0000  overflow 0000" and beside(browser)[8] == shown(TEXT)
+    select(browser, "4\nu-add").send_keys("5\nu-add")
+    text = TEXT.replace("3 4", "3 5")
+    until(browser, lambda: path.read_text() == text and is_shown(browser, served))
+    assert beside(browser)[8] == shown(text) and one(browser, "#ran").text.endswith(" rows ran again")
+    until(browser, lambda: cells(browser, "#rows [data-row='2'] [data-key='c']") == shown(text).split(" ")[2:])
+    # A letter that is taken out leaves the row as it was, until it is saved.
+    select(browser, "L b").send_keys(" b")
+    until(browser, lambda: beside(browser)[5].startswith("✗ refused 20 1"))
+    assert "the row stays" in beside(browser)[5] and beside(browser)[8] == shown(text)
+    one(browser, "#text").send_keys(Keys.CONTROL, "s")
+    until(browser, lambda: len(browser.find_elements(By.CSS_SELECTOR, "#rows article")) == 1)
+    until(browser, lambda: "the row stays" not in beside(browser)[5])
+
+
+def test_the_file_is_edited_elsewhere_while_the_page_is_open(browser: WebDriver, served: Server, path: Path) -> None:
+    opened(browser, served)
+    path.write_text("# Above.\n" + TEXT.replace("3 4", "3 5"))
+    until(browser, lambda: one(browser, "#text").get_attribute("value") == path.read_text())
+    until(browser, lambda: len(beside(browser)) == 10 and beside(browser)[9] == shown(TEXT.replace("3 4", "3 5")))
+    # A click on a cell is an edit of the text, and of the file.
+    browser.find_elements(By.CSS_SELECTOR, "#inputs [data-input='a'] td:not(.pv-corner)")[0].click()
+    one(browser, "#inputs [data-input='a'] input").send_keys(Keys.CONTROL + "a")
+    one(browser, "#inputs [data-input='a'] input").send_keys("9", Keys.ENTER)
+    text = "# Above.\n" + TEXT.replace("1 2 3 4", "9 2 3 5")
+    until(browser, lambda: one(browser, "#text").get_attribute("value") == text == path.read_text())
+    # Carriage returns don't come through an area of text.
+    path.write_bytes(b"# x\r\n")
+    until(browser, lambda: one(browser, "#text").get_attribute("readonly") == "true")
+    assert "carriage returns" in one(browser, "#text-answer").text and path.read_bytes() == b"# x\r\n"
+
+
+def test_two_edits_meet(browser: WebDriver, served: Server, path: Path) -> None:
+    """Both are taken where they are apart, and else the file's one; what was typed is told then."""
+    opened(browser, served)
+    typed = "const a = document.getElementById('text'); a.value = a.value.replace(...arguments); "
+    typed += "a.dispatchEvent(new Event('input'))"
+    slow = (
+        "const old = window.fetch; let free; const wait = new Promise(go => { free = go; });"
+        "window.fetch = (...words) => wait.then(() => old(...words));"
+        "window.free = () => { window.fetch = old; free(); };"
+    )
+    for ours, theirs, text in (
+        (("3 4", "3 5"), ("# Twice.", "# Two."), TEXT.replace("3 4", "3 5").replace("# Twice.", "# Two.")),
+        (("# Two.", "# 2."), ("# Two.", "# Zwei."), TEXT.replace("3 4", "3 5").replace("# Twice.", "# Zwei.")),
+    ):
+        evaluated(browser, slow)
+        evaluated(browser, typed, *ours)
+        number = served.session.number
+        path.write_text(path.read_text().replace(*theirs))
+        until(browser, lambda: served.session.number > number)
+        evaluated(browser, "window.free()")
+        until(browser, lambda: path.read_text() == text and is_shown(browser, served))
+    assert (
+        one(browser, "#text-answer").text == "The file was changed in the same place, and what was typed isn't in it: 2"
+    )
+
+
+def test_the_browser_complained_of_nothing(browser: WebDriver) -> None:
+    assert complaints(browser) == []
