@@ -302,11 +302,20 @@ fn judges_handmade(
     )
 }
 
+/// Whether a book does, beside a new one. (A function that owns two books and may end early takes a minute to prove.)
+fn judges_beside_another(
+    rt: &impl Abort,
+    alloc: Global,
+    book: &mut Book,
+) -> Result<bool, AllocError> {
+    let mut other = Book::new(alloc);
+    judges_handmade(rt, alloc, book, &mut other)
+}
+
 #[test]
 fn results_of_orders_by_hand_are_judged(rt: HostRuntime) -> Result<(), AllocError> {
     let mut book = Book::new(rt.alloc());
-    let mut other = Book::new(rt.alloc());
-    let is_right = judges_handmade(&rt, rt.alloc(), &mut book, &mut other)?;
+    let is_right = judges_beside_another(&rt, rt.alloc(), &mut book)?;
     assert!(rt; is_right);
     Ok(())
 }
