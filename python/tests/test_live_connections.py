@@ -178,3 +178,25 @@ def test_a_row_that_is_another_by_now_is_told(server: Server) -> None:
     assert told(server, line="delete 1", was="u-max-3-1L c a b 8")["reply"] == ["ok"]
     answer = told(server, line="replace 1 u-min-3-1L c a b 8", was="u-max-3-1L c a b 8")
     assert answer["text"] is None and "Row 1 was deleted meanwhile" in str(answer["refused"])
+
+
+def test_an_interrupt_while_an_answer_begins_ends_the_server(server: Server, monkeypatch: pytest.MonkeyPatch) -> None:
+    """Ctrl-C may come while a thread is begun, which has answered and given its place back by then."""
+    begin = threading.Thread.start
+
+    def begin_and_end(thread: threading.Thread) -> None:
+        begin(thread)
+        thread.join(10)
+        raise KeyboardInterrupt
+
+    ours, theirs = socket.socketpair()
+    with ours, theirs:
+        theirs.close()
+        monkeypatch.setattr(threading.Thread, "start", begin_and_end)
+        with pytest.raises(KeyboardInterrupt):
+            server.process_request(ours, ("", 0))
+        monkeypatch.undo()
+    places = [server._places.acquire(blocking=False) for _ in range(MOST_CONNECTIONS + 1)]
+    for _ in range(sum(places)):
+        server._places.release()
+    assert sum(places) == MOST_CONNECTIONS

@@ -63,6 +63,7 @@ class LimitedServer(ThreadingHTTPServer):
 
     def __init__(self, *words: Any) -> None:
         self._places = threading.BoundedSemaphore(MOST_CONNECTIONS)
+        self._placed = set[Any]()
         super().__init__(*words)
 
     def process_request(self, request: Any, client_address: Any) -> None:
@@ -70,10 +71,11 @@ class LimitedServer(ThreadingHTTPServer):
         if not self._places.acquire(timeout=PLACE_SECONDS):
             self.shutdown_request(request)
             return
+        self._placed.add(request)
         try:
             super().process_request(request, client_address)
         except BaseException:
-            self._places.release()
+            self._give_back(request)
             raise
 
     def process_request_thread(self, request: Any, client_address: Any) -> None:
@@ -81,4 +83,12 @@ class LimitedServer(ThreadingHTTPServer):
         try:
             super().process_request_thread(request, client_address)
         finally:
-            self._places.release()
+            self._give_back(request)
+
+    def _give_back(self, request: Any) -> None:
+        """Gives a connection's place back, once: a thread whose beginning is interrupted may be at work all the same."""
+        try:
+            self._placed.remove(request)
+        except KeyError:
+            return
+        self._places.release()
