@@ -86,7 +86,7 @@ class LimitedServer(ThreadingHTTPServer):
             self._give_back(request)
 
     def _give_back(self, request: Any) -> None:
-        """Gives a connection's place back, once: a thread whose beginning is interrupted may be at work all the same."""
+        """Gives a connection's place back, once: a thread whose start is interrupted may be at work all the same."""
         try:
             self._placed.remove(request)
         except KeyError:
