@@ -13,5 +13,5 @@ mod walks;
 
 pub use index::{Index, Looks};
 pub use sources::origin;
-pub use sweeps::{is_any_marked, mark};
+pub use sweeps::{is_any_marked, is_none_marked, mark};
 pub use walks::affected;

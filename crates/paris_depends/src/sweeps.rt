@@ -1,6 +1,6 @@
 //! Keys that are marked in a table, one mark for each slot.
 
-ghost use Rattle.std.specs.Prelude.{◌≡◌, if◌then◌else◌};
+ghost use Rattle.std.specs.Prelude.{◌≡◌, true, false, if◌then◌else◌};
 ghost use Rattle.std.specs.List.{list_any};
 ghost use Rattle.paris_names.specs.declared.keys.Key.{Key as AnyKey};
 ghost use Rattle.paris_names.specs.Keys.{has_key, key_eq};
@@ -34,4 +34,16 @@ pub fn mark(changed: &mut [bool; 128], keys: &[Key], hit: bool)
     for key in keys {
         mark_one(changed, key, hit);
     }
+}
+
+/// Whether no key is marked in a table.
+pub fn is_none_marked(changed: &[bool; 128]) -> bool
+    ensures { result ≡ true → (k : AnyKey) → marked changed.now k ≡ false }
+{
+    for slot in 0..128 {
+        if changed[slot] {
+            return false;
+        }
+    }
+    true
 }

@@ -1,6 +1,6 @@
 //! Orders, and what executing them gives.
 
-ghost use Rattle.std.specs.Prelude.{◌≡◌, ◌<◌, ◌≤◌, length, true, IfOk, IfErr, List};
+ghost use Rattle.std.specs.Prelude.{◌≡◌, ◌<◌, ◌≤◌, ◌↔◌, length, true, IsTrue, IfOk, IfErr, List};
 ghost use Rattle.std.specs.Option.{SomeIff, option_copied};
 ghost use Rattle.paris_names.specs.Keys.{has_key};
 ghost use Rattle.paris_geometry.specs.Geometry.{processor_count};
@@ -124,6 +124,21 @@ fn copies(alloc: Global, values: &[SharedValue]) -> Result<Vec<SharedValue>, All
     Ok(copies)
 }
 
+/// Whether values are the same as others.
+fn are_same_values(values: &[SharedValue], others: &[SharedValue]) -> bool
+    ensures { IsTrue result ↔ (values.now ≡ others.now) }
+{
+    if values.len() != others.len() {
+        return false;
+    }
+    for i in 0..values.len() {
+        if !values[i].get().equals(others[i].get()) {
+            return false;
+        }
+    }
+    true
+}
+
 impl Order {
     /// The order of these parts, where the inputs fit the plan: one for each key that it reads, in the order of
     /// `Plan::reads`, of the key's width and with a number for each processor. Else the inputs are dropped.
@@ -189,6 +204,15 @@ impl Order {
             Some(value) => value,
             None => unreachable!(),
         }
+    }
+
+    /// Whether another order is the same work: of an equal plan with equal inputs, whatever row and edition it is for. It takes no
+    /// memory.
+    pub fn same_work(&self, other: &Order) -> bool
+        ensures { IsTrue result ↔ ((self.now.plan ≡ other.now.plan) × (self.now.inputs ≡ other.now.inputs)) }
+    {
+        self.plan.equals(&other.plan)
+            && are_same_values(self.inputs.as_slice(), other.inputs.as_slice())
     }
 
     /// A copy that equals the order.

@@ -17,6 +17,7 @@ use Rattle.paris_events.specs.declared.edits.Edit.TheVariants.{AddSet, AddField,
 use Rattle.paris_events.specs.declared.edits.EditReply.{EditReply}
 use Rattle.paris_events.specs.declared.edits.EditReply.TheVariants.{Accepted, Row as NewRow}
 use Rattle.paris_names.specs.declared.limits.TheConstants.{MAX_EDITS, MAX_ROWS}
+use Rattle.paris_machine.specs.CutOff.{cut_off}
 use Rattle.paris_machine.specs.State.{Row, Inputs, State, input_of, start_recipe, with_input, declared_input, declared_flags, find_row, place_of_spot}
 
 abbrev pub row_recipe : (Key → Recipe) → Row → Recipe
@@ -83,7 +84,7 @@ input_set s None from values = s
 input_set s (Some k) from values = input_changed s k from values (input_of s.inputs k)
 
 abbrev pub new_row : State → Plan → Row
-new_row s p = record { id = record { 0 = s.next }; plan = p; set_by = s.edits + 1; edition = record { 0 = s.edits + 1 }; status = Waiting }
+new_row s p = record { id = record { 0 = s.next }; plan = p; set_by = s.edits + 1; edition = record { 0 = s.edits + 1 }; status = Waiting; last = None }
 
 abbrev pub row_inserted : State → ℕ → Plan → State
 row_inserted s place p = edited s s.board s.inputs (s.next + 1) (insert (known_rows s) place (record { row = new_row s p; before = None }))
@@ -123,14 +124,18 @@ abbrev pub replaced_from : State → Option (ℕ × Row) → Result Plan Fault �
 replaced_from s None plan = s
 replaced_from s (Some e) plan = plan_replaced s e.0 plan
 
+-- the state after an edit that has no fault, before any row is settled again
+abbrev pub edited_by : State → Edit → State
+edited_by s (AddSet name axes) = set_added s name axes
+edited_by s (AddField name set width) = field_added s name (set_named s.board set) width
+edited_by s (SetInput name from values) = input_set s (key_named s.board name) from values
+edited_by s (Insert spot instr) = inserted_from s (place_of_spot s spot) (resolution s.board instr)
+edited_by s (Delete id) = deleted_from s (find_row s id)
+edited_by s (Replace id instr) = replaced_from s (find_row s id) (resolution s.board instr)
+
 -- the state after an edit that has no fault
 abbrev pub accepted : State → Edit → State
-accepted s (AddSet name axes) = set_added s name axes
-accepted s (AddField name set width) = field_added s name (set_named s.board set) width
-accepted s (SetInput name from values) = input_set s (key_named s.board name) from values
-accepted s (Insert spot instr) = inserted_from s (place_of_spot s spot) (resolution s.board instr)
-accepted s (Delete id) = deleted_from s (find_row s id)
-accepted s (Replace id instr) = replaced_from s (find_row s id) (resolution s.board instr)
+accepted s e = cut_off (edited_by s e)
 
 -- why values can't be given from a processor on to a key with so many processors and of this width, if they can't
 abbrev pub fault_of_values : ℕ → ℕ → ℕ → List ℕ → Option Fault

@@ -1,3 +1,4 @@
+pub mod CutOff
 pub mod Edits
 pub mod Events
 pub mod Lists

@@ -1,5 +1,5 @@
 -- Orders: which row is ready, what its order says, and what is left when the orders that are out are given up.
-use Rattle.std.specs.Prelude.{ℕ, List, Bool, true, ◌&&◌, Option, Some, None, map}
+use Rattle.std.specs.Prelude.{◌≡◌, ℕ, List, [], ◌∷◌, Bool, true, false, ◌&&◌, Option, Some, None, map}
 use Rattle.std.specs.List.{list_all, find, enumerate_from}
 use Rattle.std.specs.Option.{option_map}
 use Rattle.paris_model.specs.Instructions.{Plan, reads}
@@ -45,6 +45,11 @@ abbrev pub recalled_status : Status → Status
 recalled_status Waiting = Waiting
 recalled_status Out = Waiting
 recalled_status Settled = Settled
+
+-- no row is out
+abbrev pub IsIdle : List Row → Type 0
+IsIdle [] = Unit {0}
+IsIdle (r ∷ rs) = (is_settled r.status ≡ false → is_waiting r.status ≡ true) × IsIdle rs
 
 -- a row that is out waits, and every other one is as it was
 abbrev pub recalled_row : Row → Row

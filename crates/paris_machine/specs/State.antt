@@ -1,6 +1,6 @@
 -- What a book is: its board, its input data and its rows.
-use Rattle.std.specs.Prelude.{ℕ, ◌+◌, ◌==◌, List, [], Option, Some, None, slice_set, slice_get, length, replicate}
-use Rattle.std.specs.List.{find, enumerate_from}
+use Rattle.std.specs.Prelude.{◌≡◌, ℕ, ◌+◌, ◌==◌, List, [], ◌∷◌, false, Option, Some, None, slice_set, slice_get, length, map, replicate}
+use Rattle.std.specs.List.{find, enumerate_from, list_any}
 use Rattle.std.specs.Option.{option_map}
 use Rattle.paris_names.specs.declared.keys.FlagName.{FlagName}
 use Rattle.paris_names.specs.declared.keys.FlagName.TheVariants.{Context, Test, Carry, Overflow}
@@ -15,17 +15,30 @@ use Rattle.paris_model.specs.Frame.{World}
 use Rattle.paris_model.specs.Instructions.{Plan}
 use Rattle.paris_model.specs.Recipe.{Recipe}
 use Rattle.paris_model.specs.Recipe.Recipe.{Start}
+use Rattle.paris_field.specs.Fields.{FieldNumbers}
+use Rattle.paris_exec.specs.Tasks.{Task}
 use Rattle.paris_events.specs.declared.rows.Status.{Status}
 use Rattle.paris_machine.specs.declared.inputs.Input.{Input}
 use Rattle.paris_machine.specs.declared.inputs.FlagInputs.{FlagInputs}
 
--- a row of the program: its id, its plan, the number of the edit that last set its instruction, its edition and its status
+-- what a worker needs to compute: a plan, and a value for each key that it reads
+pub record Work : Type 0 where
+  pub plan : Plan
+  pub inputs : List FieldNumbers
+
+-- the work of an order or a result
+abbrev pub work_of : Task → Work
+work_of t = record { plan = t.plan; inputs = t.inputs }
+
+-- a row of the program: its id, its plan, the number of the edit that last set its instruction, its edition, its status, and the work of
+-- the result that was last kept of it
 pub record Row : Type 0 where
   pub id : RowId
   pub plan : Plan
   pub set_by : ℕ
   pub edition : Edition
   pub status : Status
+  pub last : Option Work
 
 -- the input data: of each field, and of the flags of each set, in the order of declaration
 pub record Inputs : Type 0 where
@@ -108,6 +121,15 @@ find_id id rows = find (λ e. e.1.id.0 == id) (enumerate_from 0 rows)
 
 abbrev pub find_row : State → RowId → Option (ℕ × Row)
 find_row s id = find_id id.0 s.rows
+
+-- the rows' ids
+abbrev pub row_ids : List Row → List ℕ
+row_ids rows = map (λ (r : Row). r.id.0) rows
+
+-- each id stands once
+abbrev pub IdsApart : List ℕ → Type 0
+IdsApart [] = Unit {0}
+IdsApart (i ∷ is) = (list_any (λ j. j == i) is ≡ false) × IdsApart is
 
 -- the place that a spot names, if there is one
 abbrev pub place_of_spot : State → Spot → Option ℕ

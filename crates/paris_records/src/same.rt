@@ -5,7 +5,6 @@ ghost use Rattle.paris_events.specs.declared.edits.Edit.TheVariants as EditCase;
 
 use paris_events::{Edit, RowLook};
 use paris_exec::{Done, Order};
-use paris_field::SharedValue;
 use paris_machine::{Event, Reply, Shown};
 use paris_model::Instr;
 use paris_names::{Fault, Items, KeyName, Name, Spot};
@@ -52,27 +51,10 @@ fn are_same_numbers(numbers: &[u128], others: &[u128]) -> bool
     numbers == others
 }
 
-fn are_same_values(values: &[SharedValue], others: &[SharedValue]) -> bool
-    ensures { IsTrue result ↔ (values.now ≡ others.now) }
-{
-    if values.len() != others.len() {
-        return false;
-    }
-    for i in 0..values.len() {
-        if !values[i].get().equals(others[i].get()) {
-            return false;
-        }
-    }
-    true
-}
-
 fn is_same_order(order: &Order, other: &Order) -> bool
     ensures { IsTrue result ↔ (order.now ≡ other.now) }
 {
-    order.id() == other.id()
-        && order.edition() == other.edition()
-        && order.plan().equals(other.plan())
-        && are_same_values(order.inputs(), other.inputs())
+    order.id() == other.id() && order.edition() == other.edition() && order.same_work(other)
 }
 
 fn is_same_done(done: &Done, other: &Done) -> bool

@@ -1,6 +1,6 @@
 use Rattle.std.proofs.Common.{arith}
 use Rattle.std.proofs.lemmas.List.{same_lists}
-use Rattle.paris_records.proofs.same.are_same_values.Goals as goal
+use Rattle.paris_exec.proofs.orders.are_same_values.Goals as goal
 
 pub returns : goal.returns
 returns c =

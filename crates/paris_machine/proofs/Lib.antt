@@ -1,0 +1,14 @@
+pub mod Absorbing
+pub mod Anywhere
+pub mod AtRests
+pub mod Counting
+pub mod Ends
+pub mod Finds
+pub mod Histories
+pub mod OnePass
+pub mod Passes
+pub mod Passing
+pub mod Rests
+pub mod Runs
+pub mod Spanning
+pub mod Tests
