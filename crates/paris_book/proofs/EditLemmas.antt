@@ -18,6 +18,7 @@ use Rattle.paris_book.specs.Marks.{writes_either}
 use Rattle.paris_book.specs.Entries.{Entry, machine_row}
 use Rattle.paris_depends.proofs.Recipes.{same_self}
 use Rattle.paris_book.proofs.Recipes.{past_all, judged_front, judged_swept}
+use Rattle.paris_machine.proofs.Tests.{or_first, or_second}
 
 -- the number of the edit that a recipe names first
 abbrev pub edit_of : Recipe → ℕ
@@ -62,14 +63,6 @@ below_past n q r b h f = by_has (has_key (writes r.plan) f)
 pub below_all : (n m : ℕ) (q : Key → Recipe) (es : List Entry) → Below (n + 1) q → RowsBelow n m es → Below (n + 1) (past_all q (map machine_row es))
 below_all n m q [] b h = b
 below_all n m q (e ∷ es) b h = below_all n m (past_row q (machine_row e)) es (below_past (n + 1) q (machine_row e) b (let x : e.1.set_by ≤ n = h.0 in omega arith)) h.2
-
-pub or_first : (a b : Bool) → (a || b) ≡ false → a ≡ false
-or_first true b h = h
-or_first false b h = refl
-
-pub or_second : (a b : Bool) → (a || b) ≡ false → b ≡ false
-or_second true b h = absurd (let x : true ≡ false = h in cc)
-or_second false b h = h
 
 -- an instruction that is put in changes what it writes
 pub differ_insert : (n : ℕ) (q : Key → Recipe) (r : Row) → Below n q → r.set_by ≡ n → Differ (has_key (writes r.plan)) q (past_row q r)

@@ -13,7 +13,7 @@ use Rattle.paris_book.specs.Entries.{Entry, with_data, machine_row}
 use Rattle.paris_book.specs.Among.{origin_among}
 use Rattle.paris_book.specs.Marks.{data_plan}
 use Rattle.paris_book.specs.Rows.{RowData}
-use Rattle.paris_book.proofs.Finds.{none_of}
+use Rattle.paris_machine.proofs.Finds.{none_of}
 
 -- what was found at a place twice is the same
 pub entry_same : (rows : List Entry) (i : ℕ) (r e : Entry) → slice_get rows i ≡ Some r → slice_get rows i ≡ Some e → r ≡ e

@@ -1,68 +1,12 @@
--- The first of a list that passes a test which knows its place.
-use Rattle.std.proofs.Common.{◌≡◌, ℕ, ◌<◌, ◌+◌, List, [], ◌∷◌, Bool, true, false, cond, Option, Some, None, refl, sym, ap, ◌∙◌, subst, arith, eqb, map, length, take, zero, suc, add-zero, slice_get}
+-- The entry of a row that was found.
+use Rattle.std.proofs.Common.{◌≡◌, ℕ, ◌<◌, List, [], ◌∷◌, Bool, true, false, cond, Option, Some, None, refl, sym, ap, ◌∙◌, subst, arith, eqb, map, length, zero, suc, slice_get}
 use Rattle.std.proofs.Math.Path.{ap₂}
-use Rattle.std.proofs.lemmas.Bool.Decides.{Decides-eqb}
 use Rattle.std.proofs.lemmas.Option.{slice_get-map}
 use Rattle.std.specs.Option.{option_map, unwrap_or}
 use Rattle.std.specs.List.{find, enumerate_from}
 use Rattle.paris_machine.specs.State.{Row, find_id}
 use Rattle.paris_book.specs.Entries.{Entry, machine_row}
-
-pub none_of : {A : Type 0} {B : Type 0} (f : A → B) (o : Option A) → None ≡ option_map f o → o ≡ None
-none_of f None h = refl
-none_of f (Some x) h = absurd (cc)
-
--- none of no element
-pub none_found : {X : Type 0} (p : ℕ × X → Bool) (xs : List X) → find p (enumerate_from 0 (take 0 xs)) ≡ None
-none_found p [] = refl
-none_found p (x ∷ xs) = refl
-
--- none so far, and this one passes
-pub find_here : {X : Type 0} (p : ℕ × X → Bool) (xs : List X) (n i m : ℕ) (x : X) → m ≡ n + i → find p (enumerate_from n (take i xs)) ≡ None → slice_get xs i ≡ Some x → p (m, x) ≡ true → find p (enumerate_from n xs) ≡ Some (m, x)
-find_here p [] n i m x e none here t = absurd (cc)
-find_here {X} p (y ∷ ys) n zero m x e none here t =
-    let a : y ≡ x = cc in
-    let b : m ≡ n = omega arith in
-    rw (a, ← b, t) refl
-find_here {X} p (y ∷ ys) n (suc i) m x e none here t = by_test (find_here p ys (n + 1) i m x (omega arith)) (p (n, y)) none
-  where
-    by_test : (find p (enumerate_from (n + 1) (take i ys)) ≡ None → slice_get ys i ≡ Some x → p (m, x) ≡ true → find p (enumerate_from (n + 1) ys) ≡ Some (m, x)) → (b : Bool) → cond b (Some (n, y)) (find p (enumerate_from (n + 1) (take i ys))) ≡ None → cond b (Some (n, y)) (find p (enumerate_from (n + 1) ys)) ≡ Some (m, x)
-    by_test rest true h = absurd (cc)
-    by_test rest false h = rest h here t
-
--- none so far, nor this one
-pub find_more : {X : Type 0} (p : ℕ × X → Bool) (xs : List X) (n i m : ℕ) (x : X) → m ≡ n + i → find p (enumerate_from n (take i xs)) ≡ None → slice_get xs i ≡ Some x → p (m, x) ≡ false → find p (enumerate_from n (take (suc i) xs)) ≡ None
-find_more p [] n i m x e none here t = absurd (cc)
-find_more {X} p (y ∷ ys) n zero m x e none here t =
-    let a : y ≡ x = cc in
-    let b : m ≡ n = omega arith in
-    rw (a, ← b, t) refl
-find_more {X} p (y ∷ ys) n (suc i) m x e none here t = by_test (find_more p ys (n + 1) i m x (omega arith)) (p (n, y)) none
-  where
-    by_test : (find p (enumerate_from (n + 1) (take i ys)) ≡ None → slice_get ys i ≡ Some x → p (m, x) ≡ false → find p (enumerate_from (n + 1) (take (suc i) ys)) ≡ None) → (b : Bool) → cond b (Some (n, y)) (find p (enumerate_from (n + 1) (take i ys))) ≡ None → cond b (Some (n, y)) (find p (enumerate_from (n + 1) (take (suc i) ys))) ≡ None
-    by_test rest true h = absurd (cc)
-    by_test rest false h = rest h here t
-
--- what is found stands at its place
-pub find_at_place : {X : Type 0} (p : ℕ × X → Bool) (xs : List X) (n k : ℕ) (x : X) → find p (enumerate_from n xs) ≡ Some (k, x) → (i : ℕ) × (k ≡ n + i) × (slice_get xs i ≡ Some x)
-find_at_place p [] n k x e = absurd (cc)
-find_at_place {X} p (y ∷ ys) n k x e = by_test (find_at_place p ys (n + 1) k x) (p (n, y)) e
-  where
-    by_test : (find p (enumerate_from (n + 1) ys) ≡ Some (k, x) → (i : ℕ) × (k ≡ n + 1 + i) × (slice_get ys i ≡ Some x)) → (b : Bool) → cond b (Some (n, y)) (find p (enumerate_from (n + 1) ys)) ≡ Some (k, x) → (i : ℕ) × (k ≡ n + i) × (slice_get (y ∷ ys) i ≡ Some x)
-    by_test rest true h =
-        let a : Some (n, y) ≡ Some (k, x) = h in
-        let pair : (n, y) ≡ (k, x) = cc in
-        let first : n ≡ k = ap (λ (q : ℕ × X). q.0) pair in
-        let second : y ≡ x = ap (λ (q : ℕ × X). q.1) pair in
-        (0, let q : k ≡ n + 0 = sym first ∙ sym (add-zero n) in q, ap Some second)
-    by_test rest false h = let r = rest h in (suc r.0, let q : k ≡ n + 1 + r.0 = r.1 in omega arith, r.2)
-
-pub eqb_apart : (i j : ℕ) → (i ≡ j → ⊥) → eqb i j ≡ false
-eqb_apart i j ne = by_test (eqb i j) refl
-  where
-    by_test : (b : Bool) → eqb i j ≡ b → b ≡ false
-    by_test true e = absurd (ne ((Decides-eqb i j).0 e))
-    by_test false e = refl
+use Rattle.paris_machine.proofs.Finds.{find_at_place}
 
 -- the entry of an id that was found
 pub found_some : (i : ℕ) (es : List Entry) (k : ℕ) → Some k ≡ option_map (λ e. e.0) (find_id i (map machine_row es)) → (e : Entry) × (find_id i (map machine_row es) ≡ Some (k, machine_row e)) × (slice_get es k ≡ Some e)

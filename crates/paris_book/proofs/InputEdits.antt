@@ -24,7 +24,8 @@ use Rattle.paris_machine.specs.declared.inputs.FlagInputs.{FlagInputs}
 use Rattle.paris_depends.proofs.Recipes.{eqb_self}
 use Rattle.paris_book.proofs.Recipes.{judged_swept}
 use Rattle.paris_book.proofs.Values.{Agree, sound_swept, swept_rows}
-use Rattle.paris_book.proofs.EditLemmas.{same_new_start, or_first}
+use Rattle.paris_book.proofs.EditLemmas.{same_new_start}
+use Rattle.paris_machine.proofs.Tests.{or_first}
 use Rattle.paris_book.proofs.Inserts.{rows_up, rows_swept, inputs_up, ids_swept, start_below, fitted_up, fitted_swept, state_of}
 
 get-set_same : {X : Type 0} (xs : List X) (i : ℕ) (x y : X) → slice_get xs i ≡ Some y → slice_get (set xs i x) i ≡ Some x

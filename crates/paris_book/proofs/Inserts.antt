@@ -19,13 +19,15 @@ use Rattle.paris_book.specs.Kept.{ripen, Right, Sound}
 use Rattle.paris_depends.specs.Sweeps.{touches, spread}
 use Rattle.paris_book.proofs.Swept.{swept, swept_entries}
 use Rattle.paris_program.specs.Program.{ids_of}
-use Rattle.paris_book.specs.Whole.{shape_in, InputsBelow, RowsBelow, IdsApart, Fitted, AllFitted, IsWhole}
+use Rattle.paris_book.specs.Whole.{shape_in, InputsBelow, RowsBelow, Fitted, AllFitted, IsWhole}
 use Rattle.paris_book.specs.Entries.{Entry, entry_plan, machine_row, with_data}
 use Rattle.paris_book.specs.Marks.{fresh_data, stale_data}
 use Rattle.paris_book.proofs.Values.{Agree, sound_swept, swept_rows}
 use Rattle.paris_book.proofs.Origins.{ripe, sound-take}
 use Rattle.paris_book.proofs.Recipes.{past_all}
-use Rattle.paris_book.proofs.EditLemmas.{or_first, or_second, judged_insert, below_all, Below}
+use Rattle.paris_book.proofs.EditLemmas.{judged_insert, below_all, Below}
+use Rattle.paris_machine.proofs.Tests.{or_first, or_second}
+use Rattle.paris_machine.specs.State.{IdsApart}
 
 pub sound-drop : (w : World) (h : Key → Bool) (es : List Entry) (p : ℕ) → Sound w h es → Sound (run w (map entry_plan (take p es))) (ripe h (take p es)) (drop p es)
 sound-drop w h [] zero s = tt

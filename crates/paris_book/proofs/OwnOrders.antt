@@ -10,11 +10,14 @@ use Rattle.paris_board.specs.Board.{Board}
 use Rattle.paris_model.specs.Frame.{World}
 use Rattle.paris_model.specs.Instructions.{reads}
 use Rattle.paris_exec.specs.Tasks.{Task, field_of}
-use Rattle.paris_machine.specs.State.{Row, Inputs, State}
+use Rattle.paris_events.specs.declared.rows.Status.TheVariants.{Settled}
+use Rattle.paris_machine.specs.State.{Row, Inputs, State, Work, work_of}
+use Rattle.paris_machine.specs.Show.{now}
+use Rattle.paris_machine.specs.Settling.{work_in}
 use Rattle.paris_book.specs.Marks.{kept_data}
 use Rattle.paris_book.specs.Entries.{Entry, id_of, machine_row, with_data}
 use Rattle.paris_book.specs.Among.{firm_among, order_among, own_among}
-use Rattle.paris_book.specs.Steps.{order_on, own_order, settled_on, settled_at}
+use Rattle.paris_book.specs.Steps.{order_on, own_order, run_on, run_at}
 use Rattle.paris_book.specs.Whole.{IsWhole}
 use Rattle.paris_book.proofs.Finds.{row_at}
 use Rattle.paris_book.proofs.Inserts.{state_of}
@@ -59,8 +62,12 @@ module _ (b : Board) (n m : ℕ) (inputs : Inputs) (es : List Entry) (s : State)
     pub own_whole : (e : Entry) → slice_get es place ≡ Some e → list_all (firm_among es place) (reads e.1.plan) ≡ true → t ≡ order_among inputs es place e → IsWhole b n m inputs es → IsWhole b n m inputs (set es place (with_data (kept_data t) e))
     own_whole e at firm is w = kept_whole b n m inputs es place e t at firm (ap (λ (u : Task). u.inputs) (sym is)) (ap (λ (u : Task). u.plan) (sym is)) w
 
-  pub own_state : (t : Task) (e : Entry) → slice_get es place ≡ Some e → state_of b n m inputs (set es place (with_data (kept_data t) e)) ≡ settled_at s place
-  own_state t e at =
+  pub own_state : (t : Task) (e : Entry) → slice_get es place ≡ Some e → t ≡ order_among inputs es place e → state_of b n m inputs (set es place (with_data (kept_data t) e)) ≡ run_at s place
+  own_state t e at is =
       ap (λ (rs : List Row). record { board = b; edits = n; inputs = inputs; next = m; rows = rs }) (map-set machine_row es place (with_data (kept_data t) e))
-      ∙ ap (settled_on (state_of b n m inputs es) place) (sym (row_at es place e at))
-      ∙ ap (λ (z : State). settled_at z place) y
+      ∙ ap (λ (w : Work). record { board = b; edits = n; inputs = inputs; next = m; rows = set (map machine_row es) place (record (machine_row e) { status = Settled; last = Some w }) }) work
+      ∙ ap (run_on (state_of b n m inputs es) place) (sym (row_at es place e at))
+      ∙ ap (λ (z : State). run_at z place) y
+    where
+      work : work_of t ≡ work_in (now (state_of b n m inputs es) place) e.1.plan
+      work = ap work_of is ∙ ap (λ (w : World). work_in w e.1.plan) (sym (now_is b n m inputs es place))

@@ -16,9 +16,8 @@ use Rattle.paris_events.specs.Rows.{is_settled, is_waiting}
 use Rattle.paris_machine.specs.Orders.{is_firm}
 use Rattle.paris_book.specs.Entries.{Entry, entry_plan, machine_row}
 use Rattle.paris_book.specs.Among.{firm_among, ready_among, next_among}
-use Rattle.paris_book.specs.Steps.{are_settled}
-use Rattle.paris_book.proofs.OrderRuns.{none_ready}
-use Rattle.paris_book.proofs.Settling.{and_first, and_second}
+use Rattle.paris_machine.proofs.Runs.{are_settled, none_ready}
+use Rattle.paris_machine.proofs.Tests.{and_first, and_second}
 
 -- a key is firm just after a row where the row is settled, if it writes the key, and else where it was before
 pub firm_past : (es : List Entry) (i : ℕ) (e : Entry) (k : Key) → slice_get es i ≡ Some e → firm_among es (i + 1) k ≡ cond (has_key (writes e.1.plan) k) (is_settled e.1.status) (firm_among es i k)
@@ -36,7 +35,7 @@ firm_past es i e k at =
 abbrev pub ArePending : List Bool → List Entry → ℕ → Type 0
 ArePending table es place = (k : Key) → marked table k ≡ not (firm_among es place k)
 
-none_marked : (n i : ℕ) → get_or (replicate n false) i false ≡ false
+pub none_marked : (n i : ℕ) → get_or (replicate n false) i false ≡ false
 none_marked zero i = refl
 none_marked (suc n) zero = refl
 none_marked (suc n) (suc i) = none_marked n i

@@ -11,7 +11,7 @@ use Rattle.paris_book.specs.Entries.{Entry, machine_row, with_data, ChangedAt}
 use Rattle.paris_book.specs.Marks.{recalled_data}
 use Rattle.paris_book.specs.Statuses.{is_unsettled, next_unsettled}
 use Rattle.paris_book.proofs.Searches.{search_found, search_none}
-use Rattle.paris_book.proofs.Settling.{and_first, and_second}
+use Rattle.paris_machine.proofs.Tests.{and_first, and_second}
 
 abbrev is_calm : Status → Bool
 is_calm Waiting = true

@@ -14,12 +14,13 @@ use Rattle.paris_book.specs.Kept.{ripen, Sound}
 use Rattle.paris_book.proofs.Swept.{swept, swept_entries}
 use Rattle.paris_program.specs.Program.{ids_of}
 use Rattle.paris_book.specs.Whole.{RowsBelow, Fitted, AllFitted, IsWhole}
-use Rattle.paris_book.specs.Marks.{fresh_data, writes_either}
+use Rattle.paris_book.specs.Marks.{replaced_data, writes_either}
 use Rattle.paris_book.specs.Entries.{Entry, entry_plan, machine_row}
 use Rattle.paris_book.proofs.Values.{Agree, sound_swept, swept_rows}
 use Rattle.paris_book.proofs.Origins.{ripe, sound-take}
 use Rattle.paris_book.proofs.Recipes.{past_all}
-use Rattle.paris_book.proofs.EditLemmas.{judged_replace, Below, below_all, NotOf, not_of_all, or_first, or_second}
+use Rattle.paris_book.proofs.EditLemmas.{judged_replace, Below, below_all, NotOf, not_of_all}
+use Rattle.paris_machine.proofs.Tests.{or_first, or_second}
 use Rattle.paris_book.proofs.Inserts.{rows_up, rows_swept, rows-take, rows-drop, rows-join, inputs_up, ids_swept, start_below, sound-drop, sound-join, agree_one, agree_one_back, agree_ripen, right_unsettled, fitted_swept, fitted-take, fitted-drop, fitted-join, state_of}
 use Rattle.paris_book.proofs.Deletes.{apart_without}
 
@@ -29,20 +30,20 @@ agree_either_one p x w f t = agree_one_back p w f (or_first (has_key (writes p) 
 agree_either_ripen : (h : Key → Bool) (e u : Entry) → Agree (writes_either e.1.plan u.1.plan) (ripen h e) (ripen h u)
 agree_either_ripen h e u f t = sym (agree_ripen h e f (or_first (has_key (writes e.1.plan) f) (has_key (writes u.1.plan) f) t)) ∙ agree_ripen h u f (or_second (has_key (writes e.1.plan) f) (has_key (writes u.1.plan) f) t)
 
-sound_replace : (n : ℕ) (w : World) (h : Key → Bool) (es : List Entry) (p : ℕ) (e : Entry) (back : List Entry) (x : Plan) → drop p es ≡ e ∷ back → Sound w h es → Sound w h (take p es ++ (e.0, fresh_data x (n + 1)) ∷ swept_entries (n + 1) (writes_either e.1.plan x) back)
+sound_replace : (n : ℕ) (w : World) (h : Key → Bool) (es : List Entry) (p : ℕ) (e : Entry) (back : List Entry) (x : Plan) → drop p es ≡ e ∷ back → Sound w h es → Sound w h (take p es ++ (e.0, replaced_data x (n + 1) e.1) ∷ swept_entries (n + 1) (writes_either e.1.plan x) back)
 sound_replace n w h es p e back x y s =
     let w' = run w (map entry_plan (take p es)) in
     let h' = ripe h (take p es) in
-    let u : Entry = (e.0, fresh_data x (n + 1)) in
+    let u : Entry = (e.0, replaced_data x (n + 1) e.1) in
     let rest : Sound w' h' (e ∷ back) = rw y at (sound-drop w h es p s) in
     sound-join w h (take p es) (u ∷ swept_entries (n + 1) (writes_either e.1.plan x) back) (sound-take w h es p s)
     (right_unsettled w' h' u refl, sound_swept (n + 1) (writes_either e.1.plan x) (one e.1.plan w') (one x w') (ripen h' e) (ripen h' u) (agree_either_one e.1.plan x w') (agree_either_ripen h' e u) back rest.1)
 
 pub replace_whole : (b : Board) (n m : ℕ) (inputs : Inputs) (es zs : List Entry) (p : ℕ) (e : Entry) (back : List Entry) (x : Plan) → n < MAX_EDITS → Fitted inputs x → drop p es ≡ e ∷ back → IsWhole b n m inputs es
-    → zs ≡ take p es ++ (e.0, fresh_data x (n + 1)) ∷ swept_entries (n + 1) (writes_either e.1.plan x) back → IsWhole b (n + 1) m inputs zs
+    → zs ≡ take p es ++ (e.0, replaced_data x (n + 1) e.1) ∷ swept_entries (n + 1) (writes_either e.1.plan x) back → IsWhole b (n + 1) m inputs zs
 replace_whole b n m inputs es zs p e back x few fit y w z =
     let d : Key → Bool = writes_either e.1.plan x in
-    let u : Entry = (e.0, fresh_data x (n + 1)) in
+    let u : Entry = (e.0, replaced_data x (n + 1) e.1) in
     let rows : RowsBelow (n + 1) m es = rows_up n m (n + 1) m es (omega arith) (omega arith) w.rows_below in
     let behind : RowsBelow (n + 1) m (e ∷ back) = rw y at (rows-drop (n + 1) m es p rows) in
     let fits : AllFitted inputs (e ∷ back) = rw y at (fitted-drop inputs es p w.fitted) in
@@ -62,10 +63,10 @@ replace_whole b n m inputs es zs p e back x few fit y w z =
     })
 
 pub replace_view : (b : Board) (n m : ℕ) (inputs : Inputs) (es zs : List Entry) (s : State) (p : ℕ) (e : Entry) (back : List Entry) (x : Plan) → drop p es ≡ e ∷ back → IsWhole b n m inputs es
-    → zs ≡ take p es ++ (e.0, fresh_data x (n + 1)) ∷ swept_entries (n + 1) (writes_either e.1.plan x) back → state_of b n m inputs es ≡ s → state_of b (n + 1) m inputs zs ≡ row_replaced s p x
+    → zs ≡ take p es ++ (e.0, replaced_data x (n + 1) e.1) ∷ swept_entries (n + 1) (writes_either e.1.plan x) back → state_of b n m inputs es ≡ s → state_of b (n + 1) m inputs zs ≡ row_replaced s p x
 replace_view b n m inputs es zs s p e back x y w z v =
     let d : Key → Bool = writes_either e.1.plan x in
-    let u : Entry = (e.0, fresh_data x (n + 1)) in
+    let u : Entry = (e.0, replaced_data x (n + 1) e.1) in
     let rows : List Row = map machine_row es in
     let behind : drop p rows ≡ machine_row e ∷ map machine_row back = drop-map machine_row p es ∙ ap (map machine_row) y in
     let own : RowsBelow n m (e ∷ back) = rw y at (rows-drop n m es p w.rows_below) in

@@ -1,5 +1,5 @@
 -- The search for unsettled rows by their statuses.
-use Rattle.std.proofs.Common.{◌≡◌, ℕ, ◌+◌, ◌<◌, ◌≤◌, List, [], ◌∷◌, Bool, true, false, cond, Option, Some, None, refl, sym, ap, ◌∙◌, arith, map, length, take, drop, zero, suc, add-zero, add-one, slice_get}
+use Rattle.std.proofs.Common.{◌≡◌, ℕ, ◌+◌, ◌-◌, ◌<◌, ◌≤◌, List, [], ◌∷◌, Bool, true, false, cond, Option, Some, None, refl, sym, ap, ◌∙◌, arith, map, length, take, drop, zero, suc, add-zero, add-one, slice_get}
 use Rattle.std.specs.Prelude.{not, IfSome}
 use Rattle.std.specs.List.{list_all, position_from, count_by}
 use Rattle.std.proofs.lemmas.List.{length-map}
@@ -11,8 +11,8 @@ use Rattle.paris_machine.specs.State.{Row}
 use Rattle.paris_machine.specs.Settling.{unsettled_rows}
 use Rattle.paris_book.specs.Entries.{Entry, machine_row}
 use Rattle.paris_book.specs.Statuses.{statuses_of, is_unsettled, first_unsettled, next_unsettled}
-use Rattle.paris_book.specs.Steps.{are_settled}
-use Rattle.paris_book.proofs.Settling.{and_first, and_second}
+use Rattle.paris_machine.proofs.Runs.{are_settled}
+use Rattle.paris_machine.proofs.Tests.{and_first, and_second}
 
 module _ {X : Type 0} where
   drop_at : (xs : List X) (i : ℕ) (x : X) → slice_get xs i ≡ Some x → drop i xs ≡ x ∷ drop (suc i) xs
@@ -167,3 +167,35 @@ found_within es from (Some k) is =
     let within = next_within (map machine_row es) from k (sym is) in
     let long = length-map es machine_row in
     (within.0, let few = within.1 in omega (arith, few, long))
+
+-- ---- which rows a search passed over
+
+over_from : (rs : List Row) (n k i : ℕ) (r : Row) → position_from (λ (r : Row). is_unsettled r.status) n rs ≡ Some k → n + i < k → slice_get rs i ≡ Some r → is_settled r.status ≡ true
+over_from [] n k i r found less at = absurd (cc)
+over_from (y ∷ rs) n k i r found less at = by_test (λ j. over_from rs (n + 1) k j r) (is_unsettled y.status) refl found i less at
+  where
+    by_test : ((j : ℕ) → position_from (λ (r : Row). is_unsettled r.status) (n + 1) rs ≡ Some k → n + 1 + j < k → slice_get rs j ≡ Some r → is_settled r.status ≡ true)
+        → (b : Bool) → is_unsettled y.status ≡ b → cond b (Some n) (position_from (λ (r : Row). is_unsettled r.status) (n + 1) rs) ≡ Some k → (i : ℕ) → n + i < k → slice_get (y ∷ rs) i ≡ Some r → is_settled r.status ≡ true
+    by_test rest true t h i l a = let same : n ≡ k = cc in absurd (omega (arith, same, l))
+    by_test rest false t h zero l a = let same : y ≡ r = cc in settled_else r.status (ap (λ (z : Row). is_unsettled z.status) (sym same) ∙ t)
+    by_test rest false t h (suc i) l a = rest i h (omega (arith, l)) a
+
+beyond_from : (rs : List Row) (n i : ℕ) (r : Row) → position_from (λ (r : Row). is_unsettled r.status) n rs ≡ None → slice_get rs i ≡ Some r → is_settled r.status ≡ true
+beyond_from [] n i r none at = absurd (cc)
+beyond_from (y ∷ rs) n i r none at = by_test (λ j. beyond_from rs (n + 1) j r) (is_unsettled y.status) refl none i at
+  where
+    by_test : ((j : ℕ) → position_from (λ (r : Row). is_unsettled r.status) (n + 1) rs ≡ None → slice_get rs j ≡ Some r → is_settled r.status ≡ true)
+        → (b : Bool) → is_unsettled y.status ≡ b → cond b (Some n) (position_from (λ (r : Row). is_unsettled r.status) (n + 1) rs) ≡ None → (i : ℕ) → slice_get (y ∷ rs) i ≡ Some r → is_settled r.status ≡ true
+    by_test rest true t h i a = absurd (cc)
+    by_test rest false t h zero a = let same : y ≡ r = cc in settled_else r.status (ap (λ (z : Row). is_unsettled z.status) (sym same) ∙ t)
+    by_test rest false t h (suc i) a = rest i h a
+
+pub passed_over : (rs : List Row) (from k : ℕ) → next_unsettled rs from ≡ Some k → (i : ℕ) (r : Row) → from ≤ i → i < k → slice_get rs i ≡ Some r → is_settled r.status ≡ true
+passed_over rs from k found i r more less at =
+    let gap : i ≡ from + (i - from) = omega (arith, more) in
+    over_from (drop from rs) from k (i - from) r found (omega (arith, more, less)) (get_dropped rs from (i - from) i gap ∙ at)
+
+pub none_beyond : (rs : List Row) (from : ℕ) → next_unsettled rs from ≡ None → (i : ℕ) (r : Row) → from ≤ i → slice_get rs i ≡ Some r → is_settled r.status ≡ true
+none_beyond rs from none i r more at =
+    let gap : i ≡ from + (i - from) = omega (arith, more) in
+    beyond_from (drop from rs) from (i - from) r none (get_dropped rs from (i - from) i gap ∙ at)

@@ -2,7 +2,7 @@
 use Rattle.std.proofs.Common.{◌≡◌, ℕ, ◌<◌, ◌≤◌, List, [], ◌∷◌, Bool, true, false, cond, Option, Some, None, refl, sym, ap, ◌∙◌, subst, eqb, map, take, zero, suc, set, slice_get}
 use Rattle.std.proofs.Math.Path.{ap₂}
 use Rattle.std.proofs.lemmas.Bool.{eqb-true}
-use Rattle.std.specs.Prelude.{◌&&◌}
+use Rattle.std.specs.Prelude.{not}
 use Rattle.std.specs.Option.{option_map}
 use Rattle.std.specs.List.{list_all}
 use Rattle.std.specs.Cmp.Lexicographic.{pointwise}
@@ -16,9 +16,10 @@ use Rattle.paris_instr.specs.PlanEq.{plan_eq}
 use Rattle.paris_field.specs.Fields.{FieldNumbers, field_eq}
 use Rattle.paris_exec.specs.Tasks.{Task, numbers_of, field_of}
 use Rattle.paris_events.specs.Rows.{is_settled}
+use Rattle.paris_events.specs.declared.rows.Status.TheVariants.{Settled}
 use Rattle.paris_machine.specs.State.{Inputs, start_world}
 use Rattle.paris_machine.specs.Orders.{is_firm}
-use Rattle.paris_book.specs.Marks.{out_data, kept_data}
+use Rattle.paris_book.specs.Marks.{out_data, kept_data, again_data}
 use Rattle.paris_book.specs.Kept.{ripen, Sound, present}
 use Rattle.paris_program.specs.Program.{ids_of}
 use Rattle.paris_book.specs.Whole.{RowsBelow, Fitted, AllFitted, IsWhole}
@@ -28,19 +29,8 @@ use Rattle.paris_book.specs.Among.{origin_among, firm_among, inputs_among}
 use Rattle.std.proofs.lemmas.Slice.Eq.{bytes_eq-Decides}
 use Rattle.paris_book.proofs.Origins.{ripe, ripe_is, is_firm_or}
 use Rattle.paris_book.proofs.Inserts.{right_unsettled}
-use Rattle.paris_book.specs.Verdicts.{present_among, verdict_among}
-
-pub and_first : (a b : Bool) → (a && b) ≡ true → a ≡ true
-and_first true b h = refl
-and_first false b h = h
-
-pub and_second : (a b : Bool) → (a && b) ≡ true → b ≡ true
-and_second true b h = h
-and_second false b h = absurd (let x : false ≡ true = h in cc)
-
-pub all_more : (h h' : Key → Bool) → ((f : Key) → h f ≡ true → h' f ≡ true) → (fs : List Key) → list_all h fs ≡ true → list_all h' fs ≡ true
-all_more h h' m [] t = refl
-all_more h h' m (f ∷ fs) t = rw (m f (and_first (h f) (list_all h fs) t)) (all_more h h' m fs (and_second (h f) (list_all h fs) t))
+use Rattle.paris_book.specs.Verdicts.{present_among, last_among, cut_among, verdict_among}
+use Rattle.paris_machine.proofs.Tests.{and_first, and_second, all_more}
 
 ripen_more : (h h' : Key → Bool) (e : Entry) → ((f : Key) → h f ≡ true → h' f ≡ true) → (f : Key) → ripen h e f ≡ true → ripen h' e f ≡ true
 unfolding ripen
@@ -183,3 +173,17 @@ bring_whole b n m inputs es k e t x v p w =
     let firm : list_all (firm_among es k) (reads e.1.plan) ≡ true = and_first (list_all (firm_among es k) (reads e.1.plan)) (pointwise field_eq (inputs_among inputs es k e.1.plan) t.inputs) rest in
     let values : inputs_among inputs es k e.1.plan ≡ t.inputs = same_values (inputs_among inputs es k e.1.plan) t.inputs (and_second (list_all (firm_among es k) (reads e.1.plan)) (pointwise field_eq (inputs_among inputs es k e.1.plan) t.inputs) rest) in
     kept_whole b n m inputs es k e t x firm values p w
+
+-- a row that is cut off is settled by the result that it keeps, which is of its own plan on the present values
+pub again_whole : (b : Board) (n m : ℕ) (inputs : Inputs) (es : List Entry) (k : ℕ) (e : Entry) → slice_get es k ≡ Some e → cut_among inputs es k e ≡ true → ((d : Task) → e.1.done ≡ Some d → e.1.plan ≡ d.plan) → IsWhole b n m inputs es
+    → IsWhole b n m inputs (set es k (with_data again_data e))
+again_whole b n m inputs es k e x cut same_plan w = by_done e.1.done refl (and_second (not (is_settled e.1.status)) (last_among inputs es k e e.1.done) cut)
+  where
+    by_done : (o : Option Task) → e.1.done ≡ o → last_among inputs es k e o ≡ true → IsWhole b n m inputs (set es k (with_data again_data e))
+    by_done None h t = absurd (let z : false ≡ true = t in cc)
+    by_done (Some d) h t =
+        let rest = and_second (plan_eq e.1.plan d.plan) _ t in
+        let firm : list_all (firm_among es k) (reads e.1.plan) ≡ true = and_first (list_all (firm_among es k) (reads e.1.plan)) (pointwise field_eq (inputs_among inputs es k e.1.plan) d.inputs) rest in
+        let values : inputs_among inputs es k e.1.plan ≡ d.inputs = same_values (inputs_among inputs es k e.1.plan) d.inputs (and_second (list_all (firm_among es k) (reads e.1.plan)) (pointwise field_eq (inputs_among inputs es k e.1.plan) d.inputs) rest) in
+        let plan : e.1.plan ≡ d.plan = same_plan d h in
+        subst (λ (o : Option Task). IsWhole b n m inputs (set es k (e.0, record e.1 { status = Settled; done = o }))) (sym h) (kept_whole b n m inputs es k e d x firm values plan w)

@@ -18,8 +18,9 @@ use Rattle.paris_book.specs.Entries.{Entry, id_of, machine_row, with_data}
 use Rattle.paris_events.specs.declared.rows.Status.{Status}
 use Rattle.paris_events.specs.declared.rows.Status.TheVariants.{Waiting, Out, Settled}
 use Rattle.paris_book.specs.Among.{firm_among, ready_among, next_among, order_among, own_among}
-use Rattle.paris_book.proofs.Finds.{none_of, found_by, found_passes}
-use Rattle.paris_book.proofs.Settling.{and_first, and_second}
+use Rattle.paris_book.proofs.Finds.{found_by, found_passes}
+use Rattle.paris_machine.proofs.Finds.{none_of}
+use Rattle.paris_machine.proofs.Tests.{and_first, and_second}
 use Rattle.paris_book.proofs.Inserts.{state_of}
 use Rattle.paris_book.proofs.Shows.{now_is, firm_is}
 

@@ -17,7 +17,7 @@ use Rattle.paris_depends.specs.Sweeps.{touched}
 use Rattle.paris_depends.proofs.ByIds.{by_ids-front, by_ids-swept, by_ids-more, by_ids-absent}
 use Rattle.paris_book.specs.Entries.{Entry, with_data, ChangedAt}
 use Rattle.paris_book.proofs.Swept.{swept_entries}
-use Rattle.paris_book.specs.Marks.{data_plan, fresh_data, unsettled_by_ids, ids_in, writes_either, stale_data}
+use Rattle.paris_book.specs.Marks.{data_plan, fresh_data, unsettled_by_ids, ids_in, writes_either, stale_data, replaced_data}
 use Rattle.paris_book.specs.Rows.{RowData}
 use Rattle.paris_book.proofs.Inserts.{inserted_rows}
 
@@ -111,14 +111,14 @@ row_put (r ∷ rows) zero i x y at = let same : r ≡ (i, x) = cc in ap (λ (e :
 row_put (r ∷ rows) (suc place) i x y at = ap (λ rs. r ∷ rs) (row_put rows place i x y at)
 
 -- the rows after a replace
-pub replace_rows : (n place i : ℕ) (d : Key → Bool) (x : Plan) (row : RowData) (old other new : List Entry) (ids : List ℕ) → slice_get old place ≡ Some (i, row) → other ≡ with_row old place (fresh_data x (n + 1)) → IsDistinct nat_eq (keys_of other)
-    → ids ≡ touched data_plan d (drop (place + 1) old) → new ≡ unsettled_by_ids (n + 1) ids other → new ≡ take place old ++ (i, fresh_data x (n + 1)) ∷ swept_entries (n + 1) d (drop (place + 1) old)
+pub replace_rows : (n place i : ℕ) (d : Key → Bool) (x : Plan) (row : RowData) (old other new : List Entry) (ids : List ℕ) → slice_get old place ≡ Some (i, row) → other ≡ with_row old place (replaced_data x (n + 1) row) → IsDistinct nat_eq (keys_of other)
+    → ids ≡ touched data_plan d (drop (place + 1) old) → new ≡ unsettled_by_ids (n + 1) ids other → new ≡ take place old ++ (i, replaced_data x (n + 1) row) ∷ swept_entries (n + 1) d (drop (place + 1) old)
 replace_rows n place i d x row old other new ids at put distinct which is =
-    let new_row : Entry = (i, fresh_data x (n + 1)) in
+    let new_row : Entry = (i, replaced_data x (n + 1) row) in
     let front : List Entry = take place old ++ new_row ∷ [] in
     let back : List Entry = drop (place + 1) old in
     let whole : other ≡ front ++ back =
-    put ∙ row_put old place i row (fresh_data x (n + 1)) at ∙ ap (λ k. take place old ++ new_row ∷ drop k old) (sym (add-one place)) ∙ sym (append_assoc (take place old) (new_row ∷ []) back) in
+    put ∙ row_put old place i row (replaced_data x (n + 1) row) at ∙ ap (λ k. take place old ++ new_row ∷ drop k old) (sym (add-one place)) ∙ sym (append_assoc (take place old) (new_row ∷ []) back) in
     is
     ∙ ap (λ js. unsettled_by_ids (n + 1) js other) which
     ∙ ap (unsettled_by_ids (n + 1) (touched data_plan d back)) whole

@@ -2,7 +2,8 @@
 use Rattle.std.specs.Prelude.{◌≡◌, ℕ, List, Some, slice_get, slice_set}
 use Rattle.paris_names.specs.declared.ids.RowId.{RowId}
 use Rattle.paris_model.specs.Instructions.{Plan}
-use Rattle.paris_machine.specs.State.{Row}
+use Rattle.std.specs.Option.{option_map}
+use Rattle.paris_machine.specs.State.{Row, work_of}
 use Rattle.paris_book.specs.Rows.{RowData}
 
 -- a row's id, and what the book keeps of the row
@@ -17,7 +18,7 @@ entry_plan e = e.1.plan
 
 -- what the machine sees of a row
 abbrev pub machine_row : Entry → Row
-machine_row e = record { id = id_of e; plan = e.1.plan; set_by = e.1.set_by; edition = e.1.edition; status = e.1.status }
+machine_row e = record { id = id_of e; plan = e.1.plan; set_by = e.1.set_by; edition = e.1.edition; status = e.1.status; last = option_map work_of e.1.done }
 
 -- a row with its data changed, under its id
 abbrev pub with_data : (RowData → RowData) → Entry → Entry

@@ -18,6 +18,10 @@ data_plan row = row.plan
 abbrev pub fresh_data : Plan → ℕ → RowData
 fresh_data p n = record { plan = p; set_by = n; edition = record { 0 = n }; status = Waiting; done = None }
 
+-- a row to which the edit of this number gives another plan
+abbrev pub replaced_data : Plan → ℕ → RowData → RowData
+replaced_data p n row = record { plan = p; set_by = n; edition = record { 0 = n }; status = Waiting; done = row.done }
+
 -- whether a plan or another one writes a key
 abbrev pub writes_either : Plan → Plan → Key → Bool
 writes_either p p' k = has_key (writes p) k || has_key (writes p') k
@@ -44,3 +48,7 @@ out_data row = record row { status = Out }
 -- a row with the result that it keeps
 abbrev pub kept_data : Task → RowData → RowData
 kept_data t row = record row { status = Settled; done = Some t }
+
+-- a row settled by the result that it keeps
+abbrev pub again_data : RowData → RowData
+again_data row = record row { status = Settled }

@@ -1,14 +1,29 @@
--- Steps of settling: the order that a row would give now, a row that is settled by it, and rows settled in program order.
-use Rattle.std.specs.Prelude.{ℕ, zero, suc, List, [], ◌∷◌, Bool, Option, Some, None, is_some, if◌then◌else◌, slice_get}
+-- Steps of a book between two passes: a result that is kept, the order that a row would give now, and a row that has its turn.
+use Rattle.std.specs.Prelude.{◌≡◌, ◌≤◌, ◌⊎◌, ℕ, length, take, Bool, true, false, ◌&&◌, ◌||◌, not, Option, Some, None, if◌then◌else◌, slice_get, slice_set}
 use Rattle.std.specs.List.{list_all}
+use Rattle.paris_names.specs.declared.keys.Key.{Key}
+use Rattle.paris_depends.specs.Sweeps.{touches}
 use Rattle.paris_model.specs.Instructions.{reads}
 use Rattle.paris_exec.specs.Tasks.{Task}
 use Rattle.paris_events.specs.Rows.{is_settled}
-use Rattle.paris_events.specs.declared.rows.Status.TheVariants.{Settled}
-use Rattle.paris_machine.specs.State.{Row, State, with_status}
-use Rattle.paris_machine.specs.Show.{origin_at}
+use Rattle.paris_events.specs.declared.verdicts.Verdict.{Verdict}
+use Rattle.paris_events.specs.declared.verdicts.Verdict.TheVariants.{Kept}
+use Rattle.paris_machine.specs.State.{Row, State, Work, work_of, find_row}
+use Rattle.paris_machine.specs.Show.{now, origin_at}
 use Rattle.paris_machine.specs.Orders.{is_firm, order_of}
-use Rattle.paris_machine.specs.Settling.{settled_row}
+use Rattle.paris_machine.specs.CutOff.{IsAtRest, is_cut, cut_found}
+use Rattle.paris_events.specs.declared.edits.Edit.{Edit}
+use Rattle.paris_machine.specs.Edits.{edited_by}
+use Rattle.paris_machine.specs.Results.{kept_at, verdict_of}
+use Rattle.paris_machine.specs.Settling.{run_row}
+
+-- the state with a result kept, where it is, before any other row is settled
+abbrev pub kept_on : State → Verdict → Option (ℕ × Row) → Work → State
+kept_on s Kept (Some e) work = kept_at s e work
+kept_on s _ _ work = s
+
+abbrev pub after_keep : State → Task → State
+after_keep s t = kept_on s (verdict_of s t) (find_row s t.id) (work_of t)
 
 -- whether the keys that a row reads have the start or settled rows as origins
 abbrev pub is_free : State → ℕ → Row → Bool
@@ -22,27 +37,91 @@ order_on s place (Some r) = if is_free s place r then Some (order_of s (place, r
 abbrev pub own_order : State → ℕ → Option Task
 own_order s place = order_on s place (slice_get s.rows place)
 
--- the state with the row at a place settled
-abbrev pub settled_on : State → ℕ → Option Row → State
-settled_on s place None = s
-settled_on s place (Some r) = with_status s (place, r) Settled
+-- the state with the row at a place settled by the result of its present work
+abbrev pub run_on : State → ℕ → Option Row → State
+run_on s place None = s
+run_on s place (Some r) = record s { rows = slice_set s.rows place (run_row (now s place) r) }
 
-abbrev pub settled_at : State → ℕ → State
-settled_at s place = settled_on s place (slice_get s.rows place)
+abbrev pub run_at : State → ℕ → State
+run_at s place = run_on s place (slice_get s.rows place)
 
--- the state once the row's own order was run, where it gives one
-abbrev pub ran_at : State → ℕ → State
-ran_at s place = if is_some (own_order s place) then settled_at s place else s
+-- whether there is a row, and it is settled
+abbrev pub settled_on : Option Row → Bool
+settled_on None = false
+settled_on (Some r) = is_settled r.status
 
-abbrev pub are_settled : List Row → Bool
-are_settled rs = list_all (λ (r : Row). is_settled r.status) rs
+-- whether there is a row at a place, and it is cut off
+abbrev pub cuts_on : State → ℕ → Option Row → Bool
+cuts_on s place None = false
+cuts_on s place (Some r) = is_cut s place r
 
--- the rows with the first unsettled one settled
-abbrev pub first_settled : List Row → List Row
-first_settled [] = []
-first_settled (r ∷ rs) = if is_settled r.status then r ∷ first_settled rs else settled_row r ∷ rs
+abbrev pub cuts_at : State → ℕ → Bool
+cuts_at s place = cuts_on s place (slice_get s.rows place)
 
--- the rows with so many of the unsettled ones settled, from the first on
-abbrev pub settled_times : ℕ → List Row → List Row
-settled_times zero rs = rs
-settled_times (suc n) rs = first_settled (settled_times n rs)
+-- whether a row is unsettled, and isn't cut off
+abbrev pub is_left : State → ℕ → Row → Bool
+is_left s place r = not (is_settled r.status || is_cut s place r)
+
+abbrev pub left_on : State → ℕ → Option Row → Bool
+left_on s place None = false
+left_on s place (Some r) = is_left s place r
+
+abbrev pub left_at : State → ℕ → Bool
+left_at s place = left_on s place (slice_get s.rows place)
+
+-- whether a row is run when it has its turn: it is such a row, and no key that it reads waits
+abbrev pub is_run : State → ℕ → Row → Bool
+is_run s place r = is_left s place r && is_free s place r
+
+abbrev pub runs_on : State → ℕ → Option Row → Bool
+runs_on s place None = false
+runs_on s place (Some r) = is_run s place r
+
+abbrev pub runs_at : State → ℕ → Bool
+runs_at s place = runs_on s place (slice_get s.rows place)
+
+-- the state once the row at a place had its turn: run, or settled where it is cut off
+abbrev pub turned_on : State → ℕ → Option Row → State
+turned_on s place None = s
+turned_on s place (Some r) = if is_run s place r then run_on s place (Some r) else cut_found s place (Some r)
+
+abbrev pub turned_at : State → ℕ → State
+turned_at s place = turned_on s place (slice_get s.rows place)
+
+-- whether a sweep settles the row at a place: it reads a key of these, and is cut off
+abbrev pub sweeps_on : (Key → Bool) → State → ℕ → Option Row → Bool
+sweeps_on d s place None = false
+sweeps_on d s place (Some r) = touches d r.plan && is_cut s place r
+
+abbrev pub sweeps_at : (Key → Bool) → State → ℕ → Bool
+sweeps_at d s place = sweeps_on d s place (slice_get s.rows place)
+
+-- the state once a sweep has come past a place
+abbrev pub swept_on : (Key → Bool) → State → ℕ → Option Row → State
+swept_on d s place None = s
+swept_on d s place (Some r) = if touches d r.plan then cut_found s place (Some r) else s
+
+abbrev pub swept_at : (Key → Bool) → State → ℕ → State
+swept_at d s place = swept_on d s place (slice_get s.rows place)
+
+-- a state that was at rest until the row at a place was settled
+pub record WasSettled (s : State) (place : ℕ) : Type 0 where
+  pub before : State
+  pub row : Row
+  pub next : Row
+  pub rests : IsAtRest before
+  pub here : slice_get before.rows place ≡ Some row
+  pub settled : is_settled next.status ≡ true
+  pub plan : next.plan ≡ row.plan
+  pub now : s ≡ record before { rows = slice_set before.rows place next }
+
+-- the place of a row that was found, or the first place
+abbrev pub found_place : Option (ℕ × Row) → ℕ
+found_place None = 0
+found_place (Some e) = e.0
+
+-- an edit leaves the rows before a place as they were, and so the input data, but where that is the first place
+pub record StaysBefore (s : State) (e : Edit) (place : ℕ) : Type 0 where
+  pub within : place ≤ length s.rows
+  pub rows : take place (edited_by s e).rows ≡ take place s.rows
+  pub inputs : (place ≡ 0) ⊎ ((edited_by s e).inputs ≡ s.inputs)

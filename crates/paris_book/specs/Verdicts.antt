@@ -1,5 +1,5 @@
 -- Looks at a row, and verdicts, said of a book's rows.
-use Rattle.std.specs.Prelude.{◌≡◌, ℕ, ◌==◌, Bool, true, false, ◌&&◌, List, length, Some, if◌then◌else◌}
+use Rattle.std.specs.Prelude.{◌≡◌, ℕ, ◌==◌, Bool, true, false, ◌&&◌, not, List, length, Option, Some, None, if◌then◌else◌}
 use Rattle.std.specs.List.{list_all}
 use Rattle.std.specs.Cmp.Lexicographic.{pointwise}
 use Rattle.paris_names.specs.declared.keys.Key.{Key}
@@ -34,6 +34,14 @@ are_present inputs es place p values = list_all (firm_among es place) (reads p) 
 -- whether an order is of the row's plan and of the present values
 abbrev pub present_among : Inputs → List Entry → ℕ → Entry → Task → Bool
 present_among inputs es place e t = plan_eq e.1.plan t.plan && are_present inputs es place e.1.plan t.inputs
+
+-- whether a row is unsettled, and the result that was last kept of it is of its plan and of the present values
+abbrev pub last_among : Inputs → List Entry → ℕ → Entry → Option Task → Bool
+last_among inputs es place e None = false
+last_among inputs es place e (Some t) = present_among inputs es place e t
+
+abbrev pub cut_among : Inputs → List Entry → ℕ → Entry → Bool
+cut_among inputs es place e = not (is_settled e.1.status) && last_among inputs es place e e.1.done
 
 abbrev pub verdict_among : Inputs → List Entry → ℕ → Entry → Task → Verdict
 verdict_among inputs es place e t =

@@ -1,6 +1,5 @@
 -- What is always true of a book.
-use Rattle.std.specs.Prelude.{◌≡◌, ℕ, ◌+◌, ◌<◌, ◌≤◌, List, [], ◌∷◌, true, false, ◌==◌, ◌||◌, length, Option, Some, None, if◌then◌else◌}
-use Rattle.std.specs.List.{list_any}
+use Rattle.std.specs.Prelude.{◌≡◌, ℕ, ◌+◌, ◌<◌, ◌≤◌, List, [], ◌∷◌, true, ◌||◌, length, Option, Some, None, if◌then◌else◌}
 use Rattle.paris_names.specs.declared.keys.Key.{Key}
 use Rattle.paris_names.specs.Keys.{has_key}
 use Rattle.paris_geometry.specs.Geometry.{processor_count}
@@ -8,7 +7,7 @@ use Rattle.paris_board.specs.Board.{Board, is_declared, width_of, count_of}
 use Rattle.paris_model.specs.Instructions.{Plan, reads, writes, key_width}
 use Rattle.paris_program.specs.Program.{ids_of}
 use Rattle.paris_book.specs.Kept.{Sound}
-use Rattle.paris_machine.specs.State.{Inputs, input_of, number_in, start_world}
+use Rattle.paris_machine.specs.State.{Inputs, IdsApart, input_of, number_in, start_world}
 use Rattle.paris_machine.specs.declared.inputs.Input.{Input}
 use Rattle.paris_book.specs.Entries.{Entry}
 use Rattle.paris_names.specs.declared.limits.TheConstants.{MAX_EDITS}
@@ -35,11 +34,6 @@ InputsBelow n inputs = (k : Key) → number_in (input_of inputs k) ≤ n
 abbrev pub RowsBelow : ℕ → ℕ → List Entry → Type 0
 RowsBelow n next [] = Unit {0}
 RowsBelow n next (e ∷ es) = (e.1.set_by ≤ n) × (e.0 < next) × RowsBelow n next es
-
--- each id stands once
-abbrev pub IdsApart : List ℕ → Type 0
-IdsApart [] = Unit {0}
-IdsApart (i ∷ is) = (list_any (λ j. j == i) is ≡ false) × IdsApart is
 
 -- the keys of a plan have input data, of the plan's widths and its number of processors
 abbrev pub Fitted : Inputs → Plan → Type 0

@@ -1,55 +1,45 @@
 //! The book: edits, orders, results and looks.
 
-ghost use Rattle.std.specs.Prelude.{◌≡◌, ◌<◌, ◌≤◌, ◌+◌, length, map, Ok, Err, Some, None, IsSome, IfOk, IfErr, OnOk, OnErr};
-ghost use Rattle.std.specs.Option.{option_map};
+ghost use Rattle.std.specs.Prelude.{◌≡◌, ◌≤◌, Ok, Err, IsSome, IfOk, IfErr, OnOk, OnErr};
 ghost use Rattle.paris_names.specs.Faults.{IsFaultOf};
-ghost use Rattle.paris_names.specs.declared.faults.Fault.TheVariants as FaultCase;
-ghost use Rattle.paris_program.specs.Program.{place_of};
-ghost use Rattle.paris_machine.specs.State.{empty_state, place_of_spot};
+ghost use Rattle.paris_names.specs.declared.limits.TheConstants.{MAX_EDITS};
+ghost use Rattle.paris_events.specs.declared.edits.Edit.TheVariants as EditCase;
+ghost use Rattle.paris_machine.specs.State.{empty_state};
 ghost use Rattle.paris_machine.specs.Show.{show_reply};
-ghost use Rattle.paris_machine.specs.Orders.{take_reply, after_take};
+ghost use Rattle.paris_machine.specs.Orders.{take_reply, after_take, after_release};
+ghost use Rattle.paris_machine.specs.CutOff.{cut_off};
 ghost use Rattle.paris_machine.specs.Results.{verdict_of, after_bring};
 ghost use Rattle.paris_machine.specs.Edits.{edit_fault, edit_answer, accepted};
 ghost use Rattle.paris_machine.specs.Settling.{unsettled_rows};
 ghost use Rattle.paris_book.specs.Among.{look_shown, shared_shown};
-ghost use Rattle.paris_book.specs.Entries.{machine_row};
-ghost use Rattle.paris_names.specs.declared.limits.TheConstants.{MAX_EDITS};
 
-use crate::inputs::InputData;
 use crate::look::{Look, SharedLook};
-use crate::looks::{first_ready, judge, look_at, order_at};
-use crate::program_rows::Rows;
-use paris_board::Board;
+use crate::loose::Loose;
 use paris_events::{Edit, EditReply, Verdict};
 use paris_exec::{Done, Order};
-use paris_names::{Fault, KeyName, RowId, Spot};
+use paris_names::{Fault, KeyName, Spot};
 use std::alloc::{AllocError, Global};
 use std::marker::Model;
 
 /// A program that is edited, its input data, and the results that are settled. A clause sees the declarations, the count of
 /// edits, the input data, the id of the next row, and the rows.
+///
+/// No row of it could be cut off: an unsettled row whose last kept result is of its plan and of the present values is settled with
+/// that, and isn't run again.
 #[derive(Drop)]
 pub struct Book {
-    pub(crate) board: Board,
-    pub(crate) edits: u64,
-    pub(crate) inputs: InputData,
-    pub(crate) rows: Rows,
-    pub(crate) alloc: Global,
+    pub(crate) loose: Loose,
 }
 
 impl Model for Book {
-    ghost use Rattle.std.specs.Prelude.{map};
     ghost use Rattle.paris_machine.specs.State.{State};
+    ghost use Rattle.paris_machine.specs.CutOff.{IsAtRest};
 
     ghost Value = { State };
 
-    ghost use Rattle.paris_book.specs.Entries.{machine_row};
-    ghost use Rattle.paris_book.specs.Among.{inputs_of};
-    ghost use Rattle.paris_book.specs.Whole.{IsWhole};
+    ghost view = { λ b. b.loose };
 
-    ghost view = { λ a. record { board = a.board; edits = a.edits; inputs = inputs_of a.inputs; next = a.rows.next_id; rows = map machine_row a.rows.rows } };
-
-    ghost invariant = { λ a. IsWhole a.board a.edits a.rows.next_id (inputs_of a.inputs) a.rows.rows };
+    ghost invariant = { λ b. IsAtRest b.loose };
 }
 
 impl Book {
@@ -66,14 +56,7 @@ impl Book {
         ensures { result ≡ empty_state count }
     {
         Book {
-            board: Board::new(alloc),
-            edits: count,
-            inputs: InputData {
-                fields: Vec::new(alloc),
-                flags: Vec::new(alloc),
-            },
-            rows: Rows::new(alloc),
-            alloc,
+            loose: Loose::starting_at(alloc, count),
         }
     }
 
@@ -89,6 +72,30 @@ impl Book {
         self.apply(&edit)
     }
 
+    /// Makes an edit that is lent.
+    pub(crate) fn apply(&mut self, edit: &Edit) -> Result<EditReply, Fault>
+        ensures ok { IfOk result (λ answer. (edit_fault self.old edit.now ≡ None)
+            × (answer ≡ edit_answer self.old edit.now)
+            × (self.new ≡ accepted self.old edit.now)) }
+        ensures err { IfErr result (λ fault. (self.new ≡ self.old)
+            × IsFaultOf (edit_fault self.old edit.now) fault) }
+    {
+        self.loose.edit(edit)
+    }
+
+    /// Gives a key numbers of one word each from a processor on: the edit of input data with these numbers, which needs no list of
+    /// wide ones. It is refused as that edit is, and what is refused leaves the book as it was.
+    pub fn set_words(&mut self, key: KeyName, from: u64, words: &[u64]) -> Result<(), Fault>
+        ensures ok { OnOk result ((edit_fault self.old (EditCase.Input key from words.now) ≡ None)
+            × (self.new ≡ accepted self.old (EditCase.Input key from words.now))) }
+        ensures err { IfErr result (λ fault. (self.new ≡ self.old)
+            × IsFaultOf (edit_fault self.old (EditCase.Input key from words.now)) fault) }
+    {
+        self.loose.set_words(key, from, words)?;
+        self.loose.cut_off();
+        Ok(())
+    }
+
     /// An order for the first row that waits and whose keys read all have the start or a settled row as origin. `None` where there
     /// is no such row, and then it takes no memory. The error says that memory for the order was refused.
     pub fn take(&mut self) -> Result<Option<Order>, AllocError>
@@ -97,12 +104,7 @@ impl Book {
         ensures err { OnErr result (self.new ≡ self.old) }
         ensures ready { OnErr result (IsSome (take_reply self.old)) }
     {
-        let Some(place) = first_ready(&self.rows) else {
-            return Ok(None);
-        };
-        let order = order_at(self.alloc, &self.inputs, &self.rows, place)?;
-        self.rows.hand_out(place);
-        Ok(order)
+        self.loose.take()
     }
 
     /// The order that `take` would give. It changes nothing, and the error says what that of `take` does.
@@ -110,42 +112,23 @@ impl Book {
         ensures order { IfOk result (λ order. order ≡ take_reply self.now) }
         ensures ready { OnErr result (IsSome (take_reply self.now)) }
     {
-        match first_ready(&self.rows) {
-            None => Ok(None),
-            Some(place) => order_at(self.alloc, &self.inputs, &self.rows, place),
-        }
+        self.loose.peek()
     }
 
-    /// Brings a result, and settles its row where it belongs to the present program and the present input data. It takes no
-    /// memory.
+    /// Brings a result, and settles its row where it belongs to the present program and the present input data, with the rows that
+    /// are cut off then. It takes no memory.
     pub fn bring(&mut self, done: Done) -> Verdict
         ensures answer { result ≡ verdict_of self.old done }
         ensures state { self.new ≡ after_bring self.old done }
     {
-        match self.rows.place_of(done.order().id()) {
-            None => Verdict::Gone,
-            Some(place) => {
-                let verdict = judge(&self.inputs, &self.rows, place, &done);
-                if !verdict.is_kept() {
-                    return verdict;
-                }
-                self.rows.keep(place, done);
-                verdict
-            }
-        }
+        self.loose.bring(done)
     }
 
-    /// The place that a spot names. `NoRow` where no row has its id.
-    pub(crate) fn place_of_spot(&self, spot: Spot) -> Result<usize, Fault>
-        ensures ok { IfOk result (λ place. place_of_spot self.now spot ≡ Some place) }
-        ensures within { IfOk result (λ place. place ≤ length self.now.rows) }
-        ensures err { IfErr result (λ fault. (fault ≡ FaultCase.NoRow) × (place_of_spot self.now spot ≡ None)) }
+    /// Gives up the orders that are out: every row that is out waits, with its edition. It takes no memory.
+    pub fn release(&mut self)
+        ensures { self.new ≡ after_release self.old }
     {
-        match spot {
-            Spot::Start => Ok(0),
-            Spot::After(id) => place_after(&self.rows, id),
-            Spot::End => Ok(self.rows.len()),
-        }
+        self.loose.release();
     }
 
     /// What a key holds at a place of the program: its value, where its origin is the start or a settled row, or the row that is its
@@ -162,36 +145,28 @@ impl Book {
         ensures shown { IfOk result (λ look. Ok (shared_shown look) ≡ show_reply self.now name spot) }
         ensures refused { IfErr result (λ fault. Err fault ≡ show_reply self.now name spot) }
     {
-        let key = self.board.key_of(name)?;
-        let place = self.place_of_spot(spot)?;
-        Ok(look_at(&self.inputs, &self.rows, place, &key))
+        self.loose.shared_look(name, spot)
     }
 
     /// How many edits were accepted.
     pub fn edits(&self) -> u64
         ensures { result ≡ self.now.edits }
     {
-        self.edits
+        self.loose.edits()
     }
 
     /// How many rows are unsettled.
     pub fn unsettled_count(&self) -> usize
         ensures { result ≡ unsettled_rows self.now.rows }
     {
-        self.rows.count_unsettled()
+        self.loose.unsettled_count()
     }
-}
 
-/// The place just after the row with an id. `NoRow` where no row has it.
-fn place_after(rows: &Rows, id: RowId) -> Result<usize, Fault>
-    ensures ok { IfOk result (λ below. option_map (λ place. place + 1) (place_of rows.now.rows id.0) ≡ Some below) }
-    ensures within { IfOk result (λ below. below ≤ length rows.now.rows) }
-    ensures err { IfErr result (λ fault. (fault ≡ FaultCase.NoRow) × (place_of rows.now.rows id.0 ≡ None)) }
-{
-    // The length is what says that the place just after a row is one.
-    let _len = rows.len();
-    match rows.place_of(id) {
-        Some(place) => Ok(place + 1),
-        None => Err(Fault::NoRow),
+    /// One more pass of cut-off would change nothing. It changes nothing: what it ensures is the law.
+    pub fn rests(&self)
+        ensures { cut_off self.now ≡ self.now }
+    {
+        // Whoever touches a part knows the invariant.
+        let _loose = &self.loose;
     }
 }

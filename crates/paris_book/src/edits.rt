@@ -9,15 +9,15 @@ ghost use Rattle.paris_geometry.specs.Geometry.{is_geometry};
 ghost use Rattle.paris_board.specs.Board.{set_fault, field_fault, key_named, set_named};
 ghost use Rattle.paris_instr.specs.Resolve.{IsFittedTo};
 ghost use Rattle.paris_machine.specs.State.{find_row, place_of_spot, with_input};
-ghost use Rattle.paris_machine.specs.Edits.{HasEditsLeft, edit_fault, edit_answer, content_fault, accepted, input_fault, set_added, field_added, edited, input_set, known_rows, row_inserted, replaced_from};
+ghost use Rattle.paris_machine.specs.Edits.{HasEditsLeft, edit_fault, edit_answer, content_fault, edited_by, input_fault, set_added, field_added, edited, input_set, known_rows, row_inserted, replaced_from};
 ghost use Rattle.paris_events.specs.declared.edits.Edit.TheVariants as EditCase;
 ghost use Rattle.paris_book.specs.Whole.{shape_in};
 
-use crate::book::Book;
 use crate::inputs::{
     declare_flags, declare_input, given_input, given_words, input_at, push_field, push_flags,
     set_input,
 };
+use crate::loose::Loose;
 use crate::marks::{end_edit, unsettled_by_replace};
 use crate::rows::RowData;
 use paris_events::{Edit, EditReply};
@@ -29,7 +29,7 @@ use paris_names::limits::{MAX_EDITS, MAX_ROWS};
 use paris_names::{Fault, Key, KeyName, Name, RowId, Spot};
 use std::alloc::AllocError;
 
-impl Book {
+impl Loose {
     /// Declares a set, if there are edits left.
     fn add_set(&mut self, name: Name, axes: &[u64]) -> Result<(), Fault>
         requires left { HasEditsLeft self.old }
@@ -127,7 +127,7 @@ impl Book {
         requires left { HasEditsLeft self.old }
         ensures ok { IfOk result (λ id. (content_fault self.old (EditCase.Insert spot instr) ≡ None)
             × (id ≡ record { 0 = self.old.next })
-            × (self.new ≡ accepted self.old (EditCase.Insert spot instr))) }
+            × (self.new ≡ edited_by self.old (EditCase.Insert spot instr))) }
         ensures err { IfErr result (λ fault. (self.new ≡ self.old)
             × IsFaultOf (content_fault self.old (EditCase.Insert spot instr)) fault) }
     {
@@ -160,7 +160,7 @@ impl Book {
     fn delete(&mut self, id: RowId) -> Result<(), Fault>
         requires left { HasEditsLeft self.old }
         ensures ok { OnOk result ((content_fault self.old (EditCase.Delete id) ≡ None)
-            × (self.new ≡ accepted self.old (EditCase.Delete id))) }
+            × (self.new ≡ edited_by self.old (EditCase.Delete id))) }
         ensures err { IfErr result (λ fault. (self.new ≡ self.old)
             × IsFaultOf (content_fault self.old (EditCase.Delete id)) fault) }
     {
@@ -178,7 +178,7 @@ impl Book {
     fn replace(&mut self, id: RowId, instr: Instr) -> Result<(), Fault>
         requires left { HasEditsLeft self.old }
         ensures ok { OnOk result ((content_fault self.old (EditCase.Replace id instr) ≡ None)
-            × (self.new ≡ accepted self.old (EditCase.Replace id instr))) }
+            × (self.new ≡ edited_by self.old (EditCase.Replace id instr))) }
         ensures err { IfErr result (λ fault. (self.new ≡ self.old)
             × IsFaultOf (content_fault self.old (EditCase.Replace id instr)) fault) }
     {
@@ -197,7 +197,10 @@ impl Book {
     {
         let number = self.edits + 1;
         let ids = unsettled_by_replace(self.alloc, &self.rows, id, below, &plan)?;
-        let row = RowData::fresh(self.alloc, plan, number)?;
+        let row = match self.rows.row(id) {
+            Some(row) => row.replaced(self.alloc, plan, number)?,
+            None => unreachable!(),
+        };
         self.rows.replace(id, row)?;
         end_edit(&mut self.rows, &mut self.edits, ids.as_slice());
         Ok(())
@@ -205,9 +208,9 @@ impl Book {
 
     /// Gives a key numbers of one word each from a processor on: the edit of input data with these numbers, which needs no list of
     /// wide ones. It is refused as that edit is, and what is refused leaves the book as it was.
-    pub fn set_words(&mut self, key: KeyName, from: u64, words: &[u64]) -> Result<(), Fault>
+    pub(crate) fn set_words(&mut self, key: KeyName, from: u64, words: &[u64]) -> Result<(), Fault>
         ensures ok { OnOk result ((edit_fault self.old (EditCase.Input key from words.now) ≡ None)
-            × (self.new ≡ accepted self.old (EditCase.Input key from words.now))) }
+            × (self.new ≡ edited_by self.old (EditCase.Input key from words.now))) }
         ensures err { IfErr result (λ fault. (self.new ≡ self.old)
             × IsFaultOf (edit_fault self.old (EditCase.Input key from words.now)) fault) }
     {
@@ -221,7 +224,7 @@ impl Book {
     pub(crate) fn apply(&mut self, edit: &Edit) -> Result<EditReply, Fault>
         ensures ok { IfOk result (λ answer. (edit_fault self.old edit.now ≡ None)
             × (answer ≡ edit_answer self.old edit.now)
-            × (self.new ≡ accepted self.old edit.now)) }
+            × (self.new ≡ edited_by self.old edit.now)) }
         ensures err { IfErr result (λ fault. (self.new ≡ self.old)
             × IsFaultOf (edit_fault self.old edit.now) fault) }
     {

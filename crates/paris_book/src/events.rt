@@ -101,7 +101,7 @@ impl Book {
             × (self.new ≡ after_all self.old (take (length e.0) events.items))) }
         ensures fewer { IfErr result (λ e. length e.0 < length events.items) }
     {
-        let mut replies = Vec::new(self.alloc);
+        let mut replies = Vec::new(self.loose.allocator());
         if let Err(refused) = replies.reserve(events.len()) {
             return Err((Items::new(replies), refused));
         }

@@ -3,12 +3,14 @@
 
 ghost use Rattle.std.specs.Prelude.{◌≡◌, ℕ, ◌<◌, All, IsSome};
 ghost use Rattle.paris_machine.specs.Orders.{after_release, take_reply};
-ghost use Rattle.paris_machine.specs.Settling.{all_settled, ran_orders, unsettled_rows};
+ghost use Rattle.paris_machine.specs.Settling.{all_settled, ran_orders, due};
+ghost use Rattle.paris_machine.specs.State.{IdsApart, row_ids};
 ghost use Rattle.paris_book.specs.Among.{inputs_of};
 ghost use Rattle.paris_book.specs.Laws.{InputFits, FlagsFit, InputsFit, ActionFits, ActionsFit, NowIsDirect};
 
 use crate::book::Book;
 use crate::inputs::InputData;
+use crate::loose::Loose;
 use crate::program_rows::Rows;
 use crate::rows::RowData;
 use paris_machine::{FlagInputs, Input};
@@ -75,10 +77,9 @@ fn actions_fit(rows: &Rows)
     }
 }
 
-impl Book {
-    /// At each place, running the program once from the input data gives what the same run gives in which each instruction sees the
-    /// whole world. It changes nothing: what it ensures is the law.
-    pub fn now_is_direct(&self)
+impl Loose {
+    /// The run of the program is the direct one.
+    fn now_is_direct(&self)
         ensures { NowIsDirect self.now }
     {
         inputs_fit(&self.inputs);
@@ -86,13 +87,31 @@ impl Book {
         run_is_direct();
     }
 
-    /// To settle a book is to give up the orders that are out, and then to take an order and bring its result until no row is
-    /// unsettled. As many takes give an order as rows are unsettled. It changes nothing: what it ensures is the law.
-    pub fn orders_settle(&self)
-        ensures settled { ran_orders (unsettled_rows self.now.rows) (after_release self.now) ≡ all_settled self.now }
-        ensures orders { (n : ℕ) → n < unsettled_rows self.now.rows → IsSome (take_reply (ran_orders n (after_release self.now))) }
+    /// No id stands twice.
+    pub(crate) fn ids_are_apart(&self)
+        ensures { IdsApart (row_ids self.now.rows) }
     {
-        // Whoever touches a part knows the invariant, which says that no id stands twice.
+        // Whoever touches a part knows the invariant.
         let _rows = &self.rows;
+    }
+}
+
+impl Book {
+    /// At each place, running the program once from the input data gives what the same run gives in which each instruction sees the
+    /// whole world. It changes nothing: what it ensures is the law.
+    pub fn now_is_direct(&self)
+        ensures { NowIsDirect self.now }
+    {
+        self.loose.now_is_direct();
+    }
+
+    /// To settle a book is to give up the orders that are out, and then to take an order and bring its result until no row is
+    /// unsettled. As many takes give an order as rows are due: unsettled, with another plan or other inputs than the last kept
+    /// result. It changes nothing: what it ensures is the law.
+    pub fn orders_settle(&self)
+        ensures settled { ran_orders (due self.now) (after_release self.now) ≡ all_settled self.now }
+        ensures orders { (n : ℕ) → n < due self.now → IsSome (take_reply (ran_orders n (after_release self.now))) }
+    {
+        self.loose.ids_are_apart();
     }
 }

@@ -2,6 +2,7 @@
 #![tactic(auto)]
 
 mod book;
+mod cut_off;
 mod edits;
 mod events;
 mod inputs;
@@ -10,6 +11,7 @@ mod levels;
 mod listing;
 mod look;
 mod looks;
+mod loose;
 mod marks;
 mod play;
 mod program_rows;

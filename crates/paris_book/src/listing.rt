@@ -5,6 +5,7 @@ ghost use Rattle.paris_machine.specs.Lists.{list_of};
 ghost use Rattle.paris_book.specs.Among.{listed_entry, looks_kept};
 
 use crate::book::Book;
+use crate::loose::Loose;
 use crate::program_rows::Rows;
 use crate::refusals::cause_of;
 use crate::rows::RowData;
@@ -37,13 +38,22 @@ fn listed_among(alloc: Global, rows: &Rows) -> Result<Vec<RowLook>, AllocError>
     Ok(looks)
 }
 
+impl Loose {
+    /// The rows as they are listed.
+    fn list(&self) -> Result<Items<RowLook>, AllocError>
+        ensures { IfOk result (λ looks. looks ≡ list_of self.now) }
+    {
+        let looks = listed_among(self.alloc, &self.rows)?;
+        Ok(Items::new(looks))
+    }
+}
+
 impl Book {
     /// The rows in program order: the id, the edition, the status and the instruction of each, and where it is settled and refused
     /// where the program is run once from the input data, the cause. The error says that memory for the list was refused.
     pub fn list(&self) -> Result<Items<RowLook>, AllocError>
         ensures { IfOk result (λ looks. looks ≡ list_of self.now) }
     {
-        let looks = listed_among(self.alloc, &self.rows)?;
-        Ok(Items::new(looks))
+        self.loose.list()
     }
 }

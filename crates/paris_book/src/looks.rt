@@ -10,13 +10,13 @@ ghost use Rattle.paris_model.specs.Instructions.{reads, writes};
 ghost use Rattle.paris_depends.specs.Sweeps.{marked};
 ghost use Rattle.paris_events.specs.Rows.{is_settled, is_waiting};
 ghost use Rattle.paris_field.specs.Fields.{field_eq};
-ghost use Rattle.paris_exec.specs.Tasks.{fits};
+ghost use Rattle.paris_exec.specs.Tasks.{Task, fits};
 ghost use Rattle.paris_machine.specs.State.{input_of, start_world};
 ghost use Rattle.paris_machine.specs.Show.{shown_of};
 ghost use Rattle.paris_book.specs.Kept.{Sound, present};
 ghost use Rattle.paris_book.specs.Whole.{AllFitted, Fitted, shape_in};
 ghost use Rattle.paris_book.specs.Among.{inputs_of, look_among, shared_shown, LookFits, firm_among, next_among, firm_inputs, inputs_among, own_among};
-ghost use Rattle.paris_book.specs.Verdicts.{KeptFor, LooksAt, are_present, present_among, verdict_among};
+ghost use Rattle.paris_book.specs.Verdicts.{KeptFor, LooksAt, are_present, present_among, verdict_among, cut_among};
 ghost use Rattle.paris_book.specs.Entries.{Entry, machine_row};
 
 use crate::inputs::{InputData, input_at};
@@ -147,6 +147,33 @@ pub(crate) fn order_at(
     }
 }
 
+/// Whether the origin of a key at a place is the start or a settled row.
+pub(crate) fn is_firm(rows: &Rows, place: usize, key: &Key) -> bool
+    requires { place ≤ length rows.now.rows }
+    ensures { result ≡ firm_among rows.now.rows place key.now }
+{
+    match rows.origin(place, key) {
+        None => true,
+        Some(id) => match rows.row(id) {
+            Some(row) => row.status().is_settled(),
+            None => unreachable!(),
+        },
+    }
+}
+
+/// Whether the origins of all these keys are.
+fn are_firm(rows: &Rows, place: usize, keys: &[Key]) -> bool
+    requires { place ≤ length rows.now.rows }
+    ensures { result ≡ list_all (firm_among rows.now.rows place) keys.now }
+{
+    for key in keys {
+        if !is_firm(rows, place, key) {
+            return false;
+        }
+    }
+    true
+}
+
 /// Whether values are the present ones at the keys that a plan reads. They aren't where a key waits for an unsettled row.
 fn agree(inputs: &InputData, rows: &Rows, place: usize, plan: &Plan, values: &[SharedValue]) -> bool
     requires within { place ≤ length rows.now.rows }
@@ -182,6 +209,28 @@ fn is_present(inputs: &InputData, rows: &Rows, place: usize, order: &Order) -> b
 {
     let (_, row) = rows.at(place);
     row.plan().equals(order.plan()) && agree(inputs, rows, place, row.plan(), order.inputs())
+}
+
+/// Whether the row at a place is unsettled, and the result that was last kept of it is of its plan and of the present values. Values
+/// are compared where no key that the row reads waits, and nowhere else.
+pub(crate) fn is_cut(inputs: &InputData, rows: &Rows, place: usize) -> bool
+    requires within { place < length rows.now.rows }
+    requires sound { Sound (start_world (inputs_of inputs.now)) (λ _. true) rows.now.rows }
+    requires fitted { AllFitted (inputs_of inputs.now) rows.now.rows }
+    ensures value { (e : Entry) → slice_get rows.now.rows place ≡ Some e → result ≡ cut_among (inputs_of inputs.now) rows.now.rows place e }
+    ensures plan { (e : Entry) (d : Task) → slice_get rows.now.rows place ≡ Some e → result ≡ true → e.1.done ≡ Some d → e.1.plan ≡ d.plan }
+{
+    let (_, row) = rows.at(place);
+    if row.status().is_settled() {
+        return false;
+    }
+    match row.done() {
+        None => false,
+        Some(done) => {
+            are_firm(rows, place, row.plan().reads())
+                && is_present(inputs, rows, place, done.order())
+        }
+    }
 }
 
 /// The verdict on a result for the row at a place.

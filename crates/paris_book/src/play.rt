@@ -86,7 +86,7 @@ impl Book {
         ensures state { OnOk result (self.new ≡ after_bring self.old order.now) }
         ensures err { OnErr result (self.new ≡ self.old) }
     {
-        match execute(self.alloc, order.copy()?) {
+        match execute(self.loose.allocator(), order.copy()?) {
             Ok(done) => Ok(self.bring(done)),
             Err((_, refused)) => Err(refused),
         }
@@ -154,11 +154,11 @@ impl Book {
             × (self.new ≡ (after_moves (start_of self.old) (take (vec_len e.0) moves.items)).state)) }
         ensures fewer { IfErr result (λ e. vec_len e.0 < length moves.items) }
     {
-        let mut replies = Vec::new(self.alloc);
+        let mut replies = Vec::new(self.loose.allocator());
         if let Err(refused) = replies.reserve(moves.len()) {
             return Err((replies, refused));
         }
-        let mut orders = Vec::new(self.alloc);
+        let mut orders = Vec::new(self.loose.allocator());
         for next in moves {
             match self.play_one(&mut orders, next) {
                 Ok(reply) => push_reply(&mut replies, reply),

@@ -10,7 +10,7 @@ ghost use Rattle.paris_depends.specs.Sweeps.{touched};
 ghost use Rattle.paris_book.specs.Among.{origin_among};
 ghost use Rattle.paris_machine.specs.Settling.{unsettled_rows};
 ghost use Rattle.paris_book.specs.Entries.{Entry, ChangedAt, machine_row};
-ghost use Rattle.paris_book.specs.Marks.{data_plan, ids_in, out_data, kept_data, recalled_data, stale_data};
+ghost use Rattle.paris_book.specs.Marks.{data_plan, ids_in, out_data, kept_data, again_data, recalled_data, stale_data};
 ghost use Rattle.paris_book.specs.SharedIndexes.{HasOwnRoom, indexed_in};
 ghost use Rattle.paris_book.specs.Statuses.{next_unsettled};
 
@@ -194,6 +194,17 @@ impl Rows {
     {
         let row = self.program.at_mut(place);
         row.keep(done);
+        self.statuses.set(place, row.status());
+    }
+
+    /// Settles the row at a place by the result that was last kept of it.
+    pub(crate) fn settle_again(&mut self, place: usize)
+        requires { place < length self.old.rows }
+        ensures rows { ChangedAt again_data self.old.rows place self.new.rows }
+        ensures next_id { self.new.next_id ≡ self.old.next_id }
+    {
+        let row = self.program.at_mut(place);
+        row.settle_again();
         self.statuses.set(place, row.status());
     }
 

@@ -5,6 +5,7 @@ ghost use Rattle.paris_machine.specs.Lists.{faults_of};
 ghost use Rattle.paris_book.specs.Among.{cause_kept, faults_kept};
 
 use crate::book::Book;
+use crate::loose::Loose;
 use crate::program_rows::Rows;
 use crate::rows::RowData;
 use paris_events::RowFault;
@@ -43,13 +44,22 @@ fn faults_among(alloc: Global, rows: &Rows) -> Result<Vec<RowFault>, AllocError>
     Ok(faults)
 }
 
+impl Loose {
+    /// The settled rows that are refused.
+    fn faults(&self) -> Result<Items<RowFault>, AllocError>
+        ensures { IfOk result (λ faults. faults ≡ faults_of self.now) }
+    {
+        let faults = faults_among(self.alloc, &self.rows)?;
+        Ok(Items::new(faults))
+    }
+}
+
 impl Book {
     /// The settled rows whose instructions are refused where the program is run once from the input data, in program order, with
     /// the cause. The error says that memory for the list was refused.
     pub fn faults(&self) -> Result<Items<RowFault>, AllocError>
         ensures { IfOk result (λ faults. faults ≡ faults_of self.now) }
     {
-        let faults = faults_among(self.alloc, &self.rows)?;
-        Ok(Items::new(faults))
+        self.loose.faults()
     }
 }

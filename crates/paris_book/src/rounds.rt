@@ -1,14 +1,15 @@
 //! Settling a book by several workers. The rows of a level are run at once, one level after another.
 
 ghost use Rattle.std.specs.Prelude.{◌≡◌, ℕ, ◌<◌, ◌≤◌, ◌+◌, length, slice_index_or, OnOk, OnErr, IfOk, IfErr};
-ghost use Rattle.paris_machine.specs.Orders.{after_release};
-ghost use Rattle.paris_machine.specs.Settling.{all_settled, unsettled_rows};
-ghost use Rattle.paris_book.specs.Rounds.{Advances, StaySettled, OutAreFirm, RunsTo, HasRun, HoldsResult, HoldOrders, HoldResults};
+ghost use Rattle.paris_machine.specs.Orders.{IsIdle, after_release};
+ghost use Rattle.paris_machine.specs.Settling.{all_settled, unsettled_rows, due};
+ghost use Rattle.paris_book.specs.Rounds.{Advances, StaySettled, OutAreFirm, RunsTo, HasRun, HoldsTask, HoldOrders, HoldResults, ran_of};
 ghost use Rattle.paris_book.specs.declared.rounds.Slot.{Slot as SlotShape};
 ghost use Rattle.paris_names.specs.declared.limits.TheConstants.{MAX_WORKERS};
 
 use crate::book::Book;
 use crate::levels::{LeveledRow, level_end, rows_by_level};
+use crate::loose::Loose;
 use crate::settlement::{SettleFault, execute_inside};
 use paris_exec::{Done, Gate, Order};
 use std::alloc::{AllocError, Global};
@@ -64,113 +65,172 @@ fn run_slots<R: Threads + Sync, G: Gate + Sync>(
     );
 }
 
-impl Book {
-    /// The orders of these rows that can be run now. The room for them is made before the first.
-    fn orders_of(&self, rows: &[LeveledRow]) -> Result<Vec<Slot>, AllocError>
-        ensures { IfOk result (λ slots. HoldOrders self.now slots.items) }
+impl Loose {
+    /// Gives the row at a place its turn, where it needs no order: it is settled, or it would compute again what it computed last. Else
+    /// its order is added, if it can be run now.
+    fn order_or_settle(&mut self, place: usize, slots: &mut Vec<Slot>) -> Result<(), AllocError>
+        requires { HoldOrders self.old slots.old.items }
+        ensures advances { Advances 0 self.old self.new }
+        ensures slots { HoldOrders self.new slots.new.items }
+    {
+        if self.cut_at(place) {
+            return Ok(());
+        }
+        if let Some(order) = self.own_order(place)? {
+            slots.push(Slot::new(place, order))?;
+        }
+        Ok(())
+    }
+
+    /// The orders of these rows that have to be run and can be run now. Rows that would compute again what they computed last are
+    /// settled with that. The room for the orders is made before the first.
+    fn orders_of(&mut self, rows: &[LeveledRow]) -> Result<Vec<Slot>, AllocError>
+        ensures advances { Advances 0 self.old self.new }
+        ensures slots { IfOk result (λ slots. HoldOrders self.new slots.items) }
     {
         let mut slots = Vec::with_capacity(self.alloc, rows.len())?;
         for row in rows {
-            if let Some(order) = self.own_order(row.place)? {
-                slots.push(Slot::new(row.place, order))?;
-            }
+            self.order_or_settle(row.place, &mut slots)?;
         }
         Ok(slots)
     }
 
-    /// Settles a slot's row by the result that the slot holds, and says whether it holds one.
-    fn keep_slot(&mut self, slot: Slot) -> bool
-        requires { HoldsResult self.old slot }
-        ensures { Advances self.old self.new }
+    /// Settles the row at a place by the result of the order that it would give now, unless it is settled. The answer is how many
+    /// rows were settled, which is 1 or 0.
+    fn keep_unsettled(&mut self, place: usize, done: Done) -> u64
+        requires { HoldsTask self.old place done }
+        ensures { Advances result self.old self.new }
     {
-        let Slot { place, done, .. } = slot;
-        match done {
-            None => false,
-            Some(done) => {
-                self.keep_own(place, done);
-                true
-            }
+        if self.is_settled_at(place) {
+            return 0;
         }
+        self.keep_own(place, done);
+        1
     }
 
-    /// Settles the rows of the slots that hold results. The error says that there is a slot with none.
-    fn keep_slots(&mut self, slots: Vec<Slot>) -> Result<(), AllocError>
+    /// Settles the rows of the slots that hold results, and counts them. The error says that there is a slot with none.
+    fn keep_slots(&mut self, slots: Vec<Slot>) -> Result<u64, SettleFault>
         requires { HoldResults self.old slots.items }
-        ensures { Advances self.old self.new }
+        ensures { Advances (ran_of result) self.old self.new }
     {
+        // How many rows are unsettled bounds how many are run.
+        let _unsettled = self.unsettled_count();
+        let mut ran = 0;
         let mut complete = true;
         for slot in slots {
-            if !self.keep_slot(slot) {
-                complete = false;
+            let Slot { place, done, .. } = slot;
+            match done {
+                None => complete = false,
+                Some(done) => ran += self.keep_unsettled(place, done),
             }
         }
-        if complete { Ok(()) } else { Err(AllocError) }
+        if complete {
+            Ok(ran)
+        } else {
+            Err(SettleFault { ran })
+        }
     }
 
-    /// Runs the rows of a level: one without a thread, and several at once. The error says that memory was refused.
+    /// Gives the row at a place its turn, and counts whether it was run.
+    fn turn_of<G: Gate>(&mut self, gate: &G, place: usize) -> Result<u64, SettleFault>
+        ensures { Advances (ran_of result) self.old self.new }
+    {
+        match self.turn_at(gate, place) {
+            Ok(ran) => Ok(ran),
+            Err(_) => Err(SettleFault { ran: 0 }),
+        }
+    }
+
+    /// Gives the rows of a level their turn: one without a thread, and several at once. The answer is how many were run, at an error
+    /// too, which says that memory was refused.
     fn run_level<R: Threads + Sync, G: Gate + Sync>(
         &mut self,
         rt: &R,
         workers: usize,
         gate: &G,
         rows: &[LeveledRow],
-    ) -> Result<(), AllocError>
+    ) -> Result<u64, SettleFault>
         requires { 0 < workers }
-        ensures { Advances self.old self.new }
+        ensures { Advances (ran_of result) self.old self.new }
     {
         if let [row] = rows {
-            return self.run_at(gate, row.place);
+            return self.turn_of(gate, row.place);
         }
-        let mut slots = self.orders_of(rows)?;
-        run_slots(rt, self.alloc, workers, gate, slots.as_mut_slice());
-        self.keep_slots(slots)
+        match self.orders_of(rows) {
+            Err(_) => Err(SettleFault { ran: 0 }),
+            Ok(mut slots) => {
+                run_slots(rt, self.alloc, workers, gate, slots.as_mut_slice());
+                self.keep_slots(slots)
+            }
+        }
     }
 
-    /// Runs the unsettled rows level by level. The error says that memory was refused.
+    /// Gives the unsettled rows their turn level by level. The answer is how many were run, at an error too, which says that memory
+    /// was refused.
     fn run_levels<R: Threads + Sync, G: Gate + Sync>(
         &mut self,
         rt: &R,
         workers: usize,
         gate: &G,
-    ) -> Result<(), AllocError>
+    ) -> Result<u64, SettleFault>
         requires { 0 < workers }
-        ensures { Advances self.old self.new }
+        ensures { Advances (ran_of result) self.old self.new }
     {
-        let rows = rows_by_level(self.alloc, &self.rows)?;
+        // How many rows are unsettled bounds how many are run.
+        let _unsettled = self.unsettled_count();
+        let Ok(rows) = rows_by_level(self.alloc, &self.rows) else {
+            return Err(SettleFault { ran: 0 });
+        };
+        let mut ran = 0;
         let mut start = 0;
         while start < rows.len() {
             let end = level_end(rows.as_slice(), start);
-            self.run_level(rt, workers, gate, &rows[start..end])?;
+            match self.run_level(rt, workers, gate, &rows[start..end]) {
+                Ok(more) => ran += more,
+                Err(fault) => {
+                    return Err(SettleFault {
+                        ran: ran + fault.ran,
+                    });
+                }
+            }
             start = end;
         }
-        Ok(())
+        Ok(ran)
     }
 
-    /// Runs all unsettled rows: level by level where several workers are given, and what is left in program order. The error says
-    /// that memory was refused.
+    /// Settles all rows: level by level where several workers are given, and what is left in program order. The answer is how many
+    /// were run, at an error too, which says that memory was refused. No row is out.
     fn run_all<R: Threads + Sync, G: Gate + Sync>(
         &mut self,
         rt: &R,
         workers: usize,
         gate: &G,
-    ) -> Result<(), AllocError>
-        requires { 0 < workers }
-        ensures advances { Advances self.old self.new }
+    ) -> Result<u64, SettleFault>
+        requires workers { 0 < workers }
+        requires idle { IsIdle self.old.rows }
+        ensures advances { Advances (ran_of result) self.old self.new }
         ensures ok { OnOk result (unsettled_rows self.new.rows ≡ 0) }
     {
+        // How many rows are unsettled bounds how many are run.
+        let _unsettled = self.unsettled_count();
+        let mut ran = 0;
         if workers > 1 {
-            self.run_levels(rt, workers, gate)?;
+            ran = self.run_levels(rt, workers, gate)?;
         }
         match self.run_in_order(gate) {
-            Ok(_) => Ok(()),
-            Err(_) => Err(AllocError),
+            Ok(more) => Ok(ran + more),
+            Err(fault) => Err(SettleFault {
+                ran: ran + fault.ran,
+            }),
         }
     }
+}
 
+impl Book {
     /// Settles the book as `settle` does, with at most so many orders executed at once, each inside the gate. The answer is how many
-    /// rows were unsettled. The error says that memory was refused: as many orders were run as it says, each of a row that was ready,
-    /// the other rows are unsettled with their editions, rows of further orders may be out, which read settled keys alone, and the
-    /// book can be settled again.
+    /// were run, whatever the number of workers. The error says that memory was refused: as many orders were run as it says, each of
+    /// a row that was ready, the rows that were settled stay so, rows of further orders may be out, which read settled keys alone,
+    /// and the book can be settled again.
     pub fn settle_par<R: Threads + Sync, G: Gate + Sync>(
         &mut self,
         rt: &R,
@@ -178,25 +238,26 @@ impl Book {
         gate: &G,
     ) -> Result<u64, SettleFault>
         requires workers { (1 ≤ workers) × (workers ≤ MAX_WORKERS) }
-        ensures count { IfOk result (λ ran. ran ≡ unsettled_rows self.old.rows) }
+        ensures count { IfOk result (λ ran. ran ≡ due self.old) }
         ensures settled { OnOk result (self.new ≡ all_settled self.old) }
         ensures same { OnErr result (all_settled self.new ≡ all_settled self.old) }
         ensures stay { OnErr result (StaySettled self.old.rows self.new.rows) }
-        ensures left { IfErr result (λ fault. unsettled_rows self.new.rows + fault.ran ≡ unsettled_rows self.old.rows) }
-        ensures fewer { IfErr result (λ fault. fault.ran < unsettled_rows self.old.rows) }
+        ensures left { IfErr result (λ fault. due self.new + fault.ran ≡ due self.old) }
+        ensures rows { IfErr result (λ fault. unsettled_rows self.new.rows + fault.ran ≤ unsettled_rows self.old.rows) }
+        ensures fewer { IfErr result (λ fault. fault.ran < due self.old) }
         ensures runs { IfErr result (λ fault. RunsTo fault.ran (after_release self.old) (after_release self.new)) }
         ensures out { OnErr result (OutAreFirm self.new) }
     {
-        let count = self.unsettled_count();
-        self.release();
-        if self.run_all(rt, workers, gate).is_ok() {
-            return Ok(count as u64);
+        self.loose.release();
+        match self.loose.run_all(rt, workers, gate) {
+            Ok(ran) => Ok(ran),
+            Err(fault) => {
+                self.loose.cut_off();
+                if self.loose.unsettled_count() == 0 {
+                    return Ok(fault.ran);
+                }
+                Err(fault)
+            }
         }
-        let left = self.unsettled_count();
-        if left == 0 {
-            return Ok(count as u64);
-        }
-        let ran = count - left;
-        Err(SettleFault { ran: ran as u64 })
     }
 }

@@ -2,7 +2,8 @@
 
 ghost use Rattle.std.specs.Prelude.{◌≡◌, IfOk};
 ghost use Rattle.std.specs.Option.{option_copied};
-ghost use Rattle.paris_book.specs.Marks.{fresh_data, out_data, kept_data, recalled_data, stale_data};
+ghost use Rattle.paris_book.specs.RowsInside.{plan_held, done_held};
+ghost use Rattle.paris_book.specs.Marks.{fresh_data, replaced_data, out_data, kept_data, again_data, recalled_data, stale_data};
 
 use paris_events::Status;
 use paris_exec::Done;
@@ -11,11 +12,15 @@ use paris_names::Edition;
 use std::alloc::{AllocError, Global};
 use std::marker::Model;
 
-/// The plan of a row, or the result that was last kept of it, whose order has that plan.
+/// The plan of a row, with the result that was last kept of it, if there is one.
 #[derive(Debug, Drop)]
 pub(crate) enum Held {
+    /// A plan of which no result was kept yet.
     Plan(SharedPlan),
+    /// A result, whose order has the plan.
     Done(Done),
+    /// A plan that an edit put in place of another one, and the result that was kept before it.
+    Replaced(SharedPlan, Done),
 }
 
 impl Held {
@@ -26,6 +31,28 @@ impl Held {
         match self {
             Held::Plan(plan) => Ok(Held::Plan(plan.copy()?)),
             Held::Done(done) => Ok(Held::Done(done.copy()?)),
+            Held::Replaced(plan, done) => Ok(Held::Replaced(plan.copy()?, done.copy()?)),
+        }
+    }
+
+    /// The result, if there is one.
+    fn done(&self) -> Option<&Done>
+        ensures { option_copied result ≡ done_held self.now }
+    {
+        match self {
+            Held::Plan(_) => None,
+            Held::Done(done) | Held::Replaced(_, done) => Some(done),
+        }
+    }
+
+    /// Another plan, with the same result. It is shared.
+    fn with_plan(&self, plan: SharedPlan) -> Result<Held, AllocError>
+        ensures plan { IfOk result (λ held. plan_held held ≡ plan) }
+        ensures done { IfOk result (λ held. done_held held ≡ done_held self.now) }
+    {
+        match self.done() {
+            None => Ok(Held::Plan(plan)),
+            Some(done) => Ok(Held::Replaced(plan, done.copy()?)),
         }
     }
 }
@@ -73,12 +100,31 @@ impl RowData {
         })
     }
 
+    /// The row once the edit of this number has given it another plan. It keeps the result.
+    pub(crate) fn replaced(
+        &self,
+        alloc: Global,
+        plan: Plan,
+        number: u64,
+    ) -> Result<RowData, AllocError>
+        ensures { IfOk result (λ row. row ≡ replaced_data plan number self.now) }
+    {
+        let plan = shared(alloc, plan)?;
+        let held = self.held.with_plan(plan)?;
+        Ok(RowData {
+            held,
+            set_by: number,
+            edition: Edition(number),
+            status: Status::Waiting,
+        })
+    }
+
     /// The plan.
     pub(crate) fn plan(&self) -> &Plan
         ensures { result.now ≡ self.now.plan }
     {
         match &self.held {
-            Held::Plan(plan) => plan.get(),
+            Held::Plan(plan) | Held::Replaced(plan, _) => plan.get(),
             Held::Done(done) => done.order().plan(),
         }
     }
@@ -88,7 +134,7 @@ impl RowData {
         ensures { IfOk result (λ plan. plan ≡ self.now.plan) }
     {
         match &self.held {
-            Held::Plan(plan) => plan.copy(),
+            Held::Plan(plan) | Held::Replaced(plan, _) => plan.copy(),
             Held::Done(done) => shared(alloc, done.order().plan().copy()?),
         }
     }
@@ -111,10 +157,7 @@ impl RowData {
     pub(crate) fn done(&self) -> Option<&Done>
         ensures { option_copied result ≡ self.now.done }
     {
-        match &self.held {
-            Held::Plan(_) => None,
-            Held::Done(done) => Some(done),
-        }
+        self.held.done()
     }
 
     /// Marks the row as one of which an order is out.
@@ -131,6 +174,13 @@ impl RowData {
     {
         self.status = Status::Settled;
         self.held = Held::Done(done);
+    }
+
+    /// Settles the row by the result that was last kept.
+    pub(crate) fn settle_again(&mut self)
+        ensures { self.new ≡ again_data self.old }
+    {
+        self.status = Status::Settled;
     }
 
     /// Makes the row wait if an order of it is out.

@@ -1,17 +1,19 @@
 //! Settling a book: orders that are out are given up, and rows are run until every row is settled.
 
-ghost use Rattle.std.specs.Prelude.{◌≡◌, ◌<◌, ◌≤◌, ◌+◌, ◌⊎◌, length, Some, map, OnOk, OnErr, IfOk, IfErr, IfSome};
+ghost use Rattle.std.specs.Prelude.{◌≡◌, ◌<◌, ◌≤◌, ◌+◌, ◌⊎◌, length, true, if◌then◌else◌, Some, map, OnOk, OnErr, IfOk, IfErr, IfSome};
 ghost use Rattle.paris_names.specs.declared.limits.TheConstants.{MAX_ROWS};
-ghost use Rattle.paris_machine.specs.Orders.{after_release, after_take};
-ghost use Rattle.paris_machine.specs.Settling.{ran_orders, all_settled, unsettled_rows};
+ghost use Rattle.paris_machine.specs.CutOff.{cut_off};
+ghost use Rattle.paris_machine.specs.Orders.{IsIdle, after_release, after_take};
+ghost use Rattle.paris_machine.specs.Settling.{ran_orders, all_settled, unsettled_rows, due};
 ghost use Rattle.paris_book.specs.Marks.{recalled_data};
 ghost use Rattle.paris_book.specs.Entries.{with_data};
-ghost use Rattle.paris_book.specs.Rounds.{StaySettled};
+ghost use Rattle.paris_book.specs.Rounds.{StaySettled, Advances, ran_of};
 ghost use Rattle.paris_book.specs.Statuses.{next_unsettled};
-ghost use Rattle.paris_book.specs.Steps.{own_order, settled_at, ran_at, settled_times};
+ghost use Rattle.paris_book.specs.Steps.{own_order, run_at, left_at, runs_at, turned_at};
 
 use crate::book::Book;
 use crate::looks::order_at;
+use crate::loose::Loose;
 use crate::program_rows::Rows;
 use paris_exec::{Done, Gate, OpenGate, Order, execute};
 use std::alloc::{AllocError, Global};
@@ -49,17 +51,18 @@ pub fn execute_inside<G: Gate>(alloc: Global, gate: &G, order: Order) -> Option<
     done
 }
 
-impl Book {
+impl Loose {
     /// Gives up the orders that are out: every row that is out waits, with its edition. It takes no memory.
-    pub fn release(&mut self)
+    pub(crate) fn release(&mut self)
         ensures { self.new ≡ after_release self.old }
     {
         recall_all(&mut self.rows);
     }
 
     /// The first place from one on with an unsettled row. `None` where all rows from there on are settled.
-    fn next_unsettled(&self, from: usize) -> Option<usize>
+    pub(crate) fn next_unsettled(&self, from: usize) -> Option<usize>
         ensures value { result ≡ next_unsettled self.now.rows from }
+        ensures within { IfSome result (λ place. (from ≤ place) × (place < length self.now.rows)) }
         ensures few { length self.now.rows ≤ MAX_ROWS }
     {
         self.rows.next_unsettled(from)
@@ -68,7 +71,8 @@ impl Book {
     /// An order for the row at a place, whatever its status. `None` where there is no row, or where a key that it reads waits for an
     /// unsettled row.
     pub(crate) fn own_order(&self, place: usize) -> Result<Option<Order>, AllocError>
-        ensures { IfOk result (λ order. order ≡ own_order self.now place) }
+        ensures order { IfOk result (λ order. order ≡ own_order self.now place) }
+        ensures there { OnErr result (place < length self.now.rows) }
     {
         if place >= self.rows.len() {
             return Ok(None);
@@ -79,67 +83,85 @@ impl Book {
     /// Settles the row at a place by the result of the order that the row would give now. Nothing is compared.
     pub(crate) fn keep_own(&mut self, place: usize, done: Done)
         requires { own_order self.old place ≡ Some done }
-        ensures { self.new ≡ settled_at self.old place }
+        ensures { self.new ≡ run_at self.old place }
     {
         self.rows.keep(place, done);
     }
 
-    /// Makes an order for the row at a place, executes it inside a gate and settles the row, unless a key that it reads waits for an
-    /// unsettled row. At an error the book is as it was.
-    pub(crate) fn run_at<G: Gate>(&mut self, gate: &G, place: usize) -> Result<(), AllocError>
-        ensures ok { OnOk result (self.new ≡ ran_at self.old place) }
+    /// Gives the row at a place its turn. An unsettled row that would compute again what it computed last is settled with that. Any
+    /// other one is run: its order is made, executed inside a gate, and the result is kept, unless a key that it reads waits. The
+    /// answer is how many rows were run, which is 1 or 0. At an error nothing has changed.
+    pub(crate) fn turn_at<G: Gate>(&mut self, gate: &G, place: usize) -> Result<u64, AllocError>
+        ensures ran { IfOk result (λ ran. ran ≡ (if runs_at self.old place then 1 else 0)) }
+        ensures state { OnOk result (self.new ≡ turned_at self.old place) }
         ensures err { OnErr result (self.new ≡ self.old) }
+        ensures left { OnErr result (left_at self.old place ≡ true) }
     {
+        if self.is_settled_at(place) {
+            return Ok(0);
+        }
+        if self.cut_at(place) {
+            return Ok(0);
+        }
         let Some(order) = self.own_order(place)? else {
-            return Ok(());
+            return Ok(0);
         };
         match execute_inside(self.alloc, gate, order) {
             None => Err(AllocError),
             Some(done) => {
                 self.keep_own(place, done);
-                Ok(())
+                Ok(1)
             }
         }
     }
 
-    /// Runs the unsettled rows in program order, each inside a gate: a row's turn comes when all rows before it are settled, so no
-    /// key that it reads waits. The answer is how many were run. At an error the row whose turn it was is as it was.
+    /// Settles all rows in program order: a row's turn comes when all rows before it are settled, so no key that it reads waits. The
+    /// answer is how many were run. At an error the row whose turn it was is as it was. No row is out.
     pub(crate) fn run_in_order<G: Gate>(&mut self, gate: &G) -> Result<u64, SettleFault>
-        ensures count { IfOk result (λ ran. ran ≡ unsettled_rows self.old.rows) }
-        ensures ran { IfOk result (λ ran. self.new ≡ record self.old { rows = settled_times ran self.old.rows }) }
-        ensures stopped { IfErr result (λ fault. self.new ≡ record self.old { rows = settled_times fault.ran self.old.rows }) }
-        ensures fewer { IfErr result (λ fault. fault.ran < unsettled_rows self.old.rows) }
+        requires { IsIdle self.old.rows }
+        ensures settled { OnOk result (unsettled_rows self.new.rows ≡ 0) }
+        ensures state { cut_off self.new ≡ ran_orders (ran_of result) (cut_off self.old) }
+        ensures advances { Advances (ran_of result) self.old self.new }
+        ensures fewer { IfErr result (λ fault. fault.ran < due self.old) }
     {
+        self.ids_are_apart();
         let mut ran = 0;
         let mut from = 0;
         while let Some(place) = self.next_unsettled(from) {
-            let Ok(()) = self.run_at(gate, place) else {
+            let Ok(more) = self.turn_at(gate, place) else {
                 return Err(SettleFault { ran });
             };
-            ran += 1;
+            ran += more;
             from = place + 1;
         }
         Ok(ran)
     }
+}
 
+impl Book {
     /// Gives up the orders that are out, and then takes orders, executes them and brings their results until every row is settled.
-    /// The answer is how many orders were run, one for each row that was unsettled. The error says that memory was refused: the
-    /// rows of the orders that were run are settled, those that were settled stay so, the row of one more order may be out, and the
-    /// book can be settled again.
+    /// The answer is how many orders were run, one for each row that was due: unsettled, with another plan or other inputs than its
+    /// last kept result. The error says that memory was refused: the rows of the orders that were run are settled, those that were
+    /// settled stay so, the row of one more order may be out, and the book can be settled again.
     pub fn settle(&mut self) -> Result<u64, SettleFault>
-        ensures count { IfOk result (λ ran. ran ≡ unsettled_rows self.old.rows) }
+        ensures count { IfOk result (λ ran. ran ≡ due self.old) }
         ensures settled { OnOk result (self.new ≡ all_settled self.old) }
         ensures ran { IfOk result (λ ran. self.new ≡ ran_orders ran (after_release self.old)) }
         ensures stopped { IfErr result (λ fault. (self.new ≡ ran_orders fault.ran (after_release self.old))
             ⊎ (self.new ≡ after_take (ran_orders fault.ran (after_release self.old)))) }
-        ensures fewer { IfErr result (λ fault. fault.ran < unsettled_rows self.old.rows) }
-        ensures left { IfErr result (λ fault. unsettled_rows self.new.rows + fault.ran ≡ unsettled_rows self.old.rows) }
+        ensures fewer { IfErr result (λ fault. fault.ran < due self.old) }
+        ensures left { IfErr result (λ fault. due self.new + fault.ran ≡ due self.old) }
+        ensures rows { IfErr result (λ fault. unsettled_rows self.new.rows + fault.ran ≤ unsettled_rows self.old.rows) }
         ensures same { OnErr result (all_settled self.new ≡ all_settled self.old) }
         ensures stay { OnErr result (StaySettled self.old.rows self.new.rows) }
     {
-        // The rows are what says that no id stands twice.
-        let _rows = &self.rows;
-        self.release();
-        self.run_in_order(&OpenGate)
+        self.loose.release();
+        match self.loose.run_in_order(&OpenGate) {
+            Ok(ran) => Ok(ran),
+            Err(fault) => {
+                self.loose.cut_off();
+                Err(fault)
+            }
+        }
     }
 }

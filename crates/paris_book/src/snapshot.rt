@@ -5,6 +5,7 @@ ghost use Rattle.paris_book.specs.Among.{inputs_of};
 
 use crate::book::Book;
 use crate::inputs::InputData;
+use crate::loose::Loose;
 use paris_machine::{FlagInputs, Input};
 use std::alloc::{AllocError, Global};
 
@@ -66,6 +67,24 @@ fn copy_of_inputs(alloc: Global, inputs: &InputData) -> Result<InputData, AllocE
     Ok(InputData { fields, flags })
 }
 
+impl Loose {
+    /// The same parts once more.
+    fn copy(&self) -> Result<Loose, AllocError>
+        ensures { IfOk result (λ copy. copy ≡ self.now) }
+    {
+        let board = self.board.copy()?;
+        let inputs = copy_of_inputs(self.alloc, &self.inputs)?;
+        let rows = self.rows.copy()?;
+        Ok(Loose {
+            board,
+            edits: self.edits,
+            inputs,
+            rows,
+            alloc: self.alloc,
+        })
+    }
+}
+
 impl Book {
     /// A book in the same state: with the same declarations, count of edits, input data, rows and orders out. It keeps the same
     /// results, and shares all values with this one. What is done with either book later leaves the other as it is. The error says
@@ -73,15 +92,7 @@ impl Book {
     pub fn snapshot(&self) -> Result<Book, AllocError>
         ensures { IfOk result (λ book. book ≡ self.now) }
     {
-        let board = self.board.copy()?;
-        let inputs = copy_of_inputs(self.alloc, &self.inputs)?;
-        let rows = self.rows.copy()?;
-        Ok(Book {
-            board,
-            edits: self.edits,
-            inputs,
-            rows,
-            alloc: self.alloc,
-        })
+        let loose = self.loose.copy()?;
+        Ok(Book { loose })
     }
 }

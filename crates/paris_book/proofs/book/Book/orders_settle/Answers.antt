@@ -1,9 +1,20 @@
-use Rattle.paris_book.specs.Among.{inputs_of}
-use Rattle.paris_book.proofs.Countdown.{rows_apart, ran_all, order_left}
+use Rattle.std.proofs.Common.{subst}
+use Rattle.paris_machine.specs.State.{State, IdsApart, row_ids}
+use Rattle.paris_machine.specs.CutOff.{IsAtRest}
+use Rattle.paris_machine.proofs.Ends.{ran_ends, order_left}
+use Rattle.paris_machine.proofs.Rests.{at_rest}
 use Rattle.paris_book.proofs.book.Book.orders_settle.Goals as goal
 
 pub returns-clause-settled : goal.returns-clause-settled
-returns-clause-settled c = ran_all c.args.self.now (rows_apart c.self.inside.board c.self.inside.edits c.self.inside.rows.next_id (inputs_of c.self.inside.inputs) c.self.inside.rows.rows c.args.self.now c.self.view_is c.self.invariant)
+returns-clause-settled c =
+    let s = c.args.self.now in
+    let rests : IsAtRest s = subst IsAtRest c.self.view_is c.self.invariant in
+    let apart : IdsApart (row_ids s.rows) = subst (λ (z : State). IdsApart (row_ids z.rows)) c.self.view_is c.ids_are_apart.ensures in
+    (ran_ends s (at_rest s rests) apart).1
 
 pub returns-clause-orders : goal.returns-clause-orders
-returns-clause-orders c n more = order_left n c.args.self.now (rows_apart c.self.inside.board c.self.inside.edits c.self.inside.rows.next_id (inputs_of c.self.inside.inputs) c.self.inside.rows.rows c.args.self.now c.self.view_is c.self.invariant) more
+returns-clause-orders c n more =
+    let s = c.args.self.now in
+    let rests : IsAtRest s = subst IsAtRest c.self.view_is c.self.invariant in
+    let apart : IdsApart (row_ids s.rows) = subst (λ (z : State). IdsApart (row_ids z.rows)) c.self.view_is c.ids_are_apart.ensures in
+    order_left s (at_rest s rests) apart n more

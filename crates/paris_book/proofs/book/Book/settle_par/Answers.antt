@@ -1,63 +1,52 @@
-use Rattle.std.proofs.Common.{◌≡◌, ◌∙◌, sym, ap, subst, arith, true, Some, slice_get}
-use Rattle.std.specs.Prelude.{Result, Ok, Err, OnOk, is_ok}
+use Rattle.std.proofs.Common.{sym, ap, ◌∙◌, subst}
+use Rattle.paris_machine.specs.Orders.{IsIdle, after_release}
 use Rattle.paris_machine.specs.State.{State}
-use Rattle.paris_machine.specs.Orders.{after_release}
-use Rattle.paris_machine.specs.Settling.{all_settled, unsettled_rows}
-use Rattle.paris_book.specs.Rounds.{OutAreFirm, RunsTo}
-use Rattle.paris_book.proofs.Countdown.{count_recalled}
-use Rattle.paris_book.proofs.Rounding.{stay_recalled, all_recalled, release_twice}
-use Rattle.paris_book.proofs.RoundRuns.{out_released, advances_counted, settled_now}
+use Rattle.paris_machine.specs.CutOff.{IsAtRest}
+use Rattle.paris_machine.proofs.Ends.{idle_recalled}
+use Rattle.paris_book.proofs.Endings.{all_rest, all_count, all_are_settled, end_rests, end_due, end_due_none, end_rows, end_same, end_stay, end_fewer, end_runs, end_out}
 use Rattle.paris_book.proofs.book.Book.settle_par.Goals as goal
 
-at_ok : {T E : Type 0} (r : Result T E) (P : Type 0) → is_ok r ≡ true → OnOk r P → P
-at_ok (Ok x) P h p = p
-at_ok (Err e) P h p = absurd (cc)
+pub run_all-requires-clause-idle : goal.run_all-requires-clause-idle
+run_all-requires-clause-idle g c κs within = subst (λ (s : State). IsIdle s.rows) (sym c.release.ensures) (idle_recalled c.self.inside.loose.rows)
 
-pub returns-then-is_ok-clause-settled : goal.returns-then-is_ok-clause-settled
-returns-then-is_ok-clause-settled g c =
-    let none = at_ok c.run_all.result _ (sym c.is_ok.ensures.value ∙ c.if-is_ok.true) c.run_all.ensures.ok in
-    settled_now c.release.new.self c.run_all.new.self c.run_all.ensures.advances none ∙ ap all_settled c.release.ensures ∙ all_recalled c.args.self.now
+pub invariant_of-self : goal.invariant_of-self
+invariant_of-self g c = all_rest c.args.self.now c.release.new.self c.run_all.new.self c.in-Ok.ran (subst IsAtRest c.self.view_is c.self.invariant) (c.release.ensures ∙ ap after_release c.self.view_is) c.in-Ok.ensures.advances c.in-Ok.ensures.ok
 
-pub returns-then-left-eq0-clause-settled : goal.returns-then-left-eq0-clause-settled
-returns-then-left-eq0-clause-settled g c =
-    settled_now c.release.new.self c.run_all.new.self c.run_all.ensures.advances (sym c.unsettled_count-left.ensures ∙ c.if-left-eq0.true) ∙ ap all_settled c.release.ensures ∙ all_recalled c.args.self.now
+pub invariant_of-self-then-unsettled_count-eq0 : goal.invariant_of-self-then-unsettled_count-eq0
+invariant_of-self-then-unsettled_count-eq0 g c = end_rests c.args.self.now c.release.new.self c.run_all.new.self c.in-Err.fault.ran (subst IsAtRest c.self.view_is c.self.invariant) (c.release.ensures ∙ ap after_release c.self.view_is) c.in-Err.ensures.advances c.cut_off.new.self c.cut_off.ensures
 
-pub overflow_sub-ran : goal.overflow_sub-ran
-overflow_sub-ran g c =
-    let released : unsettled_rows c.release.new.self.rows ≡ unsettled_rows c.args.self.now.rows = ap (λ (s : State). unsettled_rows s.rows) c.release.ensures ∙ count_recalled c.args.self.now.rows in
-    let counted = advances_counted c.release.new.self c.run_all.new.self c.run_all.ensures.advances in
-    omega (arith, released, counted, c.unsettled_count-count.ensures, c.unsettled_count-left.ensures)
+pub returns-then-unsettled_count-eq0-clause-count : goal.returns-then-unsettled_count-eq0-clause-count
+returns-then-unsettled_count-eq0-clause-count g c = (end_due_none c.args.self.now c.release.new.self c.run_all.new.self c.in-Err.fault.ran (subst IsAtRest c.self.view_is c.self.invariant) (c.release.ensures ∙ ap after_release c.self.view_is) c.in-Err.ensures.advances c.cut_off.new.self c.cut_off.ensures (sym c.unsettled_count.ensures ∙ c.if-unsettled_count-eq0.true)).0
 
-pub returns-clause-same : goal.returns-clause-same
-returns-clause-same g c = c.run_all.ensures.advances.same ∙ ap all_settled c.release.ensures ∙ all_recalled c.args.self.now
+pub returns-then-unsettled_count-eq0-clause-settled : goal.returns-then-unsettled_count-eq0-clause-settled
+returns-then-unsettled_count-eq0-clause-settled g c = (end_due_none c.args.self.now c.release.new.self c.run_all.new.self c.in-Err.fault.ran (subst IsAtRest c.self.view_is c.self.invariant) (c.release.ensures ∙ ap after_release c.self.view_is) c.in-Err.ensures.advances c.cut_off.new.self c.cut_off.ensures (sym c.unsettled_count.ensures ∙ c.if-unsettled_count-eq0.true)).1
 
-pub returns-clause-stay : goal.returns-clause-stay
-returns-clause-stay g c = λ place r at settled.
-    c.run_all.ensures.advances.stay place r (subst (λ (s : State). slice_get s.rows place ≡ Some r) (sym c.release.ensures) (stay_recalled c.args.self.now.rows place r at settled)) settled
+pub invariant_of-self-in-Err : goal.invariant_of-self-in-Err
+invariant_of-self-in-Err g c = end_rests c.args.self.now c.release.new.self c.run_all.new.self c.in-Err.fault.ran (subst IsAtRest c.self.view_is c.self.invariant) (c.release.ensures ∙ ap after_release c.self.view_is) c.in-Err.ensures.advances c.cut_off.new.self c.cut_off.ensures
 
-pub returns-clause-left : goal.returns-clause-left
-returns-clause-left g c =
-    let released : unsettled_rows c.release.new.self.rows ≡ unsettled_rows c.args.self.now.rows = ap (λ (s : State). unsettled_rows s.rows) c.release.ensures ∙ count_recalled c.args.self.now.rows in
-    let counted = advances_counted c.release.new.self c.run_all.new.self c.run_all.ensures.advances in
-    omega (arith, released, counted, c.unsettled_count-count.ensures, c.unsettled_count-left.ensures)
+pub returns-in-Ok-clause-count : goal.returns-in-Ok-clause-count
+returns-in-Ok-clause-count g c = all_count c.args.self.now c.release.new.self c.run_all.new.self c.in-Ok.ran (subst IsAtRest c.self.view_is c.self.invariant) (c.release.ensures ∙ ap after_release c.self.view_is) c.in-Ok.ensures.advances c.in-Ok.ensures.ok
 
-pub returns-clause-fewer : goal.returns-clause-fewer
-returns-clause-fewer g c =
-    let released : unsettled_rows c.release.new.self.rows ≡ unsettled_rows c.args.self.now.rows = ap (λ (s : State). unsettled_rows s.rows) c.release.ensures ∙ count_recalled c.args.self.now.rows in
-    let counted = advances_counted c.release.new.self c.run_all.new.self c.run_all.ensures.advances in
-    omega (arith, released, counted, c.unsettled_count-count.ensures, c.unsettled_count-left.ensures, c.if-left-eq0.false)
+pub returns-in-Ok-clause-settled : goal.returns-in-Ok-clause-settled
+returns-in-Ok-clause-settled g c = all_are_settled c.args.self.now c.release.new.self c.run_all.new.self c.in-Ok.ran (subst IsAtRest c.self.view_is c.self.invariant) (c.release.ensures ∙ ap after_release c.self.view_is) c.in-Ok.ensures.advances c.in-Ok.ensures.ok
 
-pub returns-clause-runs : goal.returns-clause-runs
-returns-clause-runs g c =
-    let first = c.args.self.now in
-    let last = c.run_all.new.self in
-    let advances = c.run_all.ensures.advances in
-    let released : unsettled_rows c.release.new.self.rows ≡ unsettled_rows first.rows = ap (λ (s : State). unsettled_rows s.rows) c.release.ensures ∙ count_recalled first.rows in
-    let counted = advances_counted c.release.new.self last advances in
-    let start : after_release c.release.new.self ≡ after_release first = ap after_release c.release.ensures ∙ release_twice first in
-    subst (λ n. RunsTo n (after_release first) (after_release last))
-    (omega (arith, released, counted, c.unsettled_count-count.ensures, c.unsettled_count-left.ensures))
-    (subst (λ (s : State). RunsTo advances.runs.0 s (after_release last)) start advances.runs.1)
+pub returns-else-unsettled_count-eq0-clause-same : goal.returns-else-unsettled_count-eq0-clause-same
+returns-else-unsettled_count-eq0-clause-same g c = end_same c.args.self.now c.release.new.self c.run_all.new.self c.in-Err.fault.ran (subst IsAtRest c.self.view_is c.self.invariant) (c.release.ensures ∙ ap after_release c.self.view_is) c.in-Err.ensures.advances c.cut_off.new.self c.cut_off.ensures
 
-pub returns-clause-out : goal.returns-clause-out
-returns-clause-out g c = c.run_all.ensures.advances.out (subst OutAreFirm (sym c.release.ensures) (out_released c.args.self.now))
+pub returns-else-unsettled_count-eq0-clause-stay : goal.returns-else-unsettled_count-eq0-clause-stay
+returns-else-unsettled_count-eq0-clause-stay g c = end_stay c.args.self.now c.release.new.self c.run_all.new.self c.in-Err.fault.ran (subst IsAtRest c.self.view_is c.self.invariant) (c.release.ensures ∙ ap after_release c.self.view_is) c.in-Err.ensures.advances c.cut_off.new.self c.cut_off.ensures
+
+pub returns-else-unsettled_count-eq0-clause-left : goal.returns-else-unsettled_count-eq0-clause-left
+returns-else-unsettled_count-eq0-clause-left g c = end_due c.args.self.now c.release.new.self c.run_all.new.self c.in-Err.fault.ran (subst IsAtRest c.self.view_is c.self.invariant) (c.release.ensures ∙ ap after_release c.self.view_is) c.in-Err.ensures.advances c.cut_off.new.self c.cut_off.ensures
+
+pub returns-else-unsettled_count-eq0-clause-rows : goal.returns-else-unsettled_count-eq0-clause-rows
+returns-else-unsettled_count-eq0-clause-rows g c = end_rows c.args.self.now c.release.new.self c.run_all.new.self c.in-Err.fault.ran (subst IsAtRest c.self.view_is c.self.invariant) (c.release.ensures ∙ ap after_release c.self.view_is) c.in-Err.ensures.advances c.cut_off.new.self c.cut_off.ensures
+
+pub returns-else-unsettled_count-eq0-clause-fewer : goal.returns-else-unsettled_count-eq0-clause-fewer
+returns-else-unsettled_count-eq0-clause-fewer g c = end_fewer c.args.self.now c.release.new.self c.run_all.new.self c.in-Err.fault.ran (subst IsAtRest c.self.view_is c.self.invariant) (c.release.ensures ∙ ap after_release c.self.view_is) c.in-Err.ensures.advances c.cut_off.new.self c.cut_off.ensures (λ none. c.if-unsettled_count-eq0.false (c.unsettled_count.ensures ∙ none))
+
+pub returns-else-unsettled_count-eq0-clause-runs : goal.returns-else-unsettled_count-eq0-clause-runs
+returns-else-unsettled_count-eq0-clause-runs g c = end_runs c.args.self.now c.release.new.self c.run_all.new.self c.in-Err.fault.ran (subst IsAtRest c.self.view_is c.self.invariant) (c.release.ensures ∙ ap after_release c.self.view_is) c.in-Err.ensures.advances c.cut_off.new.self c.cut_off.ensures
+
+pub returns-else-unsettled_count-eq0-clause-out : goal.returns-else-unsettled_count-eq0-clause-out
+returns-else-unsettled_count-eq0-clause-out g c = end_out c.args.self.now c.release.new.self c.run_all.new.self c.in-Err.fault.ran (subst IsAtRest c.self.view_is c.self.invariant) (c.release.ensures ∙ ap after_release c.self.view_is) c.in-Err.ensures.advances c.cut_off.new.self c.cut_off.ensures
