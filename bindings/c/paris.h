@@ -81,9 +81,10 @@ uint32_t paris_get(paris_handle *handle, const uint8_t *key, size_t key_len, uin
 /* Puts the ids of the rows in program order into a room of as many words. *count is how many they are, at PARIS_WRONG_ROOM too. */
 uint32_t paris_rows(paris_handle *handle, uint64_t *room, size_t len, size_t *count);
 
-/* Settles every row. *ran is how many rows were unsettled. PARIS_OK doesn't say that every row did its work: a settled row may be
-   refused for its data, and then it changes nothing. paris_faults tells which rows these are. At PARIS_PARTLY so many rows more are
-   settled, those that were settled stay so, orders that were out may be given up, and the call can be made again. */
+/* Settles every row. *ran is how many orders were run: a row that would compute again what it computed last isn't run. PARIS_OK
+   doesn't say that every row did its work: a settled row may be refused for its data, and then it changes nothing. paris_faults tells
+   which rows these are. At PARIS_PARTLY at least so many rows more are settled, those that were settled stay so, orders that were out
+   may be given up, and the call can be made again. */
 uint32_t paris_settle(paris_handle *handle, uint64_t *ran);
 
 /* Puts the settled rows that are refused for their data, as the command `faults` lists them, into a room, in program order: three

@@ -41,7 +41,7 @@ static void want(int line, bool holds) {
 
 static const uint8_t *bytes(const char *text) { return (const uint8_t *)text; }
 
-/* What a call told: its status, bytes, and of a settle how many rows were unsettled. */
+/* What a call told: its status, bytes, and of a settle how many orders were run. */
 enum { ROOM = 8192, NUMBERS = 8 };
 
 struct told {
@@ -243,13 +243,13 @@ static uint64_t unsettled(paris_handle *handle) {
   return count;
 }
 
-/* Some rows are settled. The call is made again for those that aren't. */
+/* Some rows are settled. The call is made again for those that aren't, and the two run as many orders as one call would. */
 static void settle_again(paris_handle *handle, int step, struct told *told) {
-  uint64_t left = unsettled(handle), wanted = expected[step].ran;
+  uint64_t ran = told->ran, left = unsettled(handle), wanted = expected[step].ran;
   WANT(is_settle(step));
-  WANT(STEPS[step].call == settle ? told->ran + left == wanted : left <= wanted);
   do_step(handle, step, told);
-  WANT(told->ran == left);
+  WANT(told->ran <= left);
+  WANT(STEPS[step].call == settle ? ran + told->ran == wanted : told->ran <= wanted);
   told->ran = wanted;
 }
 

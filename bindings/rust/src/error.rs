@@ -21,9 +21,9 @@ pub enum Error {
     TooMany,
     /// A number is wider than a word.
     TooWide,
-    /// There was no memory left while rows were settled. Those that ran are settled, so many where
-    /// the call tells it, and those that were settled stay so. Orders that were out may be given
-    /// up, and the session can be settled again.
+    /// There was no memory left while rows were settled. Those that ran are settled, of which the call
+    /// tells how many where it can, and those that were settled stay so. Orders that were out may be
+    /// given up, and the session can be settled again.
     PartlySettled(Option<u64>),
     /// The library answered by a status that this package doesn't know.
     Unknown(u32),
@@ -85,7 +85,7 @@ impl Display for Error {
             }
             Error::PartlySettled(Some(ran)) => write!(
                 f,
-                "there was no memory left while rows were settled, and {ran} more are settled"
+                "there was no memory left while rows were settled, and {ran} were run"
             ),
             Error::Unknown(status) => write!(
                 f,

@@ -81,8 +81,9 @@ impl Session {
         in_room(|room| self.0.rows(room))
     }
 
-    /// Settles every row, and answers how many were unsettled: the command `settle` without its
-    /// text, which leaves the orders that were taken.
+    /// Settles every row, and answers how many orders were run: the command `settle` without its
+    /// text, which leaves the orders that were taken. A row that would compute again what it
+    /// computed last isn't run.
     ///
     /// That a row is settled doesn't say that it did its work: it may be refused for its data, and
     /// then it changes nothing. [`Session::faults`] tells which rows these are.

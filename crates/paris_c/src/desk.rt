@@ -56,7 +56,8 @@ impl Desk {
         }
     }
 
-    /// Settles every row, and says how many were unsettled. Where memory is refused, it says how many rows more are settled.
+    /// Settles every row, and says how many orders were run. Where memory is refused, it says this too, and at least so many rows more
+    /// are settled.
     pub(crate) fn settle(&mut self, ran: &mut u64) -> u32
         ensures settled { result ≡ OK → IsSettled (Some self.old) (Some self.new) ran.new }
         ensures partly { result ≡ PARTLY → IsPartlySettled (Some self.old) (Some self.new) ran.new }

@@ -200,7 +200,7 @@ pub extern "C" fn paris_rows(
     status
 }
 
-/// Settles every row, and says how many were unsettled.
+/// Settles every row, and says how many orders were run.
 #[unsafe(no_mangle)]
 pub extern "C" fn paris_settle(alloc: Global, handle: &mut Handle, ran: &mut u64) -> u32
     ensures settled { result ≡ OK → IsSettled handle.old.kept.value handle.new.kept.value ran.new }

@@ -15,7 +15,7 @@ use Rattle.paris_machine.specs.Show.{show_reply}
 use Rattle.paris_machine.specs.Orders.{take_reply, after_take, after_release}
 use Rattle.paris_machine.specs.Results.{verdict_of, after_bring}
 use Rattle.paris_machine.specs.Edits.{edit_fault, edit_answer, accepted}
-use Rattle.paris_machine.specs.Settling.{all_settled, unsettled_rows}
+use Rattle.paris_machine.specs.Settling.{all_settled, due}
 use Rattle.paris_machine.specs.Lists.{list_of, faults_of}
 use Rattle.paris_events.specs.declared.edits.Edit.{Edit}
 use Rattle.paris_events.specs.declared.edits.EditReply.{EditReply}
@@ -90,7 +90,7 @@ pub faults_listed : (s : Sitting) (faults : List RowFault) (text : List ℕ) →
 unfolding answer_to_faults
 faults_listed s faults text are said = ap (λ (t : List ℕ). (s, t)) (said ∙ ap faults_text are)
 
-pub rows_settled : (s new : Sitting) (ran : ℕ) (text : List ℕ) → new ≡ with_book s (all_settled s.state) s.tray → ran ≡ unsettled_rows s.state.rows
+pub rows_settled : (s new : Sitting) (ran : ℕ) (text : List ℕ) → new ≡ with_book s (all_settled s.state) s.tray → ran ≡ due s.state
     → text ≡ settled_text ran → (new, text) ≡ answer_to_settle s
 unfolding answer_to_settle
 rows_settled s new ran text after count said =

@@ -1,9 +1,9 @@
 -- What is left of a session where memory was refused, so that a line has no reply.
-use Rattle.std.specs.Prelude.{◌≡◌, ◌+◌, ◌-◌, ℕ, Result, Ok}
+use Rattle.std.specs.Prelude.{◌≡◌, ◌≤◌, ◌+◌, ◌-◌, ℕ, Result, Ok}
 use Rattle.paris_text.specs.declared.commands.Command.{Command}
 use Rattle.paris_text.specs.declared.commands.Command.TheVariants.{Settle}
 use Rattle.paris_machine.specs.State.{State}
-use Rattle.paris_machine.specs.Settling.{all_settled, unsettled_rows}
+use Rattle.paris_machine.specs.Settling.{all_settled, due, unsettled_rows}
 use Rattle.paris_book.specs.Rounds.{StaySettled}
 use Rattle.paris_session.specs.declared.answers.NoReply.{NoReply}
 use Rattle.paris_session.specs.declared.answers.NoReply.TheVariants.{Unchanged, Partly}
@@ -13,9 +13,11 @@ use Rattle.paris_session.specs.Transcript.{Sitting, with_book}
 abbrev pub without_command : Sitting → Sitting
 without_command s = record { state = s.state; tray = s.tray; commands = s.commands - 1; refusals = s.refusals }
 
--- so many rows of a book more are settled: rows that were settled stand as they were, and with all rows settled it would be the same book
+-- so many orders of a book were run, and at least so many rows more are settled: rows that were settled stand as they were, and with all
+-- rows settled it would be the same book
 pub record IsSettledFurther (ran : ℕ) (old new : State) : Type 0 where
-  pub left : unsettled_rows new.rows + ran ≡ unsettled_rows old.rows
+  pub left : due new + ran ≡ due old
+  pub rows : unsettled_rows new.rows + ran ≤ unsettled_rows old.rows
   pub stay : StaySettled old.rows new.rows
   pub same : all_settled new ≡ all_settled old
 

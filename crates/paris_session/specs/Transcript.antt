@@ -11,7 +11,7 @@ use Rattle.paris_machine.specs.Show.{show_reply}
 use Rattle.paris_machine.specs.Orders.{take_reply, after_take, after_release}
 use Rattle.paris_machine.specs.Results.{verdict_of, after_bring}
 use Rattle.paris_machine.specs.Edits.{edit_fault, edit_answer, accepted}
-use Rattle.paris_machine.specs.Settling.{all_settled, unsettled_rows}
+use Rattle.paris_machine.specs.Settling.{all_settled, due}
 use Rattle.paris_machine.specs.Lists.{list_of, faults_of}
 use Rattle.paris_events.specs.declared.edits.Edit.{Edit}
 use Rattle.paris_machine.specs.declared.events.Shown.{Shown}
@@ -92,9 +92,9 @@ answer_to_list s = (s, list_text (list_of s.state))
 unfoldable pub answer_to_faults : Sitting → Sitting × List ℕ
 answer_to_faults s = (s, faults_text (faults_of s.state))
 
--- every row is settled, by one order for each that was unsettled
+-- every row is settled, by one order for each that was due
 unfoldable pub answer_to_settle : Sitting → Sitting × List ℕ
-answer_to_settle s = (with_book s (all_settled s.state) s.tray, settled_text (unsettled_rows s.state.rows))
+answer_to_settle s = (with_book s (all_settled s.state) s.tray, settled_text (due s.state))
 
 -- the session after a command, and its reply
 abbrev pub answer_to_command : Sitting → Command → Sitting × List ℕ

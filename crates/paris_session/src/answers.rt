@@ -6,7 +6,7 @@ ghost use Rattle.paris_book.specs.Among.{look_shown};
 ghost use Rattle.paris_names.specs.Faults.{IsFaultOf};
 ghost use Rattle.paris_machine.specs.Edits.{edit_fault, edit_answer, accepted};
 ghost use Rattle.paris_machine.specs.Lists.{list_of};
-ghost use Rattle.paris_machine.specs.Settling.{all_settled, unsettled_rows};
+ghost use Rattle.paris_machine.specs.Settling.{all_settled, due};
 ghost use Rattle.paris_machine.specs.Show.{show_reply};
 ghost use Rattle.paris_session.specs.Transcript.{longest_line, shown_text, start, with_book, with_command, fault_answer, answer_to_edit, answer_to_take, answer_to_bring, answer_to_release, answer_to_show, answer_to_list, answer_to_faults, answer_to_settle, order_at, answer_to_command, answer_to_read, answer_to_counted, answer};
 ghost use Rattle.paris_text.specs.declared.commands.Command.TheVariants as command;
@@ -186,15 +186,16 @@ impl Session {
         self.book.set_words(key, from, words)
     }
 
-    /// Settles the book, with no line that says so: it is no command, and leaves the counts. The answer is how many rows were
-    /// unsettled. The error says that memory was refused: so many rows more are settled, and the session can be settled again.
+    /// Settles the book, with no line that says so: it is no command, and leaves the counts. The answer is how many orders were run.
+    /// The error says that memory was refused: so many orders were run, at least so many rows more are settled, and the session can be
+    /// settled again.
     pub fn settle<S: Settler>(&mut self, settler: &S) -> Result<u64, SettleFault>
         requires { S.can_settle settler.now }
-        ensures count { IfOk result (λ ran. ran ≡ unsettled_rows self.old.state.rows) }
+        ensures count { IfOk result (λ ran. ran ≡ due self.old.state) }
         ensures settled { OnOk result (self.new ≡ with_book self.old (all_settled self.old.state) self.old.tray) }
         ensures further { IfErr result (λ fault. IsSettledFurther fault.ran self.old.state self.new.state) }
         ensures book { OnErr result (self.new ≡ with_book self.old self.new.state self.old.tray) }
-        ensures fewer { IfErr result (λ fault. fault.ran < unsettled_rows self.old.state.rows) }
+        ensures fewer { IfErr result (λ fault. fault.ran < due self.old.state) }
     {
         settler.settle(&mut self.book)
     }

@@ -1,7 +1,7 @@
 //! Who settles the book of a session.
 
 ghost use Rattle.std.specs.Prelude.{◌≡◌, ◌<◌, IfOk, IfErr, OnOk};
-ghost use Rattle.paris_machine.specs.Settling.{all_settled, unsettled_rows};
+ghost use Rattle.paris_machine.specs.Settling.{all_settled, due};
 ghost use Rattle.paris_session.specs.NoReplies.{IsSettledFurther};
 
 use paris_book::{Book, SettleFault};
@@ -11,15 +11,15 @@ pub trait Settler {
     /// What one needs to settle a book.
     ghost can_settle: { Self → Type 0 };
 
-    /// Gives up the orders that are out, and runs every unsettled row. The answer is how many rows were unsettled. The error says that
-    /// memory was refused: so many rows more are settled, all else is as it was but for orders that are out, and the book can be
-    /// settled again.
+    /// Gives up the orders that are out, and settles every row. The answer is how many orders were run, one for each row that was due.
+    /// The error says that memory was refused: so many orders were run, at least so many rows more are settled, all else is as it was
+    /// but for orders that are out, and the book can be settled again.
     fn settle(&self, book: &mut Book) -> Result<u64, SettleFault>
         requires { can_settle self.now }
-        ensures count { IfOk result (λ ran. ran ≡ unsettled_rows book.old.rows) }
+        ensures count { IfOk result (λ ran. ran ≡ due book.old) }
         ensures settled { OnOk result (book.new ≡ all_settled book.old) }
         ensures further { IfErr result (λ fault. IsSettledFurther fault.ran book.old book.new) }
-        ensures fewer { IfErr result (λ fault. fault.ran < unsettled_rows book.old.rows) };
+        ensures fewer { IfErr result (λ fault. fault.ran < due book.old) };
 }
 
 /// One who runs one row after another, in the caller's thread.
