@@ -336,29 +336,67 @@ pub(crate) const BOOK_OF_THREE: &[Step] = &[
 ];
 
 #[test]
-fn a_replace_by_the_same_instruction_unsettles_the_row_and_its_readers(
+fn a_replace_by_the_same_instruction_gives_editions_and_leaves_all_settled(
     rt: HostRuntime,
 ) -> Result<(), AllocError> {
     const STEPS: &[Step] = &[
         Accepts(Replace(1, SUM)),
         Lists(&[
-            (1, 10, Waiting, SUM, None),
-            (2, 10, Waiting, SECOND_SUM, None),
+            (1, 10, Settled, SUM, None),
+            (2, 10, Settled, SECOND_SUM, None),
             (3, 9, Settled, b"u-move-constant-1L b 5 8", None),
         ]),
+        TakesNothing,
+        Settles(0),
+        Shows(b"a", End, &[22, 44, 66, 8]),
     ];
     plays_after(&rt, rt.alloc(), BOOK_OF_THREE, STEPS)
 }
 
 #[test]
-fn an_input_of_the_same_numbers_unsettles_the_readers(rt: HostRuntime) -> Result<(), AllocError> {
+fn an_input_of_the_same_numbers_gives_editions_and_leaves_all_settled(
+    rt: HostRuntime,
+) -> Result<(), AllocError> {
     const STEPS: &[Step] = &[
         Accepts(Input(b"a", 0, &[1, 2, 3, 4])),
+        Lists(&[
+            (1, 10, Settled, SUM, None),
+            (2, 10, Settled, SECOND_SUM, None),
+            (3, 9, Settled, b"u-move-constant-1L b 5 8", None),
+        ]),
+        TakesNothing,
+        Settles(0),
+        Shows(b"a", End, &[22, 44, 66, 8]),
+    ];
+    plays_after(&rt, rt.alloc(), BOOK_OF_THREE, STEPS)
+}
+
+#[test]
+fn a_replace_by_another_instruction_unsettles_the_row_and_its_readers(
+    rt: HostRuntime,
+) -> Result<(), AllocError> {
+    const STEPS: &[Step] = &[
+        Accepts(Replace(1, b"u-subtract-3-1L c b a 8")),
+        Lists(&[
+            (1, 10, Waiting, b"u-subtract-3-1L c b a 8", None),
+            (2, 10, Waiting, SECOND_SUM, None),
+            (3, 9, Settled, b"u-move-constant-1L b 5 8", None),
+        ]),
+        HasUnsettled(2),
+    ];
+    plays_after(&rt, rt.alloc(), BOOK_OF_THREE, STEPS)
+}
+
+#[test]
+fn an_input_of_other_numbers_unsettles_the_readers(rt: HostRuntime) -> Result<(), AllocError> {
+    const STEPS: &[Step] = &[
+        Accepts(Input(b"a", 0, &[1, 2, 3, 5])),
         Lists(&[
             (1, 10, Waiting, SUM, None),
             (2, 10, Waiting, SECOND_SUM, None),
             (3, 9, Settled, b"u-move-constant-1L b 5 8", None),
         ]),
+        HasUnsettled(2),
     ];
     plays_after(&rt, rt.alloc(), BOOK_OF_THREE, STEPS)
 }
@@ -366,11 +404,11 @@ fn an_input_of_the_same_numbers_unsettles_the_readers(rt: HostRuntime) -> Result
 #[test]
 fn rows_above_a_replaced_one_stay_settled(rt: HostRuntime) -> Result<(), AllocError> {
     const STEPS: &[Step] = &[
-        Accepts(Replace(3, b"u-move-constant-1L b 5 8")),
+        Accepts(Replace(3, b"u-move-constant-1L b 6 8")),
         Lists(&[
             (1, 7, Settled, SUM, None),
             (2, 8, Settled, SECOND_SUM, None),
-            (3, 10, Waiting, b"u-move-constant-1L b 5 8", None),
+            (3, 10, Waiting, b"u-move-constant-1L b 6 8", None),
         ]),
     ];
     plays_after(&rt, rt.alloc(), BOOK_OF_THREE, STEPS)

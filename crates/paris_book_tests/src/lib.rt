@@ -4,6 +4,8 @@
 #[cfg(test)]
 mod books;
 #[cfg(test)]
+mod cut_off;
+#[cfg(test)]
 mod edits;
 #[cfg(test)]
 mod events;

@@ -8,6 +8,7 @@ use crate::operations::{
     KEYS, Operation, any_operation, any_place, any_values, key_name, spelled, throw,
     twin_operation, twin_values,
 };
+use crate::work::cuts_off;
 use paris_book::Book;
 use paris_events::{Edit, Status};
 use paris_names::{Fault, Items, RowId, Spot};
@@ -245,8 +246,9 @@ fn plays_any_edit(rt: &impl Abort, game: &mut Game) -> Result<(), AllocError> {
     }
 }
 
-/// Makes an edit, and runs the program once that it leaves.
+/// Makes an edit, and runs the program once that it leaves. Rows that would compute again what they computed last are settled.
 pub(crate) fn plays_edit(rt: &impl Abort, game: &mut Game) -> Result<(), AllocError> {
     plays_any_edit(rt, game)?;
-    run_once(rt, game)
+    run_once(rt, game)?;
+    cuts_off(rt, game)
 }

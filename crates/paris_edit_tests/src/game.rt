@@ -10,8 +10,8 @@ use std::alloc::{AllocError, Global};
 use std::process::Abort;
 
 /// A book and the rows that it has to have, with each key's numbers at the start and the edit that gave them; a new book of the
-/// same program, which is settled; a twin, which is given the same edits but for some numbers; results that are brought late; and
-/// the recipes of the rows before the last edit.
+/// same program, which is settled; a twin, which is given the same edits but for some numbers; results that are brought late; those
+/// that were kept; and the recipes of the rows before the last edit.
 #[derive(Drop)]
 pub(crate) struct Game {
     pub(crate) alloc: Global,
@@ -24,11 +24,12 @@ pub(crate) struct Game {
     pub(crate) given: Vec<u64>,
     pub(crate) start: Vec<Vec<u128>>,
     pub(crate) late: Vec<Done>,
+    pub(crate) kept: Vec<Done>,
     pub(crate) before: Vec<u64>,
     pub(crate) met: Met,
 }
 
-/// How often each verdict was met.
+/// How often each verdict was met, and how often a row was cut off.
 #[derive(Clone, Copy)]
 pub(crate) struct Met {
     pub(crate) gone: u64,
@@ -36,6 +37,7 @@ pub(crate) struct Met {
     pub(crate) repeated: u64,
     pub(crate) foreign: u64,
     pub(crate) kept: u64,
+    pub(crate) cut: u64,
 }
 
 pub(crate) const NOTHING_MET: Met = Met {
@@ -44,6 +46,7 @@ pub(crate) const NOTHING_MET: Met = Met {
     repeated: 0,
     foreign: 0,
     kept: 0,
+    cut: 0,
 };
 
 fn four(alloc: Global, number: u128) -> Result<Vec<u128>, AllocError> {
@@ -73,6 +76,7 @@ pub(crate) fn new_game(alloc: Global, seed: u64) -> Game {
         given: Vec::new(alloc),
         start: Vec::new(alloc),
         late: Vec::new(alloc),
+        kept: Vec::new(alloc),
         before: Vec::new(alloc),
         met: NOTHING_MET,
     }

@@ -140,6 +140,7 @@ fn both(one: Met, other: Met) -> Met {
         repeated: one.repeated.wrapping_add(other.repeated),
         foreign: one.foreign.wrapping_add(other.foreign),
         kept: one.kept.wrapping_add(other.kept),
+        cut: one.cut.wrapping_add(other.cut),
     }
 }
 
@@ -155,6 +156,6 @@ fn plays_games(rt: &impl Abort, alloc: Global, first: u64) -> Result<Met, AllocE
 fn a_book_agrees_with_a_single_run_after_random_steps(rt: HostRuntime) -> Result<(), AllocError> {
     let met = plays_games(&rt, rt.alloc(), 1987)?;
     assert!(rt; met.gone > 0 && met.stale > 0 && met.repeated > 0);
-    assert!(rt; met.foreign > 0 && met.kept > 0);
+    assert!(rt; met.foreign > 0 && met.kept > 0 && met.cut > 0);
     Ok(())
 }

@@ -115,6 +115,40 @@ fn verdict(rt: &impl Abort, game: &Game, done: &Done) -> Verdict {
     Verdict::Gone
 }
 
+/// A copy of the result that was last kept of a row.
+fn last_kept(game: &Game, id: u64) -> Result<Option<Done>, AllocError> {
+    for done in game.kept.iter().rev() {
+        if done.order().id() == RowId(id) {
+            return Ok(Some(done.copy()?));
+        }
+    }
+    Ok(None)
+}
+
+/// Settles an unsettled row at a place whose last kept result is for its present plan and inputs.
+fn cuts_row(rt: &impl Abort, game: &mut Game, place: usize, row: Row) -> Result<(), AllocError> {
+    if row.status.is_settled() {
+        return Ok(());
+    }
+    if let Some(done) = last_kept(game, row.id)? {
+        if belongs(rt, game, place, &row, &done) {
+            set_status(game, row.id, Status::Settled);
+            game.met.cut = game.met.cut.wrapping_add(1);
+        }
+    }
+    Ok(())
+}
+
+/// Settles each row, one after another, that would compute again what it computed last.
+pub(crate) fn cuts_off(rt: &impl Abort, game: &mut Game) -> Result<(), AllocError> {
+    for place in 0..game.rows.len() {
+        if let Some(row) = game.rows.get(place).copied() {
+            cuts_row(rt, game, place, row)?;
+        }
+    }
+    Ok(())
+}
+
 fn note(met: &mut Met, verdict: Verdict) {
     match verdict {
         Verdict::Gone => met.gone = met.gone.wrapping_add(1),
@@ -125,21 +159,29 @@ fn note(met: &mut Met, verdict: Verdict) {
     }
 }
 
-fn brings(rt: &impl Abort, game: &mut Game, done: Done) {
+/// Keeps that a row is settled by a result, and what is cut off then.
+fn keeps(rt: &impl Abort, game: &mut Game, done: Done) -> Result<(), AllocError> {
+    set_status(game, done.order().id().0, Status::Settled);
+    game.kept.push(done)?;
+    cuts_off(rt, game)
+}
+
+fn brings(rt: &impl Abort, game: &mut Game, done: Done) -> Result<(), AllocError> {
     let wanted = verdict(rt, game, &done);
-    let id = done.order().id().0;
+    let own = done.copy()?;
     assert!(rt; game.book.bring(done) == wanted);
     note(&mut game.met, wanted);
     if wanted == Verdict::Kept {
-        set_status(game, id, Status::Settled);
+        keeps(rt, game, own)?;
     }
+    Ok(())
 }
 
 /// Takes an order, and brings its result at once.
 pub(crate) fn plays_work(rt: &impl Abort, game: &mut Game) -> Result<(), AllocError> {
     if let Some(order) = takes(rt, game)? {
         let done = run(rt, game.alloc, order);
-        brings(rt, game, done);
+        brings(rt, game, done)?;
     }
     Ok(())
 }
@@ -189,7 +231,7 @@ fn any_late(game: &mut Game) -> Result<Option<Done>, AllocError> {
 /// Brings a copy of a late result, which may have been brought before.
 pub(crate) fn plays_late(rt: &impl Abort, game: &mut Game) -> Result<(), AllocError> {
     if let Some(done) = any_late(game)? {
-        brings(rt, game, done);
+        brings(rt, game, done)?;
     }
     Ok(())
 }
