@@ -1,9 +1,8 @@
-//! Keys, edits and instructions by their texts, as tables have them.
+//! Keys and edits by their texts, as tables have them.
 
 use paris_events::Edit;
-use paris_model::Instr;
 use paris_names::KeyName;
-use paris_text::{Command, key_of_word, read_command, read_instr};
+use paris_text::{Command, key_of_word, read_command};
 use std::alloc::Global;
 use std::process::Abort;
 
@@ -26,9 +25,4 @@ fn edit_by(command: Command) -> Option<Edit> {
 pub(crate) fn edit_of(rt: &impl Abort, alloc: Global, line: &[u8]) -> Edit {
     let command = read_command(alloc, line).ok().expect(rt, "it is a command");
     edit_by(command).expect(rt, "it is an edit")
-}
-
-/// An instruction in its one spelling.
-pub(crate) fn instr_of(rt: &impl Abort, text: &[u8]) -> Instr {
-    read_instr(text).ok().expect(rt, "it is an instruction")
 }

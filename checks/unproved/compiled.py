@@ -1,8 +1,12 @@
-"""Compiles a program over the crates here without a proof, and keeps what is compiled.
+"""Compiles the program that makes calls of the crates for checks, without a proof, and keeps what is compiled.
 
-`rt try` compiles a program from its sources and those of all that it cites, runs it under a sanitizer and keeps nothing. Here it runs from a
-kit of symbolic links, whose compiler leaves the sanitizer out, and whose linker keeps what it has linked. The sanitizer has an allocator
-of its own, which refuse.c can't refuse. All else is as `rt try` does it: the program stops at an index out of bounds and at an overflow.
+Its texts are those in src/ beside this file and in the src/ of the checks that use it. It is one program for all of them, since most of
+what it costs to compile is the crates.
+
+`rt try` compiles a program from its sources and those of all that it cites, runs it under a sanitizer and keeps nothing. Here it runs from
+a kit of symbolic links, whose compiler leaves the sanitizer out, and whose linker keeps what it has linked. The sanitizer has an allocator
+of its own, which no-memory/refuse.c can't refuse, and schedules are many. All else is as `rt try` does it: the program stops at an index
+out of bounds and at an overflow.
 """
 
 import os
@@ -12,9 +16,12 @@ import subprocess
 from collections.abc import Sequence
 from pathlib import Path
 
-ROOT = Path(__file__).resolve().parents[3]
+ROOT = Path(__file__).resolve().parents[2]
 CRATES = ROOT / "crates"
+CHECKS = ROOT / "checks"
+TEXTS = (CHECKS / "unproved/src", CHECKS / "no-memory/calls/src", CHECKS / "schedules/src")
 ENDING = ".text"
+NAME = "unproved_calls"
 # What a program's own run in the try may take: it is run with nothing on standard input.
 SECONDS = "60"
 
@@ -85,23 +92,38 @@ def crate_names() -> list[str]:
     return [words[0] for words in lines if words]
 
 
-def put_crates(room: Path, texts: Path, name: str) -> Path:
-    """Puts the sources of all crates into a folder, and those of a program as one crate more. Returns the crate's folder."""
+def put_crates(room: Path) -> Path:
+    """Puts the sources of all crates into a folder, and those of the program as one crate more. Returns the crate's folder."""
     for crate in crate_names():
         shutil.copytree(CRATES / crate / "src", room / "crates" / crate / "src")
-    folder, cited = room / "crates" / name, set[str]()
-    for text in sorted(texts.glob(f"*.rt{ENDING}")):
+    folder, cited = room / "crates" / NAME, set[str]()
+    for text in (text for texts in TEXTS for text in sorted(texts.glob(f"*.rt{ENDING}"))):
         target = folder / "src" / text.stem
         target.parent.mkdir(parents=True, exist_ok=True)
         shutil.copy2(text, target)
         cited.update(re.findall(r"^use (\w+)", text.read_text(), re.M))
-    line = " ".join([f"{name}:", *(it for it in crate_names() if it in cited)])
+    line = " ".join([f"{NAME}:", *(it for it in crate_names() if it in cited)])
     (room / "crates.txt").write_text((ROOT / "crates.txt").read_text() + line + "\n")
     shutil.copy2(ROOT / "HANDLES", room)
     return folder
 
 
 Edit = tuple[str, str, str]
+
+
+def read_edit(crate: str, name: str) -> list[Edit]:
+    """A must-fail edit, whose texts are a line each: the files, what stands there, and what stands for it."""
+    edits, file, old = list[Edit](), "", ""
+    for line in (CHECKS / "gate/edits" / crate / f"{name}.edit").read_text().splitlines():
+        word, _, text = line.partition(": ")
+        if word == "file":
+            file = f"{crate}/{text}"
+        elif word == "old":
+            old = text
+        else:
+            assert word == "new" and file and old, f"{crate}/{name} has a line {line}"
+            edits.append((file, old, text))
+    return edits
 
 
 def plant(room: Path, edits: Sequence[Edit]) -> None:
@@ -113,10 +135,10 @@ def plant(room: Path, edits: Sequence[Edit]) -> None:
         path.write_text(text.replace(old, new))
 
 
-def compile_program(room: Path, texts: Path, name: str, edits: Sequence[Edit] = ()) -> Path:
-    """Compiles the program whose texts stand in a folder, in a room of its own, and returns it. The crates have some edits."""
-    kept = room / name
-    folder, rt = put_crates(room, texts, name), make_kit(room / "kit", kept)
+def compile_program(room: Path, edits: Sequence[Edit] = ()) -> Path:
+    """Compiles the program, in a room of its own, and returns it. The crates have some edits."""
+    kept = room / NAME
+    folder, rt = put_crates(room), make_kit(room / "kit", kept)
     plant(room, edits)
     environment = {word: value for word, value in os.environ.items() if word != "RT_BACKEND"}
     ran = subprocess.run(
@@ -131,5 +153,5 @@ def compile_program(room: Path, texts: Path, name: str, edits: Sequence[Edit] = 
         check=False,
     )
     if not kept.exists():
-        raise SystemExit(f"{name} isn't compiled:\n{ran.stdout}")
+        raise SystemExit(f"{NAME} isn't compiled:\n{ran.stdout}")
     return kept
