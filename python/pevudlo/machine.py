@@ -136,7 +136,7 @@ class Machine:
         self._talk.ask(f"replace {row} {text}", Ok)
 
     def settle(self) -> int:
-        """Runs all rows that are unsettled, and says how many they were.
+        """Settles all rows, and says how many of them ran: rows that would compute the same again aren't run.
 
         Where rows ran and some are refused for their data, a warning RefusedRows names them, once for the settle.
         """

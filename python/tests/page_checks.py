@@ -115,19 +115,19 @@ def check_inputs(root: Node, lines: list[str]) -> set[str]:
 
 
 def check_edits(root: Node, lines: list[str]) -> list[int]:
-    """Rows that an edit unsettles are those whose edition is another. Gives the lines of the edits."""
+    """Rows that an edit touches are those of another edition: unsettled, or settled, as they compute the same again.
+
+    Gives the lines of the edits.
+    """
     found = sections(root, "edit")
     for section in found:
         old, new = rows_at(lines, line_of(section) - 1), rows_at(lines, line_of(section))
         fates = {}
         for item in [item for fates_of in section.all("ol", "fates") for item in fates_of.all("li")]:
             fates[int(next(item.all("span", "id")).text)] = item.classes[0]
+        words_of = {(True, True): "same", (True, False): "unsettled", (False, True): "kept", (False, False): "waiting"}
         expected = {
-            row: "unsettled"
-            if row not in old or old[row][0] != edition
-            else "kept"
-            if status == "settled"
-            else "waiting"
+            row: words_of[row not in old or old[row][0] != edition, status == "settled"]
             for row, (edition, status) in new.items()
         }
         assert fates == expected
@@ -136,4 +136,6 @@ def check_edits(root: Node, lines: list[str]) -> list[int]:
         whole = {1: "the one row", 2: "both rows"}.get(len(new), f"all {len(new)} rows")
         words = "No row" if not unsettled else whole if unsettled == len(new) else f"{unsettled} of {len(new)} row"
         assert words in sentence
+        same = sum(fate == "same" for fate in expected.values())
+        assert (f"{same} row" in sentence and "the same again, not run" in sentence) or not same
     return [line_of(section) for section in found]

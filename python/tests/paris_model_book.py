@@ -1,12 +1,13 @@
 """A book as docs/MACHINE.md says it: recipes are made anew after each edit, and what is shown is run anew.
 
-It answers the lines of a script that are accepted. It knows no refused commands.
+It answers the lines of a script that are accepted. It knows no refused commands. Rows are cut off after each of them.
 """
 
 from __future__ import annotations
 
-from collections.abc import Iterable
+from collections.abc import Iterable, Iterator
 from dataclasses import dataclass
+from typing import NamedTuple
 
 from paris_model import Board, COMPARISONS, RefusedAtRun, World
 from paris_model_run import CONTEXTS, PLAIN_CONTEXT, run
@@ -65,27 +66,75 @@ def keys_of(board: Board, text: str) -> tuple[set[str], set[str]]:
     return reads, writes
 
 
+@dataclass(frozen=True)
+class Work:
+    """What a row has to compute: its instruction, and the numbers of each key that it reads."""
+
+    text: str
+    inputs: tuple[tuple[str, tuple[int, ...]], ...]
+
+
 @dataclass
 class Row:
-    """A row: its id, instruction, the edit that set it, and what the last edits made of it."""
+    """A row: its id, instruction, the edit that set it, and what the last edits made of it.
+
+    `last` is the work of its last result, whatever became of the row since.
+    """
 
     id: int
     text: str
     set_by: int
     edition: int
     status: str = "waiting"
+    last: Work | None = None
 
 
 @dataclass(frozen=True)
 class Order:
-    """An order that was taken: for which row, of which edition."""
+    """An order that was taken: for which row, of which edition, with what to compute."""
 
     id: int
     edition: int
+    work: Work
+
+
+class Cut(NamedTuple):
+    """A row that was cut off, and behind which command."""
+
+    command: str
+    row: int
+
+
+class Present(NamedTuple):
+    """A row as it is now: what it has to compute, and whether what it reads comes from settled rows or the start."""
+
+    row: Row
+    work: Work
+    is_firm: bool
+
+
+@dataclass(frozen=True)
+class Pass:
+    """What one pass over the rows finds: the recipe of each row by its id, the rows that its keys come from, and at the
+    start and behind each row the origin of each key. An origin is a row's id, or 0 for the start."""
+
+    recipes: dict[int, Recipe]
+    sources: dict[int, set[int]]
+    origins: list[dict[str, int]]
+
+
+@dataclass(frozen=True)
+class Once:
+    """What one run from the input data gives: the world at the start and behind each row, and by their ids the causes
+    of rows that are refused."""
+
+    worlds: list[World]
+    causes: dict[int, str]
 
 
 class Book:
-    """Answers accepted lines."""
+    """Answers accepted lines. `cut` tells of each row that was cut off, in their order. What a pass or a run gives is
+    kept until the next edit."""
 
     def __init__(self) -> None:
         self.board = Board()
@@ -94,13 +143,35 @@ class Book:
         self.given: dict[str, int] = {}
         self.rows: list[Row] = []
         self.orders: list[Order] = []
+        self.cut: list[Cut] = []
         self.met: dict[tuple[object, ...], Recipe] = {}
+        self.passes: dict[int, Pass] = {}
+        self.runs: dict[int, Once] = {}
 
     def answer(self, line: str) -> list[str]:
         """The reply to a line, as lines."""
         command, *words = line.split(" ")
         reply: str | list[str] = getattr(self, f"do_{command}")(words)
+        self.cut_off(command)
         return [reply] if isinstance(reply, str) else reply
+
+    def cut_off(self, command: str) -> None:
+        """Settles, in program order, each row that would compute again what it computed last."""
+        if all(row.status == "settled" or row.last is None for row in self.rows):
+            return
+        for row, work, is_firm in self.walk():
+            if row.status != "settled" and is_firm and work == row.last:
+                self.cut.append(Cut(command, row.id))
+                row.status = "settled"
+
+    def walk(self) -> Iterator[Present]:
+        """Each row as it is now, in program order. A status may be changed on the way."""
+        passed, once = self.passed(), self.ran()
+        for place, row in enumerate(self.rows):
+            reads = sorted(keys_of(self.board, row.text)[0])
+            inputs = tuple((key, tuple(once.worlds[place][key])) for key in reads)
+            is_firm = all(map(self.is_settled, passed.sources[row.id]))
+            yield Present(row, Work(row.text, inputs), is_firm)
 
     def declare(self, keys: Iterable[str], of_set: str, number: int) -> None:
         for key in keys:
@@ -126,21 +197,43 @@ class Book:
         """A number for what a recipe is made of: the same for the same parts, another for others."""
         return self.met.setdefault(parts, len(self.met))
 
-    def recipes(self) -> tuple[dict[int, Recipe], dict[str, int]]:
-        """The recipe of each row, by id, and the origin of each key at the end: a row's id, or 0 for the start."""
+    def passed(self) -> Pass:
+        """What a pass over the present rows finds."""
+        if self.edits not in self.passes:
+            self.passes = {self.edits: self.passed_anew()}
+        return self.passes[self.edits]
+
+    def passed_anew(self) -> Pass:
         made: dict[str, Recipe] = {key: self.recipe("start", edit) for key, edit in self.given.items()}
-        found: dict[int, Recipe] = {}
-        origins = {key: 0 for key in self.given}
+        found = Pass({}, {}, [{key: 0 for key in self.given}])
         for row in self.rows:
             reads, writes = keys_of(self.board, row.text)
-            found[row.id] = self.recipe(row.id, row.set_by, *((key, made[key]) for key in sorted(reads)))
-            made.update((key, found[row.id]) for key in writes)
-            origins.update((key, row.id) for key in writes)
-        return found, origins
+            recipe = self.recipe(row.id, row.set_by, *((key, made[key]) for key in sorted(reads)))
+            found.recipes[row.id] = recipe
+            found.sources[row.id] = {found.origins[-1][key] for key in reads}
+            found.origins.append({**found.origins[-1], **{key: row.id for key in writes}})
+            made.update((key, recipe) for key in writes)
+        return found
+
+    def ran(self) -> Once:
+        """What a run of the present rows gives."""
+        if self.edits not in self.runs:
+            self.runs = {self.edits: self.ran_anew()}
+        return self.runs[self.edits]
+
+    def ran_anew(self) -> Once:
+        once = Once([self.start], {})
+        for row in self.rows:
+            try:
+                once.worlds.append(run(self.board, once.worlds[-1], row.text))
+            except RefusedAtRun as cause:
+                once.worlds.append(once.worlds[-1])
+                once.causes[row.id] = str(cause)
+        return once
 
     def judge(self, before: dict[int, Recipe]) -> None:
         """Unsettles the rows whose recipe is another one."""
-        for row_id, recipe in self.recipes()[0].items():
+        for row_id, recipe in self.passed().recipes.items():
             if before.get(row_id) != recipe:
                 row = self.row(row_id)
                 row.edition, row.status = self.edits, "waiting"
@@ -150,7 +243,7 @@ class Book:
 
     def do_input(self, words: list[str]) -> str:
         key, first, *numbers = words
-        before = self.recipes()[0]
+        before = self.passed().recipes
         self.edits += 1
         self.start[key][int(first) : int(first) + len(numbers)] = [int(number) for number in numbers]
         self.given[key] = self.edits
@@ -162,7 +255,7 @@ class Book:
         place = {"start": 0, "end": len(self.rows)}.get(where)
         if place is None:
             place = self.rows.index(self.row(int(rest.pop(0)))) + 1
-        before = self.recipes()[0]
+        before = self.passed().recipes
         self.edits += 1
         self.rows.insert(place, Row(self.next, " ".join(rest), self.edits, self.edits))
         self.next += 1
@@ -170,81 +263,71 @@ class Book:
         return f"row {self.next - 1}"
 
     def do_delete(self, words: list[str]) -> str:
-        before = self.recipes()[0]
+        before = self.passed().recipes
         self.edits += 1
         self.rows.remove(self.row(int(words[0])))
         self.judge(before)
         return "ok"
 
     def do_replace(self, words: list[str]) -> str:
-        before = self.recipes()[0]
+        before = self.passed().recipes
         self.edits += 1
         row = self.row(int(words[0]))
         row.text, row.set_by = " ".join(words[1:]), self.edits
         self.judge(before)
         return "ok"
 
-    def is_ready(self, row: Row) -> bool:
-        """Whether a row waits and all that it reads comes from the start or from settled rows."""
-        above = Book.above(self, self.rows.index(row))
-        origins = above.recipes()[1]
-        sources = [origins[key] for key in keys_of(self.board, row.text)[0]]
-        return row.status == "waiting" and all(not each or self.row(each).status == "settled" for each in sources)
-
-    def above(self, place: int) -> Book:
-        """A book of the rows before a place."""
-        made = Book()
-        made.board, made.start, made.given, made.rows = self.board, self.start, self.given, self.rows[:place]
-        made.met = self.met
-        return made
+    def is_settled(self, origin: int) -> bool:
+        """Whether what comes from an origin is settled."""
+        return not origin or self.row(origin).status == "settled"
 
     def do_take(self, _: list[str]) -> str:
-        for row in self.rows:
-            if self.is_ready(row):
+        for row, work, is_firm in self.walk():
+            if row.status == "waiting" and is_firm:
                 row.status = "out"
-                self.orders.append(Order(row.id, row.edition))
+                self.orders.append(Order(row.id, row.edition, work))
                 return f"order {len(self.orders)} row {row.id} edition {row.edition}"
         return "nothing"
 
     def do_bring(self, words: list[str]) -> str:
         order = self.orders[int(words[0]) - 1]
-        if all(row.id != order.id for row in self.rows):
-            return "gone"
-        row = self.row(order.id)
-        if row.edition != order.edition:
-            return f"stale {row.edition}"
-        if row.status == "settled":
-            return "repeated"
-        row.status = "settled"
-        return "kept"
+        for row, work, is_firm in self.walk():
+            if row.id == order.id:
+                if row.edition != order.edition:
+                    return f"stale {row.edition}"
+                if row.status == "settled":
+                    return "repeated"
+                if not is_firm or work != order.work:
+                    return "foreign"
+                row.status, row.last = "settled", work
+                return "kept"
+        return "gone"
 
     def do_release(self, _: list[str]) -> str:
         for row in self.rows:
             row.status = "waiting" if row.status == "out" else row.status
         return "ok"
 
-    def do_settle(self, _: list[str]) -> str:
-        unsettled = [row for row in self.rows if row.status != "settled"]
-        for row in unsettled:
+    def do_settle(self, words: list[str]) -> str:
+        """Runs rows, or cuts them off, in program order: at each of them all before it are settled."""
+        self.do_release(words)
+        ran = 0
+        for row, work, _ in self.walk():
+            if row.status != "settled" and work == row.last:
+                self.cut.append(Cut("settle", row.id))
+            elif row.status != "settled":
+                ran += 1
+                row.last = work
             row.status = "settled"
-        return f"settled {len(unsettled)}"
+        return f"settled {ran}"
 
     def do_list(self, _: list[str]) -> list[str]:
         rows = [f"{row.id} edition {row.edition} {row.status} {row.text}" for row in self.rows]
         return [f"rows {len(rows)}", *rows]
 
-    def now(self) -> tuple[World, list[str]]:
-        """The world at the end of one run from the input data, and the causes of refused rows that are settled."""
-        world, causes = self.start, []
-        for row in self.rows:
-            try:
-                world = run(self.board, world, row.text)
-            except RefusedAtRun as cause:
-                causes += [f"{row.id} {cause}"] if row.status == "settled" else []
-        return world, causes
-
     def do_faults(self, _: list[str]) -> list[str]:
-        causes = self.now()[1]
+        known = self.ran().causes
+        causes = [f"{row.id} {known[row.id]}" for row in self.rows if row.status == "settled" and row.id in known]
         return [f"faults {len(causes)}", *causes]
 
     def do_show(self, words: list[str]) -> str:
@@ -252,8 +335,7 @@ class Book:
         place = {"start": 0, "end": len(self.rows)}.get(where)
         if place is None:
             place = self.rows.index(self.row(int(words[2]))) + 1
-        above = self.above(place)
-        origin = above.recipes()[1][key]
-        if origin and self.row(origin).status != "settled":
+        origin = self.passed().origins[place][key]
+        if not self.is_settled(origin):
             return f"pending {origin}"
-        return " ".join(["values", *(str(number) for number in above.now()[0][key])])
+        return " ".join(["values", *(str(number) for number in self.ran().worlds[place][key])])

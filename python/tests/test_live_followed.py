@@ -318,9 +318,9 @@ def test_the_text_and_its_values_are_served(served: Server, path: Path) -> None:
     lines = got(served, "lines?first=5&last=7")
     assert lines["head"] == "a new book (the first text): 2 of 2 rows ran" and lines["number"] == 1
     assert lines["lines"] == [
-        ["ran", "▶", "b 2 4 6 8  carry 0000  overflow 0000"],
+        ["new", "▶", "b 2 4 6 8  carry 0000  overflow 0000"],
         ["none", "", ""],
-        ["ran", "▶", "c 4 8 12 16  carry 0000  overflow 0000"],
+        ["new", "▶", "c 4 8 12 16  carry 0000  overflow 0000"],
     ]
     edit = {"was": "1", "start": "0", "end": "0", "text": "# New.\n", "hold": ""}
     assert posted(served, **edit) == (200, {"number": 2}) and path.read_text() == f"# New.\n{TEXT}"

@@ -371,7 +371,7 @@ def test_a_file_on_a_terminal(path: Path, tmp_path: Path) -> None:
         third = terminal.until("q ends")
         assert " sum.paris: the file isn't there; what" in third and "b 2 4 6 10*" in third
         fcntl.ioctl(terminal.end, termios.TIOCSWINSZ, struct.pack("HHHH", 20, 60, 0, 0))
-        assert "b 2 4 6 10*" in terminal.until("▶ ran again, * other than before, = ran with the same valu…")
+        assert "b 2 4 6 10*" in terminal.until("▶ new values, * other than before, = touched, with the sam…")
         terminal.press("q")
         assert terminal.wait() == 0
 

@@ -17,7 +17,7 @@ MOST_TOLD = 200
 
 
 class Plain:
-    """Tells of each line that ran, is refused newly, or looks at other values than before."""
+    """Tells of each row that was touched, each line that is refused newly, or looks at other values than before."""
 
     def __init__(self, document: Document, say: Callable[[str], None]) -> None:
         self._document, self._say = document, say
@@ -56,7 +56,7 @@ class Plain:
             if shown.refused:
                 if (document.lines[number], shown.refused) not in self._refused or done.fresh:
                     yield number, mark_of(document, number, done).text
-            elif shown.row is not None and shown.row.book in done.ran:
+            elif shown.row is not None and shown.row.book in done.touched:
                 mark = mark_of(document, number, done)
                 same = ", the same as before" if mark.state is State.SAME else ""
                 yield number, mark.text + same

@@ -11,6 +11,7 @@ from pevudlo.lang.board import Board
 from pevudlo.lang.replies import Faults, OrderTaken, Refused, Reply, Row, Settled, Status, Verdict, Word, parse
 from pevudlo.progress import line_of
 from pevudlo.record.looks import Look, Looker, RowRun
+from pevudlo.record.works import Works
 from pevudlo.wire.peers import Peer
 
 LOOKS = ("show", "list", "faults")
@@ -21,12 +22,14 @@ LOOKS = ("show", "list", "faults")
 class Touched:
     """What an edit did to the rows that are there after it, by id, in program order.
 
-    `unsettled` are those that it touched: they have to run, or to run again. `kept` are settled as before, and
-    `waiting` were unsettled before and weren't touched.
+    `unsettled` and `same` are those that it touched. The first have to run, or to run again. The others are settled,
+    since they would compute again what they computed last. `kept` are settled as before, and `waiting` were unsettled
+    before and weren't touched.
     """
 
     rows: tuple[Row, ...]
     unsettled: frozenset[int]
+    same: frozenset[int]
     kept: frozenset[int]
     waiting: frozenset[int]
     deleted: int | None = None
@@ -34,12 +37,23 @@ class Touched:
 
 @dataclass(frozen=True)
 class Ran:
-    """The rows that a line ran, and those whose results were kept, in the program after it."""
+    """The rows that a line settled, and those that were settled before, in the program after it.
+
+    `count` of them ran, as the program says. The others would compute again what they computed last, and weren't run:
+    `same` are these, as far as it is known which they are.
+    """
 
     rows: tuple[Row, ...]
     runs: tuple[RowRun, ...]
     kept: frozenset[int]
     again: bool
+    count: int
+    same: frozenset[int]
+
+    @property
+    def is_known(self) -> bool:
+        """Whether it is known which of the rows ran."""
+        return len(self.runs) == self.count + len(self.same)
 
 
 @dataclass(frozen=True)
@@ -88,6 +102,9 @@ class Recorder:
         self._starts: dict[str, Look] = {}
         self._rows: tuple[Row, ...] | None = ()
         self._is_settled = False
+        # The instruction of each row when it was last seen settled. None where not all that rows did was looked at.
+        self._computed: dict[int, str] | None = {}
+        self._works = Works(self.board)
 
     def steps(self, lines: Iterable[str]) -> Iterator[Step]:
         """Each command with its reply, in order. What stands behind the last one is in `closing` afterwards."""
@@ -119,6 +136,7 @@ class Recorder:
         self.board.note(line, lines[0])
         if before is not None:
             self._starts[before.key] = self.looker.look(before.key, "start")
+            self._works.given(self._starts[before.key])
             step = replace(step, given=(before, self._starts[before.key]))
         if words[0] in ("input", "insert", "delete", "replace"):
             return self._edited(step)
@@ -143,6 +161,7 @@ class Recorder:
         if not self._is_settled:
             return step
         old, self._rows = self._rows, self.looker.rows()
+        self._see_computed()
         if old is None or self._rows is None:
             return replace(step, unlisted=True)
         return replace(step, touched=touched_of(old, self._rows))
@@ -154,31 +173,75 @@ class Recorder:
             return step
         if isinstance(step.reply, Faults):
             return replace(step, causes=self.looker.causes(step.reply.faults))
-        if isinstance(step.reply, Settled):
-            ran = None if was is None else frozenset(row.row for row in was if row.status is not Status.SETTLED)
-        elif step.reply == Verdict(Word.KEPT):
-            ran = frozenset({self._orders[int(step.text.split(" ")[1])]})
-        else:
+        if not isinstance(step.reply, Settled) and step.reply != Verdict(Word.KEPT):
             return step
         self._is_settled = True
         self._rows = self.looker.rows()
-        if ran is None or self._rows is None or was is None:
+        if self._rows is None or was is None:
+            self._see_computed()
             return replace(step, unlisted=True, causes=self.looker.causes(self.looker.faults().values()))
-        kept = frozenset(row.row for row in was if row.status is Status.SETTLED and row.row not in ran)
-        runs = self.looker.runs(self._rows, ran)
-        again = bool(kept) or any(change.earlier is not None for run in runs for change in run.changes or ())
-        words = {run.row.row: run.cause for run in runs if run.fault is not None}
-        return replace(step, ran=Ran(self._rows, runs, kept, again), causes=words)
+        ran = self._ran(step, was, self._rows)
+        self._see_computed()
+        words = {run.row.row: run.cause for run in ran.runs if run.fault is not None and run.row.row not in ran.same}
+        return replace(step, ran=ran, causes=words)
+
+    def _ran(self, step: Step, was: tuple[Row, ...], rows: tuple[Row, ...]) -> Ran:
+        """What a line settled, by the rows before and after it, and which of these rows it ran."""
+        before = frozenset([row.row for row in was if row.status is Status.SETTLED])
+        settled = frozenset([row.row for row in rows if row.status is Status.SETTLED])
+        runs = self.looker.runs(rows, settled - before)
+        known = self._works.settled(rows, runs)
+        if isinstance(step.reply, Settled):
+            count, same = step.reply.count, self._same(runs, step.reply.count, known)
+        else:
+            count, same = 1, settled - before - {self._orders[int(step.text.split(" ")[1])]}
+        if any(run.changes is None for run in runs):
+            self._computed = None
+        kept = before & settled
+        earlier = any(change.earlier is not None for run in runs for change in run.changes or ())
+        again = bool(kept) or count < len(runs) or earlier
+        return Ran(rows, runs, kept, again, count, same)
+
+    def _same(self, runs: tuple[RowRun, ...], count: int, known: frozenset[int]) -> frozenset[int]:
+        """The rows that a settle didn't run, where it is known which they are: it ran so many, and none of `known`.
+
+        It ran those that hadn't run before, have another instruction, or leave other numbers. Where these are as many
+        as it ran, they are all that it ran. Where `known` are as many as it didn't run, they are all that it didn't.
+        """
+        if count == len(runs):
+            return frozenset()
+        ids = frozenset([run.row.row for run in runs])
+        surely = frozenset([run.row.row for run in runs if is_other(run, self._computed or {})])
+        if not count or (self._computed is not None and len(surely) == count):
+            return ids - surely if count else ids
+        return known if len(known) == len(runs) - count else frozenset()
+
+    def _see_computed(self) -> None:
+        """Notes the instructions of the rows that are settled."""
+        if self._rows is None:
+            self._computed = None
+        elif self._computed is not None:
+            self._computed |= {row.row: row.text for row in self._rows if row.status is Status.SETTLED}
+
+
+def is_other(run: RowRun, computed: Mapping[int, str]) -> bool:
+    """Whether a row is seen to have run: anew, by another instruction than `computed` has, or with other numbers."""
+    is_changed = any(
+        change.earlier is not None and change.earlier != change.after.numbers for change in run.changes or ()
+    )
+    return computed.get(run.row.row) != run.row.text or is_changed
 
 
 def touched_of(old: tuple[Row, ...], new: tuple[Row, ...]) -> Touched:
     """What an edit did, by the rows before and after it: a row that it touched has another edition."""
     editions = {row.row: row.edition for row in old}
-    unsettled = frozenset([row.row for row in new if editions.get(row.row) != row.edition])
-    kept = frozenset([row.row for row in new if row.status is Status.SETTLED]) - unsettled
+    touched = frozenset([row.row for row in new if editions.get(row.row) != row.edition])
+    settled = frozenset([row.row for row in new if row.status is Status.SETTLED])
     rows = frozenset([row.row for row in new])
     gone = editions.keys() - rows
-    return Touched(new, unsettled, kept, rows - unsettled - kept, min(gone) if gone else None)
+    return Touched(
+        new, touched - settled, touched & settled, settled - touched, rows - touched - settled, min(gone, default=None)
+    )
 
 
 def _told(paragraphs: list[list[str]]) -> tuple[tuple[str, ...], ...]:
