@@ -2,7 +2,7 @@
 
 from __future__ import annotations
 
-from collections.abc import Mapping, Sequence
+from collections.abc import Iterable, Mapping, Sequence
 from dataclasses import dataclass, field, replace
 from typing import Protocol, TypeVar
 
@@ -10,9 +10,28 @@ from pevudlo.hints.explanation import Explanation, Refusal, explained
 from pevudlo.hints.meanings import Where
 from pevudlo.lang.board import Board
 from pevudlo.lang.causes import causes
-from pevudlo.lang.replies import Faults, NoReply, Refused, Reply, RowFault, Settled, Values, Verdict, Word, parse
+from pevudlo.lang.replies import (
+    Faults,
+    NoReply,
+    Ok,
+    Refused,
+    Reply,
+    RowAdded,
+    RowFault,
+    Settled,
+    Values,
+    Verdict,
+    Word,
+    parse,
+)
 
 Kind = TypeVar("Kind", bound=Reply)
+
+EDITS = ("set", "field", "input", "insert", "delete", "replace")
+"""The commands that are edits: each that is accepted counts one."""
+
+MOST_LISTED = 1_000_000
+"""Of how many rows it is looked whether they were run."""
 
 
 @dataclass(frozen=True)
@@ -20,7 +39,8 @@ class Answer:
     """A line, the lines of its reply as they came, the reply that they are, and why it is refused where it is.
 
     `faults` are the rows that are refused for their data, behind a line that ran rows, and behind `faults`; `causes`
-    says why, by row.
+    says why, by row. `same` is how many rows the line settled that weren't run, since they would compute again what
+    they computed last, and `same_rows` are these in program order, where the program's lists tell which they are.
     """
 
     line: str
@@ -29,6 +49,8 @@ class Answer:
     explanation: Explanation | None = None
     faults: tuple[RowFault, ...] = ()
     causes: Mapping[int, str] = field(default_factory=dict)
+    same: int = 0
+    same_rows: tuple[int, ...] = ()
 
 
 class Peer(Protocol):
@@ -48,6 +70,7 @@ class Talk:
         self.peer = peer
         self.where = where
         self.board = Board()
+        self._edits, self._is_settled, self._listed_left = 0, False, MOST_LISTED
 
     def tell(self, line: str) -> Answer | None:
         """Asks one line. None for an empty line or a comment. Raises as its `ask` does, and NoReply."""
@@ -59,10 +82,16 @@ class Talk:
         return Answer(line, tuple(lines), reply, explanation)
 
     def tell_causes(self, line: str) -> Answer | None:
-        """As `tell`, and looks which rows are refused for their data behind a line that ran some, and why."""
+        """As `tell`, and looks which rows are refused for their data behind a line that ran some, and why.
+
+        It looks too which rows the line settled and didn't run, as long as the program's lists aren't too many.
+        """
+        before = self._unsettled() if line.split(" ")[0] in ("settle", "bring") else None
         answer = self.tell(line)
         if answer is None:
             return None
+        same, rows = self._same_behind(answer, before)
+        answer = replace(answer, same=same, same_rows=rows)
         faults = self._faults_behind(answer)
         return replace(answer, faults=faults, causes=causes(faults, self.board, self.look)) if faults else answer
 
@@ -89,11 +118,49 @@ class Talk:
         """The reply that these lines are; the board has noted what it declares."""
         reply = parse(lines)
         self.board.note(line, lines[0])
+        self._edits += line.split(" ")[0] in EDITS and isinstance(reply, (Ok, RowAdded))
+        self._is_settled = self._is_settled or isinstance(reply, Settled) or reply == Verdict(Word.KEPT)
         return reply
 
     def ask(self, line: str, kind: type[Kind]) -> Kind:
         """The reply to a command, which is of this kind."""
         return of_kind(self.command(line), kind)
+
+    def _rows(self) -> list[str] | None:
+        """The rows as `list` has them. None where none was settled so far, or where too many were listed."""
+        if not self._is_settled or self._listed_left <= 0:
+            return None
+        first, *rows = self.peer.ask("list")
+        if first != f"rows {len(rows)}":
+            raise NoReply(f"no list: {first[:80]!r}")
+        self._listed_left -= len(rows)
+        return rows
+
+    def _unsettled(self) -> tuple[int, ...] | None:
+        """The rows that are unsettled, where they are listed."""
+        rows = self._rows()
+        return None if rows is None else ids_of(row for row in rows if row.split(" ", 4)[3] != "settled")
+
+    def _same_behind(self, answer: Answer, before: tuple[int, ...] | None) -> tuple[int, tuple[int, ...]]:
+        """How many rows a line settled without a run, and which, where that is known. `before` were unsettled then.
+
+        Behind an edit these are settled rows of its edition. Behind a `settle` they are all that it didn't run.
+        """
+        word, *words = answer.line.split(" ")
+        if word in EDITS and isinstance(answer.reply, (Ok, RowAdded)):
+            mark = f"edition {self._edits} settled "
+            same = ids_of(row for row in self._rows() or () if row.partition(" ")[2].startswith(mark))
+            return len(same), same
+        if before is None:
+            return 0, ()
+        if isinstance(answer.reply, Settled):
+            return len(before) - answer.reply.count, () if answer.reply.count else before
+        if answer.reply == Verdict(Word.KEPT):
+            after = self._unsettled()
+            ran = self.board.ordered[int(words[0])]
+            same = tuple(row for row in before if after is not None and row not in (ran, *after))
+            return len(same), same
+        return 0, ()
 
     def _faults_behind(self, answer: Answer) -> tuple[RowFault, ...]:
         """The rows that are refused for their data behind a line that ran rows. After `bring` it is the one it ran."""
@@ -105,6 +172,11 @@ class Talk:
             row = self.board.ordered[int(answer.line.split(" ")[1])]
             return tuple(fault for fault in self.faults() if fault.row == row)
         return ()
+
+
+def ids_of(rows: Iterable[str]) -> tuple[int, ...]:
+    """The ids of rows as `list` has them."""
+    return tuple(int(row.partition(" ")[0]) for row in rows)
 
 
 def of_kind(reply: Reply, kind: type[Kind]) -> Kind:

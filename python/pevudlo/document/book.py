@@ -125,11 +125,11 @@ class Book:
         self._inputs = wanted
 
     def settle(self, rows: Sequence[FileRow], done: Update) -> None:
-        """Runs what is unsettled, and sees which rows ran. Raises NewBook where the book's rows aren't these."""
+        """Settles all rows, and sees which were touched. Raises NewBook where the book's rows aren't these."""
         done.rows = len(rows)
         done.count = self.talk.ask("settle", Settled).count
         if done.sent or done.count:
-            done.ran = frozenset(self._list(rows))
+            done.touched = frozenset(self._list(rows))
             self.faults = {fault.row: fault for fault in self.talk.faults()}
 
     # What is seen.
@@ -163,7 +163,7 @@ class Book:
         return numbers
 
     def _list(self, rows: Sequence[FileRow]) -> list[int]:
-        """The ids of the rows that ran since the last list, by the book's list, which has to be that of these rows."""
+        """The ids of the rows of a new edition since the last list. The book's list has to be that of these rows."""
         listed = self.peer.ask("list")[1:]
         if len(listed) != len(rows):
             raise NewBook(LOST)
@@ -171,16 +171,16 @@ class Book:
         end = len(rows) - high
         if rows[:low] != self._rows[:low] or rows[end:] != self._rows[len(self._rows) - high :]:
             low, end = 0, len(rows)
-        ran: list[int] = []
+        touched: list[int] = []
         for line, row in zip(listed[low:end], rows[low:end]):
             number, _, edition, _, text = line.split(" ", 4)
             if (number, text) != (str(row.book), row.text):
                 raise NewBook(LOST)
             if self.editions.get(row.book) != int(edition):
                 self.editions[row.book] = int(edition)
-                ran.append(row.book)
+                touched.append(row.book)
         self._listed, self._rows = listed, rows
-        return ran
+        return touched
 
 
 def told_first(pieces: Sequence[Piece]) -> list[Piece]:

@@ -58,7 +58,7 @@ class Document:
         self._typed: tuple[list[str], list[Shown]] | None = None
         self._looks: dict[tuple[int, str], Seen] = {}
         self._before: dict[tuple[int, str], Numbers] = {}
-        # The marks of rows that didn't run again, with the row's edition and how long their values are.
+        # The marks of rows that weren't touched, with the row's edition and how long their values are.
         self.marks: dict[int, tuple[tuple[int, int], Mark]] = {}
 
     def __enter__(self) -> Document:
@@ -76,7 +76,7 @@ class Document:
     # Updates.
 
     def update(self, text: str, hold: bool = False) -> Update:
-        """Takes a new text, sends what leads to it, and runs what that unsettled.
+        """Takes a new text, sends what leads to it, and settles the rows.
 
         With `hold`, a line that was a row and is refused now, since it is being typed, keeps the row that it was. One
         that declared something and isn't in the grammar now keeps what it declared.
@@ -272,7 +272,7 @@ class Document:
         return self.book.look(shown.key, shown.anchor)
 
     def written(self, row: FileRow) -> dict[str, Numbers]:
-        """What a row leaves in the keys that it writes. It is asked once for each time that the row ran."""
+        """What a row leaves in the keys that it writes. It is asked once for each edition of the row."""
         edition, found = self.book.editions[row.book], dict[str, Numbers]()
         for key in self.book.board.keys_written(row.text):
             at = row.book, key
@@ -285,7 +285,7 @@ class Document:
         return found
 
     def earlier(self, row: FileRow, key: str) -> Numbers | None:
-        """What was seen of a key behind a row before its last run."""
+        """What was seen of a key behind a row before it was touched last."""
         return self._before.get((row.book, key))
 
 

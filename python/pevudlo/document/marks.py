@@ -11,6 +11,7 @@ from pevudlo.document.states import Mark, State
 from pevudlo.document.update import Update
 from pevudlo.draw.arrays import differing, extent
 from pevudlo.lang.keys import width_of
+from pevudlo.lang.same import same_words
 from pevudlo.record.earlier import Numbers
 
 MOST = 40
@@ -39,7 +40,7 @@ def short(numbers: Sequence[int], before: Numbers | None, width: int, most: int 
 
 
 def mark_of(document: Document, number: int, done: Update, most: int = MOST) -> Mark:
-    """What stands beside the line of an index behind an update. It looks where it wasn't looked at since it ran."""
+    """What stands beside the line of an index behind an update. Rows are looked at again that it touched."""
     shown = document.shown[number]
     if shown.refused:
         return Mark(State.REFUSED, refusal_text(document, number))
@@ -66,31 +67,33 @@ def row_mark(document: Document, row: FileRow, done: Update, most: int) -> Mark:
     """What stands beside a row."""
     if row.book in document.book.faults:
         return Mark(State.FAULT, f"it stores nothing, since {document.book.cause(row)}")
-    has_run = row.book in done.ran
+    is_touched = row.book in done.touched
     kept = document.marks.get(row.book)
     at = document.book.editions[row.book], most
-    if kept is not None and kept[0] == at and not has_run:
+    if kept is not None and kept[0] == at and not is_touched:
         return kept[1]
     parts, is_other = [], False
     for key, numbers in document.written(row).items():
-        before = document.earlier(row, key) if has_run else None
+        before = document.earlier(row, key) if is_touched else None
         is_other = is_other or before is None or before != numbers
         name = key.partition(".")[2] or key
         parts.append(f"{name} {short(numbers, before, width_of(document.book.board, key), most)}")
-    state = State.KEPT if not has_run else State.RAN if is_other else State.SAME
+    state = State.KEPT if not is_touched else State.NEW if is_other else State.SAME
     mark = Mark(state, "  ".join(parts))
-    if not has_run:
+    if not is_touched:
         document.marks[row.book] = at, mark
     return mark
 
 
 def headline(document: Document, done: Update) -> str:
-    """How many rows ran again, why a new book was begun, and what is refused."""
+    """How many rows ran again or weren't run, why a new book was begun, and what is refused."""
     rows = "1 row" if done.rows == 1 else f"{done.rows:,} rows"
     if done.fresh:
         said = f"a new book ({done.fresh}): {done.count:,} of {rows} ran"
     else:
         said = f"{done.count:,} of {rows} ran again"
+        same = len(done.touched) - done.count
+        said += f", {same:,} {same_words(same)}" if same else ""
     refused = sum(bool(shown.refused) for shown in document.shown)
     if refused:
         said += "; 1 line is refused" if refused == 1 else f"; {refused:,} lines are refused"

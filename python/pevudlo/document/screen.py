@@ -19,9 +19,9 @@ from pevudlo.document.update import Update
 from pevudlo.draw.visible import visible
 from pevudlo.progress import Later
 
-FEET = "▶ ran again, * other than before, = ran with the same values, ✗ refused; arrows move, q ends"
+FEET = "▶ new values, * other than before, = touched, with the same values, ✗ refused; arrows move, q ends"
 TONES = {
-    State.RAN: "1;33",
+    State.NEW: "1;33",
     State.SAME: "36",
     State.REFUSED: "31",
     State.FAULT: "35",
@@ -47,13 +47,13 @@ class Screen:
         self._size = shutil.get_terminal_size()
 
     def show(self, done: Update) -> None:
-        """Draws what an update did. Where nothing of it is visible it goes to the first line that ran or is refused."""
+        """Draws what an update did. Where nothing of it is visible it goes to the first line touched or refused."""
         self._done, self._trouble = done, ""
         height = self._size.lines - 2
         news = [
             at
             for at, shown in enumerate(self._document.shown)
-            if shown.refused or (shown.row is not None and shown.row.book in done.ran)
+            if shown.refused or (shown.row is not None and shown.row.book in done.touched)
         ]
         if news and not done.fresh and not any(self._top <= at < self._top + height for at in news):
             self._top = max(0, news[0] - 3)

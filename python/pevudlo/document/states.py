@@ -9,7 +9,7 @@ from enum import Enum
 class State(Enum):
     """What became of a line, with its sign."""
 
-    RAN = "▶"
+    NEW = "▶"
     SAME = "="
     KEPT = " "
     REFUSED = "✗"

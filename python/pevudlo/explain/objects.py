@@ -111,9 +111,11 @@ def parts_of(answer: Answer, board: Board) -> dict[str, Any]:
 
 
 def object_of(number: int, answer: Answer, board: Board) -> dict[str, Any]:
-    """A line with its number, the kind and the parts of its reply, and rows that are refused for their data."""
+    """A line with its number, the kind and the parts of its reply, rows that weren't run, and rows that are refused."""
     told = {"line": number, "command": readable(answer.line), "kind": KINDS[type(answer.reply)]}
     told |= parts_of(answer, board)
+    if answer.same:
+        told |= {"same": answer.same, "same_rows": list(answer.same_rows) or None}
     if answer.faults or isinstance(answer.reply, Faults):
         told["faults"] = [fault_object(fault, answer.causes) for fault in answer.faults]
     return told

@@ -10,12 +10,13 @@ from pevudlo.hints.explanation import MOST_SHOWN
 from pevudlo.lang.board import Board
 from pevudlo.lang.causes import MOST_NAMED, count_words, row_words
 from pevudlo.lang.replies import Faults, OrderTaken, PendingReply, Refused, RowFault, Settled, Values, Verdict, Word
+from pevudlo.lang.same import same_words
 from pevudlo.talk import Answer
 
 VERDICTS = {
     Word.KEPT: "the result is the present row's, and settles it",
     Word.REPEATED: "the row is settled already",
-    Word.STALE: "the row became unsettled again after the order was taken",
+    Word.STALE: "an edit touched the row after the order was taken",
     Word.GONE: "no row has this id any more",
     Word.FOREIGN: "the order isn't of this book",
 }
@@ -46,8 +47,25 @@ def values_text(line: str, values: Values, board: Board) -> tuple[str, list[str]
     return f"values of {key} {where} ({shape}, {bits})", text_of(grid).split("\n")
 
 
+def same_text(answer: Answer) -> str:
+    """Which rows a line settled that weren't run, or how many."""
+    rows = answer.same_rows if len(answer.same_rows) <= MOST_NAMED else ()
+    who = ("row" if len(rows) == 1 else "rows") + " " + ", ".join(map(str, rows))
+    if not rows:
+        who = "1 row" if answer.same == 1 else f"{answer.same:,} rows"
+    return f"{who} {same_words(answer.same)}"
+
+
 def told(answer: Answer, board: Board, most: int = MOST_SHOWN) -> tuple[str, list[str]]:
     """What an answer says: the line behind its number, and further lines. `most` is that of Explanation.lines."""
+    head, more = reply_text(answer, board, most)
+    if not answer.same:
+        return head, more
+    return f"{head}{';' if ':' in head else ':'} {same_text(answer)}", more
+
+
+def reply_text(answer: Answer, board: Board, most: int) -> tuple[str, list[str]]:
+    """What a reply says, in a line and further ones."""
     reply, first = answer.reply, answer.lines[0]
     match reply:
         case Refused():

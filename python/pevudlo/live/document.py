@@ -90,7 +90,7 @@ _TEXT = """
 </div>
 <div id="text-answer" aria-live="assertive"></div>
 <p class="quiet">What is typed here is written into the file. A row that isn't right while it is typed stays as it was,
-until the text is left or saved by Ctrl-S. <b>▶</b> ran again, <b>*</b> other than before, <b>=</b> ran with the same
-values, <b>✗</b> refused, <b>!</b> refused for its data.</p>
+until the text is left or saved by Ctrl-S. <b>▶</b> new values, <b>*</b> other than before, <b>=</b> touched, with
+the same values, <b>✗</b> refused, <b>!</b> refused for its data.</p>
 </section>
 """

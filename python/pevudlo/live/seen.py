@@ -56,6 +56,8 @@ class Seen:
             self._starts[step.given[1].key] = step.given[1]
         if step.touched is not None:
             self.edit = Edit(step.text, step.touched)
+            if step.touched.same:
+                self._note_runs(self.recorder.looker.runs(step.touched.rows, step.touched.same))
         if step.ran is not None:
             self._note_runs(step.ran.runs)
             kept = step.ran.kept

@@ -212,7 +212,7 @@ def refused_rows(seen: Seen) -> str:
 
 
 def last_edit(edit: Edit | None) -> str:
-    """What the last edit of settled rows did: which it unsettles and which keep their results."""
+    """What the last edit of settled rows did: which it unsettles, and which it doesn't."""
     if edit is None:
         return ""
     shown = edit.text if len(edit.text) <= 120 else edit.text[:120] + " .."

@@ -27,7 +27,7 @@ MOST_LINES = 400
 """So many lines have values where more are asked for, as for a whole file."""
 
 COLUMNS = 96
-SIGNS = {State.RAN: "▶ ", State.SAME: "= "}
+SIGNS = {State.NEW: "▶ ", State.SAME: "= "}
 STORES_NOTHING = "! it stores nothing"
 
 

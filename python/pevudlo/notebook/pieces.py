@@ -78,7 +78,7 @@ class Pieces:
             at += len(lines)
             marks = [mark_of(self.document, number, self.done) for number in numbers]
             self._known[name] = [self._known_of(number) for number in numbers]
-            is_other = self._known[name] != before.get(name) or any(mark.state is State.RAN for mark in marks)
+            is_other = self._known[name] != before.get(name) or any(mark.state is State.NEW for mark in marks)
             if name == asked or is_other:
                 told = [self._line(number, mark) for number, mark in zip(numbers, marks)]
                 drawn[name] = Drawn(name, name == asked, told, self.document, self.done)

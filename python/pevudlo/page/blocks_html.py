@@ -8,6 +8,7 @@ from pevudlo.draw.grids import Grid, html_of, shape_text
 from pevudlo.lang.board import Board
 from pevudlo.lang.keys import axes_of, width_of
 from pevudlo.lang.replies import Faults, PendingReply, Rows, Values
+from pevudlo.lang.same import same_words
 from pevudlo.page.blocks import Block, Kind
 from pevudlo.page.edits import edit_body
 from pevudlo.page.parts import cause_lines, clean, command, look_grid, plural, prose, quoted, refusal, row_id, sign
@@ -18,7 +19,7 @@ from pevudlo.record.recorder import Step
 WORDS_OF_VERDICTS = {
     "kept": "its result is the row's, and settles it",
     "repeated": "the row is settled already",
-    "stale": "the row became unsettled again after the order was taken",
+    "stale": "an edit touched the row after the order was taken",
     "gone": "no row has this id any more",
     "foreign": "its inputs aren't those of the row now",
 }
@@ -68,16 +69,18 @@ def _heading_of_run(step: Step) -> str:
 
 
 def _count_of_run(step: Step) -> str:
-    """How many rows ran, and how many kept their results."""
+    """How many rows ran, how many compute the same again, and how many kept their results."""
     if step.ran is None or not step.ran.runs:
         return "Nothing to settle" if step.lines[0] == "settled 0" else "Settled"
-    count = len(step.ran.runs)
+    ran, same = step.ran, len(step.ran.runs) - step.ran.count
+    computes = f", {same:,} {same_words(same)}" if same else ""
     if step.word == "bring":
-        return f"Row {step.ran.runs[0].row.row} ran"
-    if not step.ran.again:
-        return f"{plural(count, 'row')} ran"
-    kept = len(step.ran.kept)
-    return f"{plural(count, 'row')} ran again" + (f", {kept:,} kept" if kept else ", none kept")
+        (row,) = [run.row.row for run in ran.runs if run.row.row not in ran.same]
+        return f"Row {row} ran{computes}"
+    if not ran.again:
+        return f"{plural(ran.count, 'row')} ran"
+    first = f"{plural(ran.count, 'row')} ran again" if ran.count else "No row ran"
+    return first + computes + (f", {len(ran.kept):,} kept" if ran.kept else ", none kept")
 
 
 def body_of(block: Block, board: Board, comments: Comments) -> str:

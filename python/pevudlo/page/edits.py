@@ -1,8 +1,9 @@
-"""Edits on a page: which rows each of them unsettles, and which keep their results."""
+"""Edits on a page: which rows each of them unsettles, which compute the same again, and which keep their results."""
 
 from __future__ import annotations
 
 from pevudlo.lang.replies import Row
+from pevudlo.lang.same import same_words
 from pevudlo.page.parts import clean, command, plural, row_id, sign
 from pevudlo.record.recorder import Step, Touched
 
@@ -14,21 +15,29 @@ MOST_SIGNS = 600
 
 MOST_RANGES = 60
 
-_SIGNS = {"unsettled": "○", "kept": "●", "waiting": "◌"}
-_WORDS = {"unsettled": "unsettled", "kept": "kept", "waiting": "unsettled before"}
+_SIGNS = {"unsettled": "○", "same": "=", "kept": "●", "waiting": "◌"}
+_WORDS = {
+    "unsettled": "unsettled",
+    "same": same_words(1),
+    "kept": "kept",
+    "waiting": "unsettled before",
+}
 
 
 def fate_of(row: Row, touched: Touched) -> str:
     """What the edit did to a row."""
     if row.row in touched.unsettled:
         return "unsettled"
+    if row.row in touched.same:
+        return "same"
     return "kept" if row.row in touched.kept else "waiting"
 
 
 def sentence(touched: Touched) -> str:
     """The counts in words."""
     count = len(touched.rows)
-    unsettled, kept, waiting = len(touched.unsettled), len(touched.kept), len(touched.waiting)
+    unsettled, same, kept = len(touched.unsettled), len(touched.same), len(touched.kept)
+    waiting = len(touched.waiting)
     if not unsettled:
         first = "<b>No row</b> is unsettled by it."
     elif unsettled == count:
@@ -36,17 +45,23 @@ def sentence(touched: Touched) -> str:
         first = f"It unsettles <b>{all_of_them}</b>."
     else:
         first = f"It unsettles <b>{unsettled:,} of {plural(count, 'row')}</b>."
+    computes = f" <b>{plural(same, 'row')}</b> {same_words(same)}." if same else ""
     second = (
         f" <b>{plural(kept, 'row')}</b> {'keeps its result' if kept == 1 else 'keep their results'}." if kept else ""
     )
     third = f" {plural(waiting, 'row')} {'was' if waiting == 1 else 'were'} unsettled before." if waiting else ""
-    return first + second + third
+    return first + computes + second + third
 
 
 def bar(touched: Touched) -> str:
     """The parts of the program as a bar."""
     parts = []
-    for name, rows in (("unsettled", touched.unsettled), ("waiting", touched.waiting), ("kept", touched.kept)):
+    for name, rows in (
+        ("unsettled", touched.unsettled),
+        ("waiting", touched.waiting),
+        ("same", touched.same),
+        ("kept", touched.kept),
+    ):
         if rows:
             parts.append(
                 f'<span class="{name}" style="flex-grow:{len(rows)}"><i>{_SIGNS[name]}</i> {len(rows):,}</span>'

@@ -7,6 +7,7 @@ import hashlib
 from collections.abc import Sequence
 
 from pevudlo.draw.grids import read_static, style
+from pevudlo.lang.same import same_words
 from pevudlo.page.parts import clean, sign
 
 
@@ -86,6 +87,7 @@ def legend() -> str:
         f'<li class="{kind}">{sign(mark)} {words}</li>'
         for kind, mark, words in (
             ("unsettled", "○", "unsettled: has to run again"),
+            ("same", "=", same_words(1)),
             ("kept", "●", "kept its result"),
             ("ran", "✓", "ran"),
             ("refused", "✕", "refused"),

@@ -6,6 +6,7 @@ from collections.abc import Sequence
 from dataclasses import dataclass
 
 from pevudlo.lang.replies import Row
+from pevudlo.lang.same import same_words
 from pevudlo.page.edits import fate_of
 from pevudlo.page.parts import clean, command, row_id
 from pevudlo.record.recorder import Ran, Step
@@ -19,13 +20,15 @@ _CELLS = {
     "unsettled": ("○", "unsettled"),
     "kept": ("●", "kept"),
     "waiting": ("◌", "unsettled before"),
+    "same": ("=", same_words(1)),
+    "settled": ("✓", "ran, or computes the same again"),
     "ran": ("✓", "ran"),
     "refused": ("✕", "refused for its data"),
     "out": ("", "not there"),
 }
 
 
-_NO_ROWS = Ran((), (), frozenset(), False)
+_NO_ROWS = Ran((), (), frozenset(), False, 0, frozenset())
 
 
 @dataclass(frozen=True)
@@ -48,7 +51,9 @@ def moment_of(step: Step, anchor: str) -> Moment | None:
         fates = {row.row: fate_of(row, step.touched) for row in step.touched.rows}
         return Moment(anchor, step.number, step.text, False, step.touched.rows, fates)
     if step.ran is not None:
-        ran = {run.row.row: "ran" if run.fault is None else "refused" for run in step.ran.runs}
+        word = "ran" if step.ran.is_known else "settled"
+        ran = {run.row.row: word if run.fault is None else "refused" for run in step.ran.runs}
+        ran |= {row: "same" for row in step.ran.same}
         kept = {row: "kept" for row in step.ran.kept}
         fates = {row.row: "waiting" for row in step.ran.rows} | kept | ran
         return Moment(anchor, step.number, step.text, True, step.ran.rows, fates)

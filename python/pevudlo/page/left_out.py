@@ -24,7 +24,9 @@ class LeftOut:
     def note(self, step: Step) -> None:
         """Counts what isn't shown of a step."""
         self.unlisted += step.unlisted
-        self.undrawn += sum(run.changes is None for run in step.ran.runs) if step.ran is not None else 0
+        if step.ran is not None:
+            ran = [run for run in step.ran.runs if run.row.row not in step.ran.same]
+            self.undrawn += sum(run.changes is None for run in ran)
 
     def summary(self) -> str:
         """The counts in a few words, for the head of the page."""

@@ -12,6 +12,7 @@ from pevudlo.draw.marks import IS_ZERO, Marks
 from pevudlo.lang.board import Board
 from pevudlo.lang.keys import axes_of, width_of
 from pevudlo.lang.replies import Row
+from pevudlo.lang.same import same_words
 from pevudlo.page.parts import clean, command, pending, plural, prose, quoted, row_id, sign
 from pevudlo.record.looks import Change, Look, RowRun
 from pevudlo.record.recorder import Ran, Step
@@ -89,6 +90,11 @@ def row_card(run: RowRun, comments: Comments, board: Board) -> str:
 
 def kept_card(rows: list[Row]) -> str:
     """Rows that lie beside each other and kept their results."""
+    return _idle_card(rows, "●", "keeps its result" if len(rows) == 1 else "keep their results")
+
+
+def _idle_card(rows: list[Row], mark: str, words: str) -> str:
+    """Rows that lie beside each other and didn't run, in a line."""
     if len(rows) == 1:
         named = f"{row_id(rows[0].row)}{command(rows[0].text)}"
     elif len(rows) > MOST_KEPT_NAMED:
@@ -96,8 +102,12 @@ def kept_card(rows: list[Row]) -> str:
     else:
         items = "".join(f"<li>{row_id(row.row)}{command(row.text)}</li>" for row in rows)
         named = f"<details><summary>{plural(len(rows), 'row')}</summary><ol>{items}</ol></details>"
-    word = "keeps its result" if len(rows) == 1 else "keep their results"
-    return f'<div class="row kept">{named}<span class="state">{sign("●")} {word}</span></div>'
+    return f'<div class="row kept">{named}<span class="state">{sign(mark)} {words}</span></div>'
+
+
+def same_card(rows: list[Row]) -> str:
+    """Rows that lie beside each other and weren't run, since they compute the same again."""
+    return _idle_card(rows, "=", same_words(len(rows)))
 
 
 def undrawn_card(runs: list[RowRun]) -> str:
@@ -117,6 +127,8 @@ def ran_section(step: Step, ran: Ran, comments: Comments, board: Board) -> str:
             parts += [row_card(runs[row.row], comments, board) for row in rows]
         elif kind == "undrawn":
             parts.append(undrawn_card([runs[row.row] for row in rows]))
+        elif kind == "same":
+            parts.append(same_card(rows))
         elif kind == "kept" and step.word == "settle":
             parts.append(kept_card(rows))
     return "".join(parts)
@@ -127,4 +139,6 @@ def _kind_of(row: Row, runs: Mapping[int, RowRun], ran: Ran) -> str:
     run = runs.get(row.row)
     if run is None:
         return "kept" if row.row in ran.kept else "other"
+    if row.row in ran.same:
+        return "same"
     return "undrawn" if run.changes is None and run.fault is None else "drawn"

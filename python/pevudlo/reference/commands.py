@@ -48,7 +48,7 @@ show a start => values 0 0 0 0
         "input",
         "input KEY NUM VAL ..",
         "Gives a key one value or more at the start of the program, from the processor NUM on. Rows that are made of "
-        "the key become unsettled.",
+        "the key become unsettled, but for those that would compute the same again.",
         """
 set S 4
 field a S 8
@@ -159,7 +159,8 @@ bring 1 => kept
     command(
         "settle",
         "settle",
-        "Releases, and then executes the rows that are unsettled, until none is. The reply says how many they were.",
+        "Releases, and then settles the rows that are unsettled, until none is. The reply says how many were executed. "
+        "A row whose instruction and inputs are those of its last result keeps that and isn't executed.",
         FIRST
         + """
 settle => settled 1
@@ -167,6 +168,8 @@ settle => settled 0
 input b 0 5
 settle => settled 1
 show c end => values 15 22 33 4
+input b 0 5
+settle => settled 0
 """.lstrip(),
     ),
 )
@@ -190,7 +193,7 @@ show S.carry end => values 0 0 0 1
         "list",
         "list",
         "Lists the rows in program order. Each has its id, its edition, which is the number of the edit that last "
-        "made it unsettled, its status (`waiting`, `out` or `settled`), and its instruction.",
+        "touched it, its status (`waiting`, `out` or `settled`), and its instruction.",
         FIRST
         + """
 insert start u-move-constant-1L a 5 8 => row 2
