@@ -1,8 +1,13 @@
 /* Sessions of Paris programs, for C and C++.
 
-   A handle is two words that the caller keeps. All zeros is a closed one: `paris_handle handle = {0};`. The caller reads and writes
-   neither word, copies a handle nowhere, and passes it to one call at a time, always in the thread that opened it. An open handle
-   owns memory of malloc until paris_close, and nothing else does: what a call writes is the caller's own.
+   A handle is two words that the caller keeps, of a session or of an order. All zeros is a closed one: `paris_handle handle = {0};`. The
+   caller reads and writes neither word, and copies a handle nowhere. An open handle owns memory of malloc until paris_close or
+   paris_order_close, and nothing else does: what a call writes is the caller's own.
+
+   A handle may go to another thread, and is in one call at a time. The caller orders the calls of a handle by a mutex, or by the start or
+   the join of a thread. A look counts as a call: it takes the session out of the handle's words and puts it back. Calls of other handles
+   may be made at the same time, also of a snapshot and of the session that it was made of, and of an order and of the session that gave
+   it.
 
    Bytes, words and rooms are a pointer and a number of items; with 0 items it may be any pointer that isn't null. No two arguments of a
    call overlap. At a status other than PARIS_OK a call leaves its room and the session as they were, and what it says by a pointer to
@@ -26,6 +31,13 @@ typedef struct paris_handle {
   bool is_open;
 } paris_handle;
 
+/* An order: what a row computes, with all that it reads. Once it is executed, what came of it stands there too. It belongs to no session:
+   it may be brought to any, more than once, and outlives the one that gave it. */
+typedef struct paris_order {
+  void *at;
+  bool is_open;
+} paris_order;
+
 /* What became of a call. A status from 1 to 23 is the number of the fault by which it was refused, as scripts name it. */
 enum paris_status {
   PARIS_OK = 0,
@@ -36,7 +48,10 @@ enum paris_status {
   PARIS_WRONG_ROOM = 104, /* the room has another number of words than what is to be put there */
   PARIS_TOO_MANY = 105, /* the script is too long, or the session has answered as many lines as it can count */
   PARIS_TOO_WIDE = 106, /* a number is wider than a word */
-  PARIS_PARTLY = 107    /* there was no memory left while rows were settled: those that ran are settled */
+  PARIS_PARTLY = 107,   /* there was no memory left while rows were settled: those that ran are settled */
+  PARIS_NO_PROFILE = 108, /* no profile has this number */
+  PARIS_NOTHING = 109,  /* no row is ready */
+  PARIS_NOT_RUN = 110   /* the order is not executed */
 };
 
 /* Why a row is refused for its data: paris_faults tells of these rows. Such a row is settled, and changes nothing. */
@@ -45,12 +60,32 @@ enum paris_cause {
   PARIS_BAD_ADDRESS = 2 /* a processor holds an address outside its set */
 };
 
+/* What becomes of a result that is brought. At PARIS_KEPT alone rows change. */
+enum paris_verdict {
+  PARIS_KEPT = 1,     /* its row is settled by it */
+  PARIS_REPEATED = 2, /* its row is settled */
+  PARIS_STALE = 3,    /* its row has another edition */
+  PARIS_GONE = 4,     /* no row has its id */
+  PARIS_FOREIGN = 5   /* the row's instruction or what it reads is another one, or isn't settled */
+};
+
+/* A number in two words: high * 2^64 + low. */
+typedef struct paris_wide {
+  uint64_t low;
+  uint64_t high;
+} paris_wide;
+
 /* A place of the program: its start, its end, or, by any other number, the place just after the row with that id. */
 #define PARIS_START UINT64_C(0)
 #define PARIS_END UINT64_MAX
 
-/* Opens a session with nothing in it, and closes the one that the handle held. Where memory is refused the handle is closed. */
+/* Opens a session with nothing in it, and closes the one that the handle held. Where memory is refused the handle is closed. Fields have
+   1 to 64 bits, and 1 to 128 in a session that begins by the line `paris 2`. */
 uint32_t paris_open(paris_handle *handle);
+
+/* The same in a profile, which no line changes: fields have 1 to 64 bits in profile 1, and 1 to 128 in profile 2. At PARIS_NO_PROFILE
+   the handle is as it was. */
+uint32_t paris_open_profile(paris_handle *handle, uint32_t profile);
 
 /* Closes a handle, and frees what it owned. A closed handle stays closed, and PARIS_CLOSED says so. */
 uint32_t paris_close(paris_handle *handle);
@@ -73,10 +108,21 @@ uint32_t paris_script(const uint8_t *script, size_t len, uint8_t *room, size_t r
    the same fault. */
 uint32_t paris_set(paris_handle *handle, const uint8_t *key, size_t key_len, uint64_t from, const uint64_t *numbers, size_t len);
 
+/* The same with numbers of two words, as fields of more than 64 bits may have. */
+uint32_t paris_set_wide(paris_handle *handle, const uint8_t *key, size_t key_len, uint64_t from, const paris_wide *numbers, size_t len);
+
 /* Puts the numbers that a key holds at a place into a room of as many words: what `show` shows. *told is how many they are, at
    PARIS_WRONG_ROOM too, and the id of the row that has to be settled first at PARIS_PENDING. What `show` refuses is refused, by the
-   same fault. */
+   same fault. A field of more than 64 bits is PARIS_TOO_WIDE, whatever it holds. */
 uint32_t paris_get(paris_handle *handle, const uint8_t *key, size_t key_len, uint64_t place, uint64_t *room, size_t len, uint64_t *told);
+
+/* The same with numbers of two words, of keys of any width, so that none is PARIS_TOO_WIDE. */
+uint32_t paris_get_wide(paris_handle *handle, const uint8_t *key, size_t key_len, uint64_t place, paris_wide *room, size_t len, uint64_t *told);
+
+/* Puts the numbers that a key holds at a place into a room of words, from a processor on, as many as there is room for. *told is how many
+   numbers the key has, and the id of the row that has to be settled first at PARIS_PENDING. Where the room reaches past the last number
+   the call is PARIS_WRONG_ROOM, and *told is how many the key has. For all else it is as paris_get. It takes no memory. */
+uint32_t paris_part(paris_handle *handle, const uint8_t *key, size_t key_len, uint64_t place, uint64_t from, uint64_t *room, size_t len, uint64_t *told);
 
 /* Puts the ids of the rows in program order into a room of as many words. *count is how many they are, at PARIS_WRONG_ROOM too. */
 uint32_t paris_rows(paris_handle *handle, uint64_t *room, size_t len, size_t *count);
@@ -87,11 +133,60 @@ uint32_t paris_rows(paris_handle *handle, uint64_t *room, size_t len, size_t *co
    may be given up, and the call can be made again. */
 uint32_t paris_settle(paris_handle *handle, uint64_t *ran);
 
+/* Runs at most `most` orders, one after another, and fewer where no row is ready any more. *ran is how many. Orders that are out stay so.
+   At PARIS_PARTLY memory was refused once *ran were run, nothing else has changed, and the call can be made again. */
+uint32_t paris_run(paris_handle *handle, uint64_t most, uint64_t *ran);
+
+/* Settles what the value of a key at a place stands on: the unsettled rows that it is made by, in program order, and no other. *ran is how
+   many orders were run. Then paris_get has the value. A row that is out is run here too, and what is brought of it later is
+   PARIS_REPEATED. What `show` refuses is refused, by the same fault. At PARIS_PARTLY so many orders were run, settled rows stay so, and
+   the call can be made again. */
+uint32_t paris_settle_for(paris_handle *handle, const uint8_t *key, size_t key_len, uint64_t place, uint64_t *ran);
+
+/* Puts the ids of the unsettled rows into a room, in program order, or the first ones where the room has fewer words. *count is how many
+   rows are unsettled. What became unsettled by an edit is what is here after it and wasn't before. It takes no memory. */
+uint32_t paris_unsettled(paris_handle *handle, uint64_t *room, size_t len, size_t *count);
+
+/* *row is the id of the row that gives a key its value at a place, settled or not, and 0 where that is the input data. What `show` refuses
+   is refused, by the same fault. It takes no memory. */
+uint32_t paris_origin(paris_handle *handle, const uint8_t *key, size_t key_len, uint64_t place, uint64_t *row);
+
 /* Puts the settled rows that are refused for their data, as the command `faults` lists them, into a room, in program order: three
    words for each row, which are its id, its cause and a processor. The processor is the least one at which two messages meet, or the
    least one that holds an address outside its set. Where the room has fewer words it has the first ones. *count is how many rows
    these are, so 3 times as many words hold them all. */
 uint32_t paris_faults(paris_handle *handle, uint64_t *room, size_t len, size_t *count);
+
+/* Closes the order, and then opens one for the first row that is ready: it waits, and all that it reads is settled. The row is out then.
+   At PARIS_NOTHING no row is ready. At each status but PARIS_OK the order stays closed. It gets no number, and the line `take` no other
+   one. */
+uint32_t paris_take(paris_handle *handle, paris_order *order);
+
+/* Executes an order, in its handle. It needs no session and no lock, and may take as long as the order's row. At PARIS_NO_MEMORY the order
+   is as it was, and can be executed again. One that is executed stays as it is. */
+uint32_t paris_execute(paris_order *order);
+
+/* Brings the result of an order to a session, and leaves the order as it is. *verdict is one of enum paris_verdict, and *edition the row's
+   present edition at PARIS_STALE. At PARIS_KEPT its row is settled, and later rows that would compute again what they computed last are
+   settled with it. An order that isn't executed is PARIS_NOT_RUN. A closed order is PARIS_CLOSED, and so is a closed session. It takes no
+   memory: PARIS_NO_MEMORY comes only where a result has as many owners as can be counted. */
+uint32_t paris_bring(paris_handle *handle, paris_order *order, uint32_t *verdict, uint64_t *edition);
+
+/* *row is the id of the row that an order is for, *edition the edition that the row had, and *is_run whether the order is executed. */
+uint32_t paris_order_row(paris_order *order, uint64_t *row, uint64_t *edition, bool *is_run);
+
+/* Closes an order, and frees what it owned. No session sees it: a row that is out stays out. A closed order stays closed, and PARIS_CLOSED
+   says so. */
+uint32_t paris_order_close(paris_order *order);
+
+/* Gives up the orders that are out: their rows wait, with their editions, and are ready again. So does the line `release`. Results of
+   these orders can still be brought. It takes no memory. */
+uint32_t paris_release(paris_handle *handle);
+
+/* Closes `into`, and opens there a session in the same state, with the orders that lines took and the counts of lines, and with no reply.
+   The two share values, and what is done with either leaves the other as it is. Rows that are out are out in both: paris_release has them
+   wait. At another status than PARIS_OK `into` stays closed. */
+uint32_t paris_snapshot(paris_handle *handle, paris_handle *into);
 
 /* Puts the text of a status into a room, or its first bytes where the room has fewer, and answers how many bytes the text has: what
    the fault of this number is, or what stands above beside a status of the library. The text is ASCII, with no zero behind it. Any

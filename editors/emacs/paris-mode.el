@@ -10,7 +10,7 @@
   "What the last update of the server did.")
 
 (defvar paris-mode-commands
-  '("set" "field" "input" "insert" "delete" "replace" "take" "bring" "release" "settle" "show" "list" "faults")
+  '("paris" "set" "field" "input" "insert" "delete" "replace" "take" "bring" "release" "settle" "show" "list" "faults")
   "The commands of scripts.")
 
 (defvar paris-mode-font-lock

@@ -3,9 +3,9 @@
 _paris_options() {
     case "$1" in
         explain) echo '--help --json --quiet --stop --workers' ;;
-        prompt) echo '--help --quiet --workers' ;;
+        prompt) echo '--help --program --quiet --workers' ;;
         page) echo '--draw --help --quiet --workers -o' ;;
-        live) echo '--follow --help --port --quiet --workers' ;;
+        live) echo '--follow --help --port --program --quiet --shared --workers' ;;
         watch) echo '--help --plain --workers' ;;
         lsp) echo '--help --stdio --workers' ;;
         *) echo '--build --desk --help --quiet --version --where --workers explain prompt page live watch lsp' ;;

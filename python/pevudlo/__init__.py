@@ -6,6 +6,7 @@ from pevudlo.lang.causes import RefusedRows
 from pevudlo.lang.places import END, START, Place, after
 from pevudlo.lang.replies import Cause, OrderTaken, Row, RowFault, Status, Verdict, Word
 from pevudlo.machine import Machine, RowList
+from pevudlo.running.crew import News, Progress
 from pevudlo.values.shaped import Pending, ValueList, WrongShape, signed, unsigned
 from pevudlo.version import release
 from pevudlo.wire.library import Library
@@ -23,6 +24,7 @@ __all__ = [
     "Explanation",
     "Library",
     "Machine",
+    "News",
     "NotFound",
     "OrderTaken",
     "OutOfTurn",
@@ -30,6 +32,7 @@ __all__ = [
     "Pipe",
     "PipeError",
     "Place",
+    "Progress",
     "Refusal",
     "RefusedRows",
     "Row",

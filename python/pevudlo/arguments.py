@@ -39,6 +39,12 @@ def add_quiet(parser: argparse.ArgumentParser, also: str = "") -> None:
     parser.add_argument("--quiet", action="store_true", help=said)
 
 
+def add_program(parser: argparse.ArgumentParser) -> None:
+    """Adds the word by which a program of its own runs the rows."""
+    said = "have rows run in a program of its own, where else the library runs them if it is there"
+    parser.add_argument("--program", action="store_true", help=said)
+
+
 def workers(word: str) -> int:
     """A number of workers, in its one spelling."""
     if word not in map(str, range(1, MOST_WORKERS + 1)):

@@ -4,11 +4,13 @@ from __future__ import annotations
 
 from collections.abc import Sequence
 
+from pevudlo.lang.profiles import WORD
 from pevudlo.lang.replies import Ok, PendingReply, Values
 from pevudlo.talk import Talk, of_kind
 from pevudlo.values.shaped import Pending, input_lines
-from pevudlo.values.words import words_of
-from pevudlo.wire.library import END_NUMBER, Library, place_number
+from pevudlo.values.words import wide_words_of, words_of
+from pevudlo.wire.library import Library
+from pevudlo.wire.library_calls import END_NUMBER, place_number
 
 
 class LineData:
@@ -48,20 +50,27 @@ class ArrayData(LineData):
 
     def give(self, key: str, first: int, numbers: Sequence[int]) -> None:
         """Gives a key numbers from a processor on, as one edit."""
-        is_declared = self.talk.board.set_of(key) is not None
-        words = words_of(numbers) if is_declared and first <= END_NUMBER else None
-        if words is None or not self.library.set(key, first, words):
+        width = self.talk.board.width_of(key)
+        if width is None or first > END_NUMBER or not self._is_given(key, first, numbers, width > WORD):
             super().give(key, first, numbers)
+
+    def _is_given(self, key: str, first: int, numbers: Sequence[int], is_wide: bool) -> bool:
+        """Gives a key numbers of one word or of two. Whether the library has taken them."""
+        words = wide_words_of(numbers) if is_wide else words_of(numbers)
+        if words is None:
+            return False
+        return self.library.set_wide(key, first, words) if is_wide else self.library.set(key, first, words)
 
     def look(self, key: str, place: str) -> Sequence[int] | Pending:
         """The numbers of a key at a place, or the row that has to be settled first."""
-        name, number = self.talk.board.set_of(key), place_number(place)
-        if name is None or number is None:
+        board, number = self.talk.board, place_number(place)
+        name, width = board.set_of(key), board.width_of(key)
+        if name is None or width is None or number is None:
             return super().look(key, place)
-        told = self.library.get(key, number, self.talk.board.processors(name))
+        told = self.library.look(key, number, board.processors(name), width > WORD)
         if told is None:
             return super().look(key, place)
-        return Pending(told) if isinstance(told, int) else told.numbers
+        return Pending(told) if isinstance(told, int) else told
 
 
 def data_of(talk: Talk) -> LineData:

@@ -4,8 +4,10 @@ from __future__ import annotations
 
 import os
 import warnings
-from collections.abc import Mapping, Sequence
+from collections.abc import Iterator, Mapping, Sequence
+from contextlib import AbstractContextManager
 from pathlib import Path
+from threading import get_ident
 from types import MappingProxyType, TracebackType
 from typing import SupportsIndex, overload
 
@@ -14,6 +16,7 @@ from pevudlo.draw.grids import Grid
 from pevudlo.lang.board import Board, Declared
 from pevudlo.lang.causes import MOST_WARNED, RefusedRows, causes
 from pevudlo.lang.places import END, Place, spelled
+from pevudlo.lang.profiles import USUAL, check_profile
 from pevudlo.lang.replies import (
     NoReply,
     Nothing,
@@ -23,14 +26,17 @@ from pevudlo.lang.replies import (
     RowAdded,
     RowFault,
     Rows,
-    Settled,
     Verdict,
 )
+from pevudlo.running.background import Background, Touched
+from pevudlo.running.crew import News, Progress
+from pevudlo.running.history import MOST_STEPS
 from pevudlo.talk import Talk, of_kind
 from pevudlo.values.indices import Index, first_of, shown_part, split
 from pevudlo.values.notebook import rows_html
 from pevudlo.values.shaped import Pending, Shown, check_shape, flat, shaped, whole
-from pevudlo.wire.library import Library
+from pevudlo.wire.book import Book
+from pevudlo.wire.library_calls import place_number
 from pevudlo.wire.library_places import find_library
 from pevudlo.wire.pipe import Pipe
 from pevudlo.wire.program import find
@@ -54,7 +60,11 @@ class Machine:
     by `close`, the program ends.
 
     With `library=True`, or a library's path, it is a session of the library in this process, found by `find_library`.
-    One thread settles, numbers go in and out as arrays, and only the thread that made the machine may call it.
+    Numbers go in and out as arrays, and threads may share it. Rows run in the background where `start` was called, in
+    1 to 16 `workers`, 1 where nothing is said. `steps` says how many edits can be taken back: 100 where `workers` are
+    given, else none.
+
+    With `profile=2` fields have up to 128 bits, else up to 64. Any other profile than 1 and 2 is a ValueError.
     """
 
     def __init__(
@@ -62,31 +72,44 @@ class Machine:
         program: str | os.PathLike[str] | None = None,
         workers: int | None = None,
         library: bool | str | os.PathLike[str] = False,
+        profile: int = USUAL,
+        steps: int | None = None,
     ) -> None:
         self.program: Path | None = None
         self.library: Path | None = None
+        self._background: Background | None = None
+        check_profile(profile)
+        if workers is not None and workers not in range(1, 17):
+            raise ValueError(f"workers are 1 to 16, and not {workers!r}")
         if library is False:
             self._start(program, 2 if workers is None else workers)
         elif program is not None:
             raise ValueError("a machine is over a program or over the library, and not over both")
-        elif workers not in (None, 1):
-            raise ValueError(f"the library settles in one thread, and not in {workers!r} workers")
         else:
-            self._open(None if library is True else library)
+            usual = 0 if workers is None else MOST_STEPS
+            self._open(None if library is True else library, profile, workers or 1, usual if steps is None else steps)
+        if library is False and profile != USUAL:
+            self._talk.ask(f"paris {profile}", Ok)
 
     def _start(self, program: str | os.PathLike[str] | None, workers: int) -> None:
         """Starts a program."""
-        if workers not in range(1, 17):
-            raise ValueError(f"workers are 1 to 16, and not {workers!r}")
         self.program = find(program)
         self._talk = Talk(Pipe(self.program, workers))
         self._data = data_of(self._talk)
 
-    def _open(self, path: str | os.PathLike[str] | None) -> None:
-        """Opens a session of the library."""
+    def _open(self, path: str | os.PathLike[str] | None, profile: int, workers: int, steps: int) -> None:
+        """Opens a session of the library in a profile. In another one than the usual no line of it chooses one."""
         self.library = find_library(path)
-        self._talk = Talk(Library(self.library))
-        self._data = data_of(self._talk)
+        is_chosen = profile != USUAL
+        book = Book(self.library, profile if is_chosen else None)
+        self._hold(book, Board(profile=profile, is_begun=is_chosen), workers, steps)
+
+    def _hold(self, book: Book, board: Board, workers: int, steps: int) -> None:
+        """Takes a session of the library, of which this board is."""
+        talk = self._talk = Talk(book)
+        talk.board = board
+        self._data = data_of(talk)
+        self._background = Background(book, lambda: talk.board, workers, steps)
 
     def __enter__(self) -> Machine:
         return self
@@ -95,8 +118,11 @@ class Machine:
         self.close()
 
     def close(self) -> int:
-        """Ends the session, and gives its exit status: 1 where a command was refused, else 0."""
-        return self._talk.peer.close()
+        """Ends the session, and gives its exit status: 1 where a command was refused, else 0.
+
+        Rows that run in the background are waited for.
+        """
+        return self._talk.peer.close() if self._background is None else self._background.close()
 
     @property
     def sets(self) -> Mapping[str, tuple[int, ...]]:
@@ -107,6 +133,11 @@ class Machine:
     def fields(self) -> Mapping[str, Declared]:
         """The declared fields, each with its set and its width."""
         return MappingProxyType(self._board.fields)
+
+    @property
+    def profile(self) -> int:
+        """The profile: 1, or 2, where it was made in that, or where its first command was `paris 2`."""
+        return self._board.profile
 
     @property
     def process(self) -> int:
@@ -120,7 +151,7 @@ class Machine:
         self._talk.ask(f"set {name} {'x'.join(map(str, axes))}", Ok)
 
     def field(self, name: str, of: str, width: int) -> None:
-        """Declares a field of a set, of a width in bits from 1 to 64."""
+        """Declares a field of a set, of a width in bits from 1 to 64, or to 128 in profile 2."""
         self._talk.ask(f"field {name} {of} {width}", Ok)
 
     def insert(self, text: str, at: Place = END) -> int:
@@ -139,8 +170,10 @@ class Machine:
         """Settles all rows, and says how many of them ran: rows that would compute the same again aren't run.
 
         Where rows ran and some are refused for their data, a warning RefusedRows names them, once for the settle.
+        Ctrl-C leaves what is settled. Over the library no further row begins then; a program settles on, and the next
+        call waits for its end.
         """
-        count = self._talk.ask("settle", Settled).count
+        count = self._talk.settle() if self._background is None else self._background.settle()
         faults = self.faults() if count else ()
         if faults:
             words = causes(faults[:MOST_WARNED], self._board, self._look)
@@ -170,8 +203,9 @@ class Machine:
 
     def rows(self) -> RowList:
         """The rows in program order."""
-        rows = RowList(self._talk.ask("list", Rows).rows)
-        rows.refused = frozenset(fault.row for fault in self.faults())
+        with self._talk.lock:
+            rows = RowList(self._talk.ask("list", Rows).rows)
+            rows.refused = frozenset(fault.row for fault in self.faults())
         return rows
 
     def faults(self) -> tuple[RowFault, ...]:
@@ -226,6 +260,15 @@ class Machine:
         """
         key, part = split(index)
         numbers, shape = flat([whole(values)] if isinstance(part, int) else values)
+        try:
+            self._talk.waiting.add(get_ident())
+            with self._talk.lock:
+                self._give(key, part, numbers, shape)
+        finally:
+            self._talk.waiting.discard(get_ident())
+
+    def _give(self, key: str, part: int | slice | None, numbers: Sequence[int], shape: tuple[int, ...]) -> None:
+        """Gives a key numbers, or a part of them, by what is declared."""
         if part is None:
             axes = self._board.axes_of(key)
             if axes is not None:
@@ -240,13 +283,105 @@ class Machine:
         """The numbers of a key at a place, as a grid."""
         if not isinstance(key, str):
             raise TypeError(f"a key is a name, and not {type(key).__name__}: machine['a'][0] is a number of a")
-        numbers = self._data.look(key, spelled(at))
+        try:
+            self._talk.waiting.add(get_ident())
+            with self._talk.lock:
+                numbers = self._data.look(key, spelled(at))
+                axes, width = self._board.axes_of(key), self._board.width_of(key)
+        finally:
+            self._talk.waiting.discard(get_ident())
         if isinstance(numbers, Pending):
             return numbers
-        axes, width = self._board.axes_of(key), self._board.width_of(key)
         if axes is None or width is None:
             raise NoReply(f"numbers of {key}, which isn't declared")
         return Grid(key, axes, width, numbers, place=at.text)
+
+    # While rows run. These are of machines over the library alone.
+
+    def start(self) -> None:
+        """Ready rows run from now on, in the machine's workers. Every call may be made meanwhile."""
+        self._inside("start").crew.start()
+
+    def stop(self) -> None:
+        """No further row begins. The rows that run are waited for, and kept where they are of the present program."""
+        self._inside("stop").crew.stop()
+
+    def wait(self, timeout: float | None = None) -> bool:
+        """Waits until every row is settled. False where so many seconds are over, or where nothing runs any more.
+
+        Ctrl-C ends the wait alone. Raises MemoryError where there was none for a row; `start` tries it again.
+        """
+        return self._inside("wait").crew.wait(timeout)
+
+    @property
+    def progress(self) -> Progress:
+        """How many rows are settled, of how many."""
+        return self._inside("progress").progress
+
+    def news(self, timeout: float | None = None) -> Iterator[News]:
+        """The results that came in the background, one after another: what isn't kept is thrown away, and `word` says
+        why.
+
+        It ends where all rows are settled, where nothing runs any more, or where none comes in so many seconds. Of sets
+        of at most 1,024 processors many rows are run at once, of which there are no news.
+        """
+        return self._inside("news").news(timeout)
+
+    def undo(self) -> str:
+        """Takes the last edit back, with the results that were there before it, and gives its line.
+
+        Raises IndexError where there is none.
+        """
+        return self._inside("undo").undo()
+
+    def redo(self) -> str:
+        """Makes the edit again that was taken back last, and gives its line. Raises IndexError where there is none."""
+        return self._inside("redo").redo()
+
+    def copy(self) -> Machine:
+        """Another machine in the same state, with no orders out and no steps. They share values in memory."""
+        inside = self._inside("copy")
+        machine = Machine.__new__(Machine)
+        machine.program, machine.library = None, self.library
+        with self._talk.lock:
+            machine._hold(inside.book.copy(), self._board.copy(), inside.workers, inside.steps)
+        return machine
+
+    def unsettled(self) -> tuple[int, ...]:
+        """The ids of the rows that are unsettled, in program order."""
+        return self._inside("unsettled").book.unsettled()
+
+    def touching(self) -> AbstractContextManager[Touched]:
+        """Within a `with`, notes which rows the edits there unsettle: they are its `rows` behind it.
+
+        No result of a row comes meanwhile.
+        """
+        return self._inside("touching").touching()
+
+    def origin(self, key: str, at: Place = END) -> int | None:
+        """The row that gives a key its value at a place, or None where that is the start."""
+        number = place_number(spelled(at))
+        row = None if number is None else self._inside("origin").book.origin(key, number)
+        if row is None:
+            self._talk.command(f"show {key} {spelled(at)}")
+        return row or None
+
+    def settle_for(self, key: str, at: Place = END) -> int:
+        """Runs the unsettled rows that the value of a key at a place stands on and no others, and says how many ran.
+
+        It runs them in this thread, and other calls wait.
+        """
+        number = place_number(spelled(at))
+        ran = None if number is None else self._inside("settle_for").book.settle_for(key, number)
+        if ran is None:
+            self._talk.command(f"show {key} {spelled(at)}")
+        return ran or 0
+
+    def _inside(self, call: str) -> Background:
+        """The workers and steps of a machine over the library. Raises TypeError over a program."""
+        if self._background is None:
+            raise TypeError(f"`{call}` is of machines over the library alone: Machine(library=True)")
+        return self._background
 
     @property
     def _board(self) -> Board:

@@ -74,6 +74,7 @@ class ProgressLine(Progress):
         self._stream = stream
         self._where = self._words = ""
         self._drawn = ""
+        self._left: Callable[[], int] | None = None
         self._begun = time.monotonic()
         self._asking = 0.0
         self._lock = threading.Lock()
@@ -81,13 +82,15 @@ class ProgressLine(Progress):
         self._thread = threading.Thread(target=self._go_on, daemon=True)
 
     def at(self, where: str) -> None:
-        self._where, self._words = where, ""
+        self._where, self._words, self._left = where, "", None
 
     def say(self, words: str) -> None:
-        self._words = words
+        self._words, self._left = words, None
 
     def settling(self, line: str, peer: Asked) -> None:
         self._words = self._waiting(peer) if line == "settle" else ""
+        # A session of the library is asked again and again, between two rows.
+        self._left = getattr(peer, "unsettled_count", None) if line == "settle" else None
 
     @contextmanager
     def aside(self) -> Iterator[None]:
@@ -126,7 +129,9 @@ class ProgressLine(Progress):
     def _draw(self) -> None:
         """Draws the line over the last one, in one line of the terminal."""
         time_text = seconds_text(time.monotonic() - self._begun)
-        doing = ": ".join(part for part in (self._where, self._words) if part)
+        left = self._left() if self._left is not None and self._words else 0
+        words = f"{self._words}, {left:,} are left" if left else self._words
+        doing = ": ".join(part for part in (self._where, words) if part)
         text = ", ".join(part for part in (doing, time_text) if part)[: self._columns() - 1]
         if text != self._drawn:
             self._write("\r" + text.ljust(len(self._drawn)))

@@ -2,12 +2,14 @@
 
 from __future__ import annotations
 
+import threading
 from collections.abc import Iterable, Mapping, Sequence
 from dataclasses import dataclass, field, replace
 from typing import Protocol, TypeVar
 
 from pevudlo.hints.explanation import Explanation, Refusal, explained
 from pevudlo.hints.meanings import Where
+from pevudlo.interrupts import undisturbed
 from pevudlo.lang.board import Board
 from pevudlo.lang.causes import causes
 from pevudlo.lang.replies import (
@@ -70,15 +72,44 @@ class Talk:
         self.peer = peer
         self.where = where
         self.board = Board()
+        # A session of the library has a lock of its own, of which calls in several threads are made one by one.
+        self.lock: threading.RLock = getattr(peer, "lock", None) or threading.RLock()
+        self.waiting: set[int] = getattr(peer, "waiting", set())
+        self._is_inside = hasattr(peer, "lock")
         self._edits, self._is_settled, self._listed_left = 0, False, MOST_LISTED
 
     def tell(self, line: str) -> Answer | None:
-        """Asks one line. None for an empty line or a comment. Raises as its `ask` does, and NoReply."""
+        """Asks one line. None for an empty line or a comment. Raises as its `ask` does, and NoReply.
+
+        One is asked and noted at a time of all threads, and over the library as a whole before Ctrl-C. A `settle` is no
+        edit, and holds nobody up.
+        """
+        if line == "settle":
+            return self._answer(line)
+        try:
+            self.waiting.add(threading.get_ident())
+            with self.lock:
+                if not self._is_inside:
+                    return self._answer(line)
+                with undisturbed():
+                    return self._answer(line)
+        finally:
+            self.waiting.discard(threading.get_ident())
+
+    def settle(self) -> int:
+        """Settles all rows, and gives how many ran. Ctrl-C ends the wait, and no more."""
+        self._is_settled = True
+        ask = getattr(self.peer, "settle_line", None)
+        return of_kind(parse(ask() if ask is not None else self.peer.ask("settle")), Settled).count
+
+    def _answer(self, line: str) -> Answer | None:
+        """Asks one line, and notes its reply."""
         lines = self.peer.ask(line)
         if not lines:
             return None
-        reply = self._noted(line, lines)
+        reply = parse(lines)
         explanation = explained(line, reply, self.board, self.where) if isinstance(reply, Refused) else None
+        self._note(line, lines, reply)
         return Answer(line, tuple(lines), reply, explanation)
 
     def tell_causes(self, line: str) -> Answer | None:
@@ -106,21 +137,18 @@ class Talk:
 
     def command(self, line: str) -> Reply:
         """The reply to a command. Raises Refusal, and ValueError for a line that is none."""
-        lines = self.peer.ask(line)
-        if not lines:
+        answer = self.tell(line)
+        if answer is None:
             raise ValueError("a command is wanted")
-        reply = self._noted(line, lines)
-        if isinstance(reply, Refused):
-            raise Refusal(explained(line, reply, self.board, self.where))
-        return reply
+        if answer.explanation is not None:
+            raise Refusal(answer.explanation)
+        return answer.reply
 
-    def _noted(self, line: str, lines: list[str]) -> Reply:
-        """The reply that these lines are; the board has noted what it declares."""
-        reply = parse(lines)
+    def _note(self, line: str, lines: list[str], reply: Reply) -> None:
+        """Notes a reply, and on the board what it declares."""
         self.board.note(line, lines[0])
         self._edits += line.split(" ")[0] in EDITS and isinstance(reply, (Ok, RowAdded))
         self._is_settled = self._is_settled or isinstance(reply, Settled) or reply == Verdict(Word.KEPT)
-        return reply
 
     def ask(self, line: str, kind: type[Kind]) -> Kind:
         """The reply to a command, which is of this kind."""

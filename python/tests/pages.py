@@ -2,6 +2,7 @@
 
 from __future__ import annotations
 
+import os
 import subprocess
 from collections.abc import Iterator, Sequence
 from dataclasses import dataclass, field
@@ -69,7 +70,9 @@ class Tree(HTMLParser):
 
 @cache
 def program() -> str:
-    """The program's path, as the repository's script says it."""
+    """The program's path: that of the variable PARIS_FRONT, or else as the repository's script says it."""
+    if named := os.environ.get("PARIS_FRONT"):
+        return named
     where = subprocess.run([REPOSITORY / "paris", "--where"], capture_output=True, text=True, timeout=60, check=True)
     return where.stdout.strip()
 

@@ -1,6 +1,7 @@
 """A book as docs/MACHINE.md says it: recipes are made anew after each edit, and what is shown is run anew.
 
-It answers the lines of a script that are accepted. It knows no refused commands. Rows are cut off after each of them.
+It answers the lines of a script that are accepted. It knows no refused commands, but for those that the profile
+decides: a `paris` that isn't the first command, and a field that is too wide. Rows are cut off after each of them.
 """
 
 from __future__ import annotations
@@ -19,6 +20,9 @@ OVERFLOWS = (
     *("s-negate-2-1L", "u-multiply-3-1L", "s-multiply-3-1L", "u-truncate-3-1L", "u-rem-3-1L", "u-move-2L", "s-move-2L"),
     *("scan-with-u-add-1L", "spread-with-u-add-1L", "reduce-with-u-add-1L"),
 )
+WIDEST = {"1": 64, "2": 128}
+"""The greatest width of a field by the profile's word."""
+
 Recipe = int
 
 
@@ -138,6 +142,7 @@ class Book:
 
     def __init__(self) -> None:
         self.board = Board()
+        self.widest, self.is_begun = WIDEST["1"], False
         self.edits, self.next = 0, 1
         self.start: World = {}
         self.given: dict[str, int] = {}
@@ -151,9 +156,26 @@ class Book:
     def answer(self, line: str) -> list[str]:
         """The reply to a line, as lines."""
         command, *words = line.split(" ")
+        if command == "paris":
+            return [self.chosen(words)]
+        self.is_begun = True
         reply: str | list[str] = getattr(self, f"do_{command}")(words)
         self.cut_off(command)
         return [reply] if isinstance(reply, str) else reply
+
+    def chosen(self, words: list[str]) -> str:
+        """The reply to the command that chooses the profile, which counts as the first one, right or wrong."""
+        if self.is_begun:
+            return "refused 20 1"
+        self.is_begun = True
+        if not words:
+            return "refused 20 6"
+        if words[0] not in WIDEST:
+            return "refused 20 7"
+        if words[1:]:
+            return f"refused 20 {len(f'paris {words[0]} ') + 1}"
+        self.widest = WIDEST[words[0]]
+        return "ok"
 
     def cut_off(self, command: str) -> None:
         """Settles, in program order, each row that would compute again what it computed last."""
@@ -188,6 +210,8 @@ class Book:
 
     def do_field(self, words: list[str]) -> str:
         name, of_set, width = words
+        if not 1 <= int(width) <= self.widest:
+            return "refused 6"
         self.edits += 1
         self.board.fields[name] = (of_set, int(width))
         self.declare([name], of_set, 0)

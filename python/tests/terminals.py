@@ -19,7 +19,7 @@ from pevudlo.wire.program import ROOT, find
 
 PATIENCE = 20.0
 PROMPT = "paris> "
-ESCAPES = re.compile(r"\x1b\[[0-9;?]*[A-Za-z]|[\x07\x08\r]")
+ESCAPES = re.compile(r"\x1b\[[0-9;?]*[A-Za-z]|\x1b[78]|[\x07\x08\r]")
 
 
 class Ended(Exception):
@@ -34,6 +34,7 @@ def children_of(process: int) -> list[int]:
 class Terminal:
     """A prompt that a user types to, or another command. `seen` is all that came out, without the terminal's own signs.
 
+    Rows run in a program, or else in the library.
     A quiet one says nothing of how far it is, which it would say where it is slow.
     """
 
@@ -46,6 +47,7 @@ class Terminal:
         columns: int = 220,
         is_quiet: bool = True,
         command: str = "prompt",
+        is_program: bool = True,
     ) -> None:
         rc = state / "inputrc"
         rc.write_text(inputrc)
@@ -58,6 +60,7 @@ class Terminal:
             "TERM": "xterm",
         }
         arguments = [sys.executable, "-P", "-m", "pevudlo", command, *["--quiet"] * is_quiet, *words]
+        arguments += ["--program"] * (is_program and command == "prompt")
         self.command = command
         self.process, self.end = pty.fork()
         if self.process == 0:

@@ -2,39 +2,17 @@
 
 from __future__ import annotations
 
-import os
-import subprocess
 from collections import Counter
 from copy import deepcopy
 
 import pytest
 from paris_model_book import Book
-from random_scripts import RandomScript
-
-from pevudlo.wire.program import find
-
-SCRIPTS = int(os.environ.get("PEVUDLO_SCRIPTS", "200"))
-"""How many random scripts are compared."""
+from random_scripts import SCRIPTS, WORKERS, RandomScript, by_program, first_difference
 
 EACH = 50
 COMMANDS = 60
 COUNTED = 100
 OFTEN = 15
-WORKERS = ("1", "2", "16")
-
-
-def by_program(script: RandomScript, workers: str) -> list[str]:
-    """What the program writes for a script."""
-    text = "".join(f"{line}\n" for line in script.lines)
-    ran = subprocess.run([find(), "--workers", workers], input=text, capture_output=True, text=True, check=True)
-    return ran.stdout.split("\n")[:-1]
-
-
-def first_difference(script: RandomScript, replies: list[str]) -> str:
-    """The lines up to the first one of which the reply is another."""
-    wanted = script.replies + [""] * (len(replies) - len(script.replies))
-    at = next((at for at, reply in enumerate(wanted) if replies[at : at + 1] != [reply]), None)
-    return "" if at is None else "\n".join([*script.lines, f"reply {at + 1}: {replies[at : at + 1]}, not {wanted[at]}"])
 
 
 @pytest.mark.parametrize("part", range(-(-SCRIPTS // EACH)))

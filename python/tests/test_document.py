@@ -85,6 +85,9 @@ HEAD = SET + FIELDS + "input a 0 1 2 3 4\ninput b 0 5 6 7 8\n"
 ADD, SUB, MAX = "u-add-3-1L c a b 8\n", "u-subtract-3-1L b a c 8\n", "u-max-3-1L a b c 8\n"
 
 MORE = "input a 1 9 9\n"
+WIDE = SET + "field a S 128\nfield b S 100\nfield c S 128\n" + f"input a 0 {2**127} {2**64} 1 {2**128 - 1}\n"
+WIDE += f"input b 0 {2**99} 3 {2**64 - 1}\n"
+SQUARE, SHIFT = "u-multiply-3-1L c a a 128\n", "u-truncate-3-1L b a b 100\n"
 
 # Texts one after another. Behind a text that ends with TYPED the line that is typed is held.
 TYPED = "(typed)"
@@ -108,6 +111,19 @@ KEPT: dict[str, tuple[str, ...]] = {
     "a look below a new row": (HEAD + ADD + "show b end\n", HEAD + ADD + SUB + "# Here.\nshow b end\n"),
     "a look behind a row that goes": (HEAD + ADD + SUB + "show b end\n", HEAD + ADD + SUB + "show b end\ndelete 2\n"),
     "another instruction": (HEAD + ADD + f"replace 1 {SUB}", HEAD + ADD + f"replace 1 {MAX}"),
+    "a profile": (
+        "paris 2\n" + WIDE + SQUARE,
+        "paris 2\n" + WIDE + SHIFT + SQUARE,
+        WIDE + SQUARE,
+        "# Wide.\n\nparis 2\n" + WIDE + SQUARE + "show c end\n",
+        "# Wide still.\nparis 2\n" + WIDE + SHIFT + "show b end\n",
+        "paris 1\n" + WIDE + SQUARE,
+        "paris 3\n" + WIDE + SQUARE,
+        "paris\n" + HEAD + ADD,
+        "paris\n" + HEAD + ADD + SUB,
+    ),
+    "a profile that is late": ("# Nothing.\n", "list\nparis 2\n", "list\nparis 2\nparis 3\n" + HEAD + ADD),
+    "a profile behind what is passed over": ("settle\nparis 2\n" + WIDE + SQUARE, "paris 2\n" + WIDE + SQUARE),
     "two sets": (HEAD + ADD, HEAD + "set T 2\nfield t T 8\ninput t 1 3\n" + ADD + "u-move-1L t t 8\n", HEAD + ADD),
 }
 WRONG = (
@@ -135,6 +151,9 @@ WRONG = (
     ("meaning", "rest[at] = each._replace(anchor=last)", "pass", ("a look below a new row",)),
     ("meaning", "if self._alive < len(order):", "if False:", ("a look behind a row that goes",)),
     ("book", "        self._inputs = wanted\n", "", ("input that is taken out",)),
+    ("document", "if header_of(lines) != header_of(self.meaning.lines):", "if False:", ("a profile",)),
+    ("book", "[profile_line(self.board.profile), *accepted]", "accepted", ("a profile that is late",)),
+    ("book", "[profile_line(USUAL)]", "[]", ("a profile behind what is passed over",)),
 )
 
 
@@ -194,6 +213,24 @@ def test_a_copy_with_nothing_planted_is_found_right(folder: Path) -> None:
 
 
 HOLDING = HEAD + ADD + SUB + MAX
+
+
+def test_a_profile_that_is_typed_stays(begin: Begin) -> None:
+    rest = WIDE + SQUARE
+    with Document(begin) as document:
+        document.update("paris 2\n" + rest)
+        for typed, reply in (("paris ", "refused 20 7"), ("paris", "refused 20 6"), ("par 2", "refused 20 1")):
+            done = document.update(f"{typed}\n{rest}", hold=True)
+            assert not done.fresh and done.held == (0,) and document.shown[0].refused == reply
+            assert document.stays(0) == "`paris 2` stays" and not any(each.refused for each in document.shown[1:])
+            assert document.book.board.profile == 2
+        done = document.update("paris 1\n" + rest, hold=True)
+        assert "profile" in done.fresh and document.shown[3].refused == "refused 6" and not done.held
+        told = document.explanation(2)
+        assert told is not None and "`paris 2` is the first command" in told.hint
+        document.update("paris 4\n" + rest)
+        told = document.explanation(0)
+        assert told is not None and (told.column, told.hint) == (7, "here could stand the profile, 1 or 2")
 
 
 def test_one_line_that_is_typed_keeps_its_row(begin: Begin) -> None:

@@ -26,11 +26,12 @@ def test_lines_of_all_scripts_leave_the_grammar_where_the_program_says() -> None
     count = 0
     for path in scripts():
         with Pipe(find()) as pipe:
+            is_first = True
             for line in path.read_text().split("\n"):
                 reply = pipe.ask(line)
                 if reply:
-                    assert wrong_column(line) == column_of(reply[0]), line
-                    count += 1
+                    assert wrong_column(line, is_first) == column_of(reply[0]), line
+                    count, is_first = count + 1, False
     assert count > 800
 
 
@@ -54,8 +55,23 @@ def test_each_prefix_and_each_changed_word() -> None:
                 assert wrong_column(text) == column_of(pipe.ask(text)[0]), text
 
 
+def test_the_first_command_may_choose_the_profile_and_no_other() -> None:
+    """Each prefix of `paris 2`, and odd words behind it, have the program's column in the first place and later."""
+    whole = "paris 2"
+    tried = [whole[:end] for end in range(1, len(whole) + 1)]
+    tried += ["paris 1", "paris 3", "paris 0", "paris 02", "paris two", "paris 2 ", "paris  2", "paris 2 2", "Paris 2"]
+    for text in [*tried, "paris\t2", " paris 2", "paris 18446744073709551617", "set S 4", "list"]:
+        with Pipe(find()) as pipe:
+            assert wrong_column(text, is_first=True) == column_of(pipe.ask(text)[0]), text
+            assert wrong_column(text) == column_of(pipe.ask(text)[0]), text
+    assert {slot.word for slot in next_slots([], is_first=True)} == set(COMMANDS)
+    assert [slot.kind for slot in next_slots(["paris"], is_first=True)] == [Kind.PROFILE]
+    assert next_slots(["paris"]) == () and next_slots(["paris", "2"], is_first=True) == ()
+    assert may_end(["paris", "2"], is_first=True) and not may_end(["paris", "2"])
+
+
 def test_what_may_come_next() -> None:
-    assert {slot.word for slot in next_slots([])} == set(COMMANDS)
+    assert {slot.word for slot in next_slots([])} == set(COMMANDS) - {"paris"}
     assert [slot.word for slot in next_slots(["show", "a"])] == ["start", "after", "end"]
     assert [slot.kind for slot in next_slots(["insert", "end"])] == [Kind.INSTRUCTION]
     assert [slot.role for slot in next_slots(["insert", "end", "get-1L", "d"])] == ["the addresses, a field"]

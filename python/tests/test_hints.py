@@ -5,6 +5,7 @@ from __future__ import annotations
 import pytest
 
 from pevudlo.hints.explanation import Explanation, Refusal, explained
+from pevudlo.hints.meanings import Where
 from pevudlo.lang.board import Board
 from pevudlo.lang.faults import FAULTS
 from pevudlo.lang.replies import Refused, parse
@@ -73,7 +74,10 @@ MISTAKES: list[tuple[str, int, list[str]]] = [
     ("field c U 8", 4, ["`U` isn't declared", "`S` and `T`"]),
     ("field c s 8", 4, ["did you mean `S`"]),
     ("insert end set-context a", 4, ["`a` is a field", "its set is `S`"]),
-    ("field c S 65", 6, ["65", "1 to 64 bits"]),
+    ("field c S 65", 6, ["65", "1 to 64 bits", "where `paris 2` is the first command, it has up to 128"]),
+    ("field c S 129", 6, ["the width is 129, and a field has 1 to 64 bits"]),
+    ("paris 2", 20, ["`paris` is the first command or none"]),
+    ("pariss 2", 20, ["begins with one of `set`, `field`"]),
     ("input c 0 1", 7, ["`c` isn't declared", "`a`, `b`, `f`, `t` and `g`"]),
     ("show S end", 7, ["`S` is a set, and a field is wanted here"]),
     ("show U.context end", 7, ["`U` isn't declared", "sets are `S` and `T`"]),
@@ -153,6 +157,40 @@ def test_each_mistake_is_explained() -> None:
 def test_a_hint_says_what_is_wrong_and_no_more(line: str, hint: str) -> None:
     with Pipe(find()) as pipe:
         assert explanation_of(pipe, board_of(pipe, DECLARED), line).hint == hint
+
+
+# First commands, and what their hints say; then a field, and what the hint says of it.
+PROFILES = {
+    "paris 3": "here could stand the profile, 1 or 2",
+    "paris": "the line ends too soon: here comes the profile, 1 or 2",
+    "paris 2 S": "the line could end before it: nothing more belongs there",
+    "paris two": "here could stand the profile, 1 or 2",
+    "pariss 2": "did you mean `paris`?",
+    "Paris 2": "did you mean `paris`?",
+}
+
+
+@pytest.mark.parametrize("line", PROFILES)
+def test_a_first_command_that_is_no_profile_is_explained(line: str) -> None:
+    with Pipe(find()) as pipe:
+        assert explanation_of(pipe, Board(), line).hint == PROFILES[line]
+
+
+def test_a_hint_knows_the_widths_of_the_profile() -> None:
+    with Pipe(find()) as pipe:
+        board = board_of(pipe, ["paris 2", "set S 4", "field a S 128"])
+        assert explanation_of(pipe, board, "field b S 129").hint == "the width is 129, and a field has 1 to 128 bits"
+        hint = f"{2**128 - 1} needs more than the 127 bits of `b`: the greatest value is {2**127 - 1}"
+        board.note("field b S 127", pipe.ask("field b S 127")[0])
+        assert explanation_of(pipe, board, f"input b 0 {2**128 - 1}").hint == hint
+
+
+def test_the_prompt_says_how_a_profile_is_chosen_later() -> None:
+    with Pipe(find()) as pipe:
+        board = board_of(pipe, DECLARED)
+        refused = parse(pipe.ask("paris 2"))
+        assert isinstance(refused, Refused)
+        assert explained("paris 2", refused, board, Where.PROMPT).hint.endswith("`new` begins anew")
 
 
 def test_the_mistakes_meet_each_fault_that_a_short_script_can_meet() -> None:

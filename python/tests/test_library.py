@@ -21,7 +21,7 @@ from random_lines import RandomLines
 from pevudlo import END, START, Ended, Library, Machine, NotFound, Pending, Pipe, after, find, find_library
 from pevudlo.values.arrays import ValueArray
 from pevudlo.wire import library_places
-from pevudlo.wire.library import CALLS, Outcome, place_number
+from pevudlo.wire.library_calls import CALLS, Outcome, place_number
 from pevudlo.wire.program import ROOT
 
 HEADER = ROOT / "bindings/c/paris.h"
@@ -39,7 +39,7 @@ def test_the_outcomes_are_those_of_the_header() -> None:
 
 
 def test_the_calls_are_declared_as_the_header_declares_them() -> None:
-    kinds = {"size_t": ctypes.c_size_t, "uint64_t": ctypes.c_uint64}
+    kinds = {"size_t": ctypes.c_size_t, "uint64_t": ctypes.c_uint64, "uint32_t": ctypes.c_uint32}
     declared = dict(re.findall(r"^uint32_t (paris_\w+)\(([^)]*)\);", HEADER.read_text(), re.M))
     assert set(CALLS) <= set(declared)
     for name, taken in CALLS.items():
@@ -151,6 +151,7 @@ def test_random_lines_and_bytes_are_answered_as_by_the_program(libparis: Path, s
     for _ in range(2_000):
         noise = chance.randbytes(chance.randrange(40)).replace(b"\n", b"")
         lines.insert(chance.randrange(len(lines)), noise.decode("utf-8", "surrogateescape"))
+    lines = ["paris 2", *lines, "paris 2"] if seed == 2 else ["paris 3", *lines]
     with Library(libparis) as library, Pipe(find()) as pipe:
         for line in lines:
             assert library.ask(line) == pipe.ask(line), line
@@ -171,13 +172,17 @@ def test_a_line_above_the_limit(libparis: Path) -> None:
 # Values
 
 
-def both() -> tuple[Machine, Machine]:
+WIDE = {1: 64, 2: 100}
+"""The width of the field w by the profile."""
+
+
+def both(profile: int) -> tuple[Machine, Machine]:
     """A machine over the program and one over the library, with the same declarations."""
-    machines = Machine(), Machine(library=True)
+    machines = Machine(profile=profile), Machine(library=True, profile=profile)
     for machine in machines:
         machine.set("S", 4, 2)
         machine.set("T", 8)
-        for name, width in (("a", 8), ("b", 8), ("c", 8), ("w", 64), ("f", 1)):
+        for name, width in (("a", 8), ("b", 8), ("c", 8), ("w", WIDE[profile]), ("f", 1)):
             machine.field(name, "S", width)
         machine.field("t", "T", 8)
         machine.insert("u-add-3-1L c a b 8")
@@ -214,6 +219,14 @@ ODD: list[Callable[[Machine], object]] = [
     given("a", [2**128] * 8),
     given("w", [2**64 - 1] * 8),
     given("w", [2**64 - 1] * 7 + [2**64]),
+    given("w", numpy.array([2**99, 2**64, 1, 2, 3, 4, 5, 6], dtype=object)),
+    given("w", numpy.arange(8, dtype=numpy.uint64)),
+    given("w", [1] * 7 + [2**100]),
+    given(("w", slice(6, None)), [2**70, 2**71]),
+    lambda machine: machine["w", 6],
+    lambda machine: machine.raw("paris 2"),
+    lambda machine: machine.raw("field x S 128"),
+    lambda machine: machine.profile,
     given("f", [0, 1, 1, 0, 1, 0, 0, 2]),
     given("S.context", numpy.array([True, False] * 4)),
     given("S.carry", [2] * 8),
@@ -268,8 +281,9 @@ ODD: list[Callable[[Machine], object]] = [
 ]
 
 
-def test_odd_calls_give_and_raise_the_same(libparis: Path) -> None:
-    program, library = both()
+@pytest.mark.parametrize("profile", WIDE)
+def test_odd_calls_give_and_raise_the_same(libparis: Path, profile: int) -> None:
+    program, library = both(profile)
     for number, work in enumerate(ODD):
         wanted = outcome(program, work)
         assert outcome(library, work) == wanted, number
@@ -281,14 +295,15 @@ def test_odd_calls_give_and_raise_the_same(libparis: Path) -> None:
             machine["a"]
 
 
-def test_random_arrays_rows_and_looks_are_the_same(libparis: Path) -> None:
+@pytest.mark.parametrize("profile", WIDE)
+def test_random_arrays_rows_and_looks_are_the_same(libparis: Path, profile: int) -> None:
     chance, pending = Random(5), set[int]()
     places = [START, END, END, END, *map(after, (1, 2, 3, 4, 9))]
     for _ in range(30):
-        machines = both()
+        machines = both(profile)
         for _ in range(60):
             key = chance.choice([*"aabbccccwft", "S.context", "S.test", "T.carry"])
-            width = {"w": 64, "f": 1}.get(key, 1 if "." in key else 8)
+            width = {"w": WIDE[profile], "f": 1}.get(key, 1 if "." in key else 8)
             values = [chance.getrandbits(width) for _ in range(8)]
             if chance.random() < 0.1:
                 values[chance.randrange(8)] = 1 << width
@@ -315,7 +330,7 @@ def test_random_arrays_rows_and_looks_are_the_same(libparis: Path) -> None:
             assert one == two
             pending |= {one.row} if isinstance(one, Pending) else set()
         assert machines[0].close() == machines[1].close()
-    assert len(pending) > 5
+    assert len(pending) >= 5
 
 
 def test_an_array_is_one_edit(libparis: Path) -> None:
@@ -370,11 +385,12 @@ def test_places_as_numbers(text: str, number: int | None) -> None:
 # Sessions
 
 
-def test_one_thread_settles(libparis: Path) -> None:
-    for workers in (2, 0, 16):
-        with pytest.raises(ValueError, match=f"the library settles in one thread, and not in {workers} workers"):
+def test_workers_are_1_to_16(libparis: Path) -> None:
+    for workers in (0, 17):
+        with pytest.raises(ValueError, match=f"workers are 1 to 16, and not {workers}"):
             Machine(library=True, workers=workers)
-    Machine(library=True, workers=1).close()
+    for workers in (1, 16):
+        Machine(library=True, workers=workers).close()
     with pytest.raises(ValueError, match="over a program or over the library"):
         Machine(find(), library=True)
 
@@ -400,31 +416,37 @@ def test_closing_twice(libparis: Path) -> None:
         assert (ended.value.status, ended.value.line) == (status, "")
 
 
-def test_a_session_stays_in_its_thread(libparis: Path) -> None:
-    with Machine(library=True) as machine, ThreadPoolExecutor(1) as threads:
+def test_threads_share_a_session(libparis: Path) -> None:
+    with Machine(library=True) as machine, ThreadPoolExecutor(4) as threads:
         machine.set("S", 4)
-        for work in (machine.settle, machine.close, lambda: machine["S.test"]):
-            with pytest.raises(RuntimeError, match="belongs to the thread that opened it"):
-                threads.submit(work).result(timeout=20)
-        assert machine.rows() == ()
-        assert threads.submit(lambda: Machine(library=True).close()).result(timeout=20) == 0
+        machine.field("a", "S", 8)
+        made = [threads.submit(machine.insert, "u-add-3-1L a a a 8") for _ in range(200)]
+        ids = [each.result(timeout=20) for each in made]
+        assert sorted(ids) == list(range(1, 201))
+        assert [row.row for row in machine.rows()] == machine._board.rows
+        assert threads.submit(machine.settle).result(timeout=20) == 200
+        assert threads.submit(machine.close).result(timeout=20) == 0
+        with pytest.raises(Ended):
+            machine.rows()
 
 
 def test_a_call_within_a_call_is_refused(libparis: Path) -> None:
     with Library(libparis) as library:
-        with library._turn():
-            with pytest.raises(RuntimeError, match="one call at a time"):
-                library.ask("list")
+        library._is_in_call = True
+        with pytest.raises(RuntimeError, match="one call at a time"):
+            library.ask("list")
+        library._is_in_call = False
         assert library.ask("list") == ["rows 0"]
 
 
-def test_ctrl_c_in_a_line_waits_for_its_end_and_ends_the_session(libparis: Path) -> None:
+def test_ctrl_c_in_a_settle_keeps_what_is_settled(libparis: Path) -> None:
     def interrupt(number: int, frame: object) -> None:
         raise KeyboardInterrupt
 
-    with Library(libparis) as library:
+    with Library(libparis) as library, Library(libparis) as other:
         for line in ("set S 65536", "field a S 64", *["insert end u-truncate-3-1L a a a 64"] * 300):
             library.ask(line)
+            other.ask(line)
         before = signal.signal(signal.SIGALRM, interrupt)
         try:
             signal.setitimer(signal.ITIMER_REAL, 0.1)
@@ -433,8 +455,10 @@ def test_ctrl_c_in_a_line_waits_for_its_end_and_ends_the_session(libparis: Path)
         finally:
             signal.setitimer(signal.ITIMER_REAL, 0)
             signal.signal(signal.SIGALRM, before)
-        with pytest.raises(Ended, match="the session was stopped"):
-            library.ask("list")
+        (settled,) = library.ask("settle")
+        assert 0 < int(settled.removeprefix("settled ")) < 300
+        assert other.ask("settle") == ["settled 300"]
+        assert library.ask("list") == other.ask("list")
 
 
 def memory() -> int:

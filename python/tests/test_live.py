@@ -273,7 +273,7 @@ def test_the_browser_complained_of_nothing(browser: WebDriver) -> None:
 
 
 def test_ctrl_c_ends_the_server_and_its_child(tmp_path: Path) -> None:
-    words = [sys.executable, "-m", "pevudlo", "live", str(REPOSITORY / "examples/first-sum.paris")]
+    words = [sys.executable, "-m", "pevudlo", "live", "--program", str(REPOSITORY / "examples/first-sum.paris")]
     folder = REPOSITORY / "python"
     with subprocess.Popen(words, cwd=folder, stdout=subprocess.PIPE, text=True, start_new_session=True) as process:
         try:

@@ -346,7 +346,7 @@ def test_an_empty_file(editor: Editor) -> None:
     assert editor.ran()["rows"] == 0 and labels(editor) == []
     for method in ("hover", "definition", "declaration", "references", "documentHighlight", "prepareRename"):
         assert not editor.of(method, 3, 7)
-    assert len(editor.of("completion", 0, 0)["items"]) == 13 + 77
+    assert len(editor.of("completion", 0, 0)["items"]) == 14 + 77
 
 
 # A program that ends.

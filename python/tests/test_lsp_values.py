@@ -9,6 +9,7 @@ import pytest
 from editors import MODERN, URI, Editor, Message, typed
 from random_editor import Fresh, numbers_of
 
+from pevudlo.lang.grammar import COMMANDS
 from pevudlo.lang.instructions import INSTRUCTIONS
 from pevudlo.lsp.diagnostics import MOST_TOLD
 from pevudlo.lsp.outline import TOKENS
@@ -337,6 +338,22 @@ def test_what_may_stand_at_the_cursor(editor: Editor) -> None:
     items = editor.of("completion", 14, 16)["items"]
     assert items[0]["textEdit"] == {"range": typed(14, 11, 16, "")["range"], "newText": "u-subtract-3-1L"}
     assert items[0]["detail"] == "u-subtract-3-1L D A B L"
+
+
+def test_a_profile_is_the_first_command_or_none(editor: Editor) -> None:
+    retyped(editor, "# Wide.\n\nparis 2\nset S 4\nfield a S 128\nparis 1\n")
+    assert (
+        offered(editor, 2, 1) == ["paris"] and offered(editor, 2, 6) == ["1", "2"] and "paris" in offered(editor, 0, 0)
+    )
+    assert offered(editor, 3, 1) == [word for word in [*COMMANDS, *INSTRUCTIONS] if word.startswith("s")]
+    assert "paris" not in offered(editor, 3, 0) and "paris" not in offered(editor, 6, 0)
+    (wrong,) = editor.wrong()
+    assert wrong["range"]["start"]["line"] == 5 and "the first command or none" in wrong["message"]
+    assert "Chooses the profile" in hover(editor, 2, 2)
+    retyped(editor, "paris 3\nset S 4\nfield a S 65\n")
+    header, field = editor.wrong()
+    assert header["range"] == typed(0, 6, 7, "")["range"] and "the profile, 1 or 2" in header["message"]
+    assert "`paris 2` is the first command" in field["message"]
 
 
 def test_a_file_at_a_glance(editor: Editor) -> None:

@@ -452,6 +452,106 @@ def test_arrays_are_looks_and_what_is_computed_is_plain(machine: Machine) -> Non
     assert isinstance(part, ValueArray) and part._repr_html_() is None
 
 
+WIDTHS = (64, 65, 100, 127, 128)
+
+
+def edges(width: int) -> list[int]:
+    """Numbers of a width: the least, the greatest, and those beside the ends of words and of signs."""
+    return [
+        0,
+        1,
+        2**64 - 1,
+        2 ** (width - 1),
+        2 ** (width - 1) - 1,
+        2**width - 1,
+        2**width // 3,
+        2**width - 2**63,
+    ]
+
+
+@pytest.mark.parametrize("width", WIDTHS)
+def test_wide_numbers_go_both_ways(library: bool, width: int) -> None:
+    values = edges(width)
+    with Machine(library=library, profile=2) as machine:
+        machine.set("S", 4, 2)
+        machine.field("w", "S", width)
+        machine.field("v", "S", width)
+        machine.insert(f"u-move-1L v w {width}")
+        for given in (values, tuple(values), numpy.array(values, dtype=object).reshape(2, 4), [values[:4], values[4:]]):
+            machine["w"] = [5] * 8
+            machine["w"] = given
+            machine.settle()
+            shown = machine["v"]
+            assert isinstance(shown, ValueArray) and shown.shape == (2, 4)
+            assert shown.dtype == (numpy.uint64 if width <= 64 else object)
+            assert numbers(shown) == values and all(type(number) is int for number in shown.ravel().tolist())
+        machine["w"] = numpy.arange(8, dtype=numpy.uint64)
+        machine["w", 6:] = values[5:7]
+        machine["w", 5] = values[3]
+        assert numbers(machine["w"]) == [0, 1, 2, 3, 4, values[3], *values[5:7]]
+        assert machine["w", 6] == values[5] and numbers(machine["w", 5:7]) == [values[3], values[5]]
+        assert signed(machine["w"], width).ravel().tolist()[5:7] == [-(2 ** (width - 1)), -1]
+        machine["w"] = unsigned([-1, -2, 3, 4, 5, 6, 7, -(2 ** (width - 1))], width)
+        assert numbers(machine["w"])[:2] == [2**width - 1, 2**width - 2]
+
+
+@pytest.mark.parametrize("width", WIDTHS)
+def test_wide_numbers_that_are_refused_change_nothing(library: bool, width: int) -> None:
+    with Machine(library=library, profile=2) as machine:
+        machine.set("S", 4)
+        machine.field("w", "S", width)
+        machine["w"] = [9] * 4
+        with pytest.raises(Refusal) as error:
+            machine["w", 0:] = [1, 2, 2**width, 4] if width < 128 else [1, 2, 3, 4, 5]
+        assert (error.value.number, error.value.explanation.detail) == ((9, 2) if width < 128 else (8, None))
+        with pytest.raises(Refusal) as error:
+            machine["w"] = [1, 2**128, 3, 4]
+        assert (error.value.number, error.value.column) == (20, 13)
+        with pytest.raises(ValueError):
+            machine["w"] = [1, 2, 3, -1]
+        assert numbers(machine["w"]) == [9] * 4
+
+
+def test_many_wide_numbers_go_in_several_lines(library: bool) -> None:
+    values = [(v * 0x9E3779B97F4A7C15F39CC0605CEDC835) % 2**128 for v in range(4_096)]
+    assert len(input_lines("w", 0, values)) > 1
+    with Machine(library=library, profile=2) as machine:
+        machine.set("S", 64, 64)
+        machine.field("w", "S", 128)
+        machine.field("n", "S", 127)
+        machine["w"] = values
+        machine["S.context", 0] = 0
+        machine.insert("u-multiply-3-1L w w w 128")
+        machine.settle()
+        assert numbers(machine["w"]) == [values[0], *(value * value % 2**128 for value in values[1:])]
+        with pytest.raises(Refusal) as error:
+            machine["n"] = [1] * 4_000 + [2**127] + [1] * 95
+        assert error.value.explanation.detail == 4_000 and set(numbers(machine["n"])) == {0}
+
+
+def test_the_profiles_of_machines(library: bool) -> None:
+    for profile in (0, 3, 128):
+        with pytest.raises(ValueError, match="a profile is 1 or 2"):
+            Machine(library=library, profile=profile)
+    for profile, widest in ((1, 64), (2, 128)):
+        with Machine(library=library, profile=profile) as machine:
+            assert machine.profile == profile
+            machine.set("S", 2)
+            machine.field("w", "S", widest)
+            with pytest.raises(Refusal, match=f"a field has 1 to {widest} bits") as error:
+                machine.field("v", "S", widest + 1)
+            assert error.value.number == 6
+            assert machine.raw("paris 2") == ["refused 20 1"] and machine.profile == profile
+    with Machine(library=library) as machine:
+        assert machine.raw("# wide") == [] and machine.raw("paris 2") == ["ok"] and machine.profile == 2
+        machine.set("S", 2)
+        machine.field("w", "S", 128)
+    with Machine(library=library) as machine:
+        assert machine.raw("paris 3") == ["refused 20 7"] and machine.raw("paris 2") == ["refused 20 1"]
+    with Machine(library=library, profile=2) as machine:
+        assert machine.raw("paris 2") == ["refused 20 1"]
+
+
 def test_numbers_beyond_64_bits_are_those_of_python() -> None:
     values = ValueArray.of(Grid("w", (2,), 100, (2**99, 1)))
     assert values.dtype == object and values.tolist() == [2**99, 1]

@@ -6,12 +6,14 @@ import os
 import signal
 import subprocess
 import sys
+import threading
 import time
 from concurrent.futures import ThreadPoolExecutor
 from pathlib import Path
 
 import pytest
 
+from pevudlo import Machine, Status
 from pevudlo.wire.pipe import Ended, OutOfTurn, Pipe
 from pevudlo.wire.program import find
 
@@ -281,3 +283,20 @@ def test_many_lines_with_more_replies_than_a_pipe_holds(program: Path) -> None:
 def test_many_lines_to_a_program_that_ends_or_says_more(tmp_path: Path, body: str, error: type[Exception]) -> None:
     with pytest.raises(error):
         Pipe(fake(tmp_path, body)).ask_all(["settle"] * 3)
+
+
+def test_ctrl_c_in_a_settle_loses_nothing() -> None:
+    with Machine() as machine:
+        machine.set("S", 65536)
+        machine.field("a", "S", 64)
+        for _ in range(300):
+            machine.insert("u-truncate-3-1L a a a 64")
+        for _ in range(2):
+            threading.Timer(0.02, lambda: os.kill(os.getpid(), signal.SIGINT)).start()
+            with pytest.raises(KeyboardInterrupt):
+                machine.settle()
+                time.sleep(5)
+        # The call waits for the settle that goes on.
+        assert all(row.status is Status.SETTLED for row in machine.rows())
+        assert machine.settle() == 0
+        assert machine.close() == 0

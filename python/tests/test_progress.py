@@ -266,7 +266,7 @@ def test_live_says_how_far_its_script_is(tmp_path: Path, quiet: list[str]) -> No
     (tmp_path / "three.paris").write_text("set S 4\n" + "insert end set-test S\n" * 3 + "settle\n")
     ours, theirs = pty.openpty()
     environment = {**os.environ, "PARIS_FRONT": str(late), "PYTHONPATH": str(ROOT / "python")}
-    words = [sys.executable, "-P", "-m", "pevudlo", "live", str(tmp_path / "three.paris"), *quiet]
+    words = [sys.executable, "-P", "-m", "pevudlo", "live", "--program", str(tmp_path / "three.paris"), *quiet]
     with subprocess.Popen(words, stdout=subprocess.PIPE, stderr=theirs, text=True, env=environment) as child:
         os.close(theirs)
         assert child.stdout is not None and child.stdout.readline().startswith("Open http://127.0.0.1:")

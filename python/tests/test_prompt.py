@@ -28,7 +28,7 @@ def prompt(lines: list[str], *words: str, program: Path | None = None) -> subpro
     """Runs the prompt on lines that come from a pipe."""
     environment = {**os.environ, "PARIS_FRONT": str(program or find()), "PYTHONPATH": str(ROOT / "python")}
     return subprocess.run(
-        [sys.executable, "-P", "-m", "pevudlo", "prompt", *words],
+        [sys.executable, "-P", "-m", "pevudlo", "prompt", "--program", *words],
         input="".join(f"{line}\n" for line in lines),
         capture_output=True,
         text=True,

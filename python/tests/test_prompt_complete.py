@@ -18,7 +18,7 @@ def board() -> Board:
     made = Board()
     made.sets = {"S": (4,), "G": (4, 2)}
     made.fields = {"a": Declared("S", 8), "ab": Declared("S", 4), "f": Declared("S", 1), "g": Declared("G", 16)}
-    made.orders = 2
+    made.orders, made.is_begun = 2, True
     for row in (1, 3):
         made.order.put_first(row)
     return made
@@ -61,6 +61,11 @@ def board() -> Board:
 def test_tab_offers_what_may_stand_there(line: str, wanted: list[str]) -> None:
     begin = line.rpartition(" ")[0]
     assert [f"{begin} {offer}".lstrip(" ") for offer in offers(line, board())] == wanted
+
+
+def test_tab_offers_a_profile_as_the_first_command_alone() -> None:
+    assert offers("pa", Board()) == ["paris "] and offers("paris ", Board()) == ["1", "2"]
+    assert offers("pa", board()) == [] and offers("paris ", board()) == []
 
 
 def test_tab_offers_every_name_to_help_and_every_instruction_to_insert() -> None:

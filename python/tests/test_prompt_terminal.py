@@ -79,7 +79,7 @@ def test_tab_twice_lists_what_may_stand_there(terminal: Terminal) -> None:
 
 def test_help_of_every_word_has_its_example(terminal: Terminal) -> None:
     names = [entry.name for entry in ENTRIES]
-    assert len(names) == 13 + 77 + 23
+    assert len(names) == 14 + 77 + 23
     for entry in ENTRIES:
         assert terminal.answer(f"help {entry.name}") == help_lines(entry)
     for word in OWN_WORDS:

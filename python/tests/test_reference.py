@@ -15,7 +15,7 @@ from pevudlo.wire.program import ROOT, find as find_program
 
 PROGRAM = find_program()
 SCRIPTS = (ROOT / "docs" / "SCRIPTS.md").read_text()
-COMMANDS = "set field input insert delete replace take bring release show list faults settle".split()
+COMMANDS = "paris set field input insert delete replace take bring release show list faults settle".split()
 UNSHOWN = (17, 18, 19, 21, 23)
 """Faults that no script meets."""
 

@@ -36,7 +36,7 @@ def test_the_document_is_what_the_table_says() -> None:
 
 def test_the_document_has_an_example_of_each_entry() -> None:
     assert set(blocks()) == {entry.name for entry in ENTRIES if entry.example is not None}
-    assert len(blocks()) == 13 + 77 + 18
+    assert len(blocks()) == 14 + 77 + 18
 
 
 @pytest.mark.parametrize("name", sorted(WHOLE))

@@ -70,6 +70,15 @@ def test_vim_colours_lines_by_their_words(tmp_path: Path) -> None:
     assert signs([line for line, _ in LINES], tmp_path) == [wanted for _, wanted in LINES]
 
 
+@pytest.mark.parametrize("above", [[], ["# wide"], ["# two  spaces", "", "#", "# set S 4"]])
+def test_vim_colours_a_profile_as_the_first_command_alone(tmp_path: Path, above: list[str]) -> None:
+    lines = [*above, "paris 2", "set S 4", "paris 2", "paris"]
+    wanted = [*("#" * len(line) for line in above), "CCCCC.N", "CCC...N", "EEEEEEE", "EEEEE"]
+    assert signs(lines, tmp_path) == wanted
+    assert signs(["set S 4", *lines], tmp_path)[len(above) + 1] == "EEEEEEE"
+    assert signs([*above, "paris  2"], tmp_path)[-1] == "CCCCCEEN"
+
+
 def test_vim_knows_each_instruction_and_no_error_in_any_example(tmp_path: Path) -> None:
     instructions = [f"insert end {entry.spelling}" for entry in of_kind(Kind.INSTRUCTION)]
     coloured = signs(instructions, tmp_path)

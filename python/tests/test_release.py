@@ -40,8 +40,8 @@ def test_completions_know_the_words_of_the_usage(shell: str) -> None:
     text = (REPOSITORY / "packaging/completions" / shell).read_text()
     known = set(re.findall(r"[a-z]+", text))
     assert {word for pair in words for word in pair if word} <= known
-    # Each option of a command is in the line of that command.
-    for line in usage.splitlines() if shell == "paris.bash" else ():
+    # Each option of a command is in the line of that command. A usage may go on in a second line.
+    for line in re.sub(r"\n +\[", " [", usage).splitlines() if shell == "paris.bash" else ():
         command, options = re.search(r"paris ([a-z]*)", line), set(re.findall(r"--[a-z]+", line))
         own = re.search(rf"^ *{command[1] if command and command[1] else '[*]'}\) echo '(.*)'", text, re.M)
         assert own and options <= set(own[1].split())

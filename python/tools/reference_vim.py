@@ -4,7 +4,7 @@ from __future__ import annotations
 
 from collections.abc import Iterable
 
-from pevudlo.lang.grammar import COMMANDS
+from pevudlo.lang.grammar import PROFILE_COMMAND, commands
 from pevudlo.lang.instructions import FLAGS, INSTRUCTIONS
 
 NOTE = "\" Made by python/tools/make-docs: don't edit."
@@ -30,6 +30,12 @@ IN_ROW = r"\%(^insert start \|^insert end \|^insert after \d\+ \|^replace \d\+ \
 
 WORD_ENDS = r"\%( \|$\)\@="
 
+HEAD = r"\%^\%(\%(#.*\)\=\n\)*" + PROFILE_COMMAND + r"\%( .*\)\=$"
+"""The lines up to the first command, where it is the one that no other line may be."""
+
+MOST_ABOVE = 200
+"""So many lines above those that are drawn Vim looks at, to see whether it is among these."""
+
 
 def alternatives(words: Iterable[str]) -> str:
     """A choice of words for a pattern of Vim, the longer ones first."""
@@ -44,7 +50,7 @@ def patterns() -> list[tuple[str, str]]:
         ("Error", r"^.\+$"),
         ("Error", IN_ROW + r"[^ ]\+"),
         ("Comment", r"^#.*$"),
-        ("Command", "^" + alternatives(COMMANDS) + WORD_ENDS),
+        ("Command", "^" + alternatives(commands(is_first=False)) + WORD_ENDS),
         ("Place", r"\%(^insert \)\@<=\%(start\|after\|end\) \@="),
         ("Place", r"\%(^show [^ ]\+ \)\@<=\%(start$\|after \@=\|end$\)"),
         ("Instruction", IN_ROW + alternatives(INSTRUCTIONS) + WORD_ENDS),
@@ -67,6 +73,9 @@ def syntax() -> str:
         "syntax case match",
         "",
         *(f"syntax match paris{group} /{pattern}/" for group, pattern in patterns()),
+        f"syntax match parisCommand /^{PROFILE_COMMAND}{WORD_ENDS}/ contained",
+        f"syntax match parisHead /{HEAD}/ contains=parisError,parisComment,parisCommand,parisNumber",
+        f"syntax sync minlines={MOST_ABOVE}",
         "",
         *(f"highlight default link paris{group} {colour}" for group, colour in COLOURS.items()),
         "",

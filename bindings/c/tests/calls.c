@@ -1,48 +1,27 @@
-/* Each call of the library once, at each status that needs no want of memory. */
-#include "paris.h"
-
-#include <stdio.h>
-#include <stdlib.h>
-#include <string.h>
-
-static void want(int line, uint64_t got, uint64_t wanted) {
-  if (got == wanted) return;
-  fprintf(stderr, "calls: line %d: got %llu, wanted %llu\n", line, (unsigned long long)got, (unsigned long long)wanted);
-  exit(1);
-}
-
-#define WANT(got, wanted) want(__LINE__, (uint64_t)(got), (uint64_t)(wanted))
-
-static const uint8_t *bytes(const char *text) { return (const uint8_t *)text; }
-
-static void want_reply(int line, paris_handle *handle, const char *command, const char *wanted) {
-  size_t len = 0;
-  want(line, paris_answer(handle, bytes(command), strlen(command), &len), PARIS_OK);
-  want(line, len, strlen(wanted));
-  uint8_t room[64] = {0};
-  want(line, paris_reply(handle, room, sizeof room), PARIS_OK);
-  want(line, memcmp(room, wanted, len), 0);
-  want(line, room[len], 0);
-}
-
-#define WANT_REPLY(handle, command, wanted) want_reply(__LINE__, handle, command, wanted)
+/* Each call of the library but those of orders, at each status that needs no want of memory. */
+#include "want.h"
 
 static void closed_handles(void) {
   paris_handle handle = {0};
   size_t len = 7;
   uint64_t told = 7, room[4] = {7, 7, 7, 7};
   uint8_t text[1] = {7};
+  paris_wide wide[2] = {{7, 7}, {7, 7}};
   WANT(paris_close(&handle), PARIS_CLOSED);
   WANT(paris_answer(&handle, bytes("list"), 4, &len), PARIS_CLOSED);
   WANT(paris_reply(&handle, text, 1), PARIS_CLOSED);
   WANT(paris_set(&handle, bytes("a"), 1, 0, room, 4), PARIS_CLOSED);
   WANT(paris_get(&handle, bytes("a"), 1, PARIS_END, room, 4, &told), PARIS_CLOSED);
+  WANT(paris_set_wide(&handle, bytes("a"), 1, 0, wide, 2), PARIS_CLOSED);
+  WANT(paris_get_wide(&handle, bytes("a"), 1, PARIS_END, wide, 2, &told), PARIS_CLOSED);
+  WANT(paris_part(&handle, bytes("a"), 1, PARIS_END, 0, room, 4, &told), PARIS_CLOSED);
   WANT(paris_rows(&handle, room, 4, &len), PARIS_CLOSED);
   WANT(paris_settle(&handle, &told), PARIS_CLOSED);
   WANT(paris_faults(&handle, room, 4, &len), PARIS_CLOSED);
   WANT(len, 7);
   WANT(told, 7);
   WANT(room[0], 7);
+  WANT(wide[0].high, 7);
   WANT(text[0], 7);
 }
 
@@ -56,6 +35,98 @@ static void open_twice_and_close_twice(void) {
   WANT_REPLY(&handle, "# a remark", "");
   WANT(paris_close(&handle), PARIS_OK);
   WANT(paris_close(&handle), PARIS_CLOSED);
+}
+
+static void profiles(void) {
+  paris_handle handle = {0};
+  uint64_t ran = 0;
+  WANT(paris_open_profile(&handle, 0), PARIS_NO_PROFILE);
+  WANT(paris_open_profile(&handle, UINT32_MAX), PARIS_NO_PROFILE);
+  WANT(paris_close(&handle), PARIS_CLOSED);
+  WANT(paris_open_profile(&handle, 1), PARIS_OK);
+  WANT_REPLY(&handle, "set s 4", "ok\n");
+  WANT_REPLY(&handle, "field a s 65", "refused 6\n");
+  WANT(paris_open_profile(&handle, 3), PARIS_NO_PROFILE);
+  WANT_REPLY(&handle, "field a s 64", "ok\n");
+  WANT(paris_open_profile(&handle, 2), PARIS_OK);
+  WANT_REPLY(&handle, "paris 2", "refused 20 1\n");
+  WANT_REPLY(&handle, "set s 4", "ok\n");
+  WANT_REPLY(&handle, "field a s 129", "refused 6\n");
+  WANT_REPLY(&handle, "field a s 128", "ok\n");
+  WANT(paris_open(&handle), PARIS_OK);
+  WANT_REPLY(&handle, "# a remark", "");
+  WANT_REPLY(&handle, "paris 2", "ok\n");
+  WANT_REPLY(&handle, "paris 1", "refused 20 1\n");
+  WANT_REPLY(&handle, "set s 4", "ok\n");
+  WANT_REPLY(&handle, "field a s 65", "ok\n");
+  WANT(paris_open(&handle), PARIS_OK);
+  WANT_REPLY(&handle, "paris 3", "refused 20 7\n");
+  WANT_REPLY(&handle, "paris 2", "refused 20 1\n");
+  WANT(paris_open(&handle), PARIS_OK);
+  WANT(paris_settle(&handle, &ran), PARIS_OK);
+  WANT_REPLY(&handle, "paris 2", "refused 20 1\n");
+  WANT(paris_close(&handle), PARIS_OK);
+}
+
+static void want_wide(int line, paris_handle *handle, const char *key, uint64_t place, const paris_wide *wanted) {
+  paris_wide room[2] = {{9, 9}, {9, 9}};
+  uint64_t told = 0;
+  WANT_AT(line, paris_get_wide(handle, bytes(key), strlen(key), place, room, 2, &told), PARIS_OK);
+  WANT_AT(line, told, 2);
+  for (size_t i = 0; i < 2; i++) {
+    WANT_AT(line, room[i].low, wanted[i].low);
+    WANT_AT(line, room[i].high, wanted[i].high);
+  }
+}
+
+#define WANT_WIDE(handle, key, place, wanted) want_wide(__LINE__, handle, key, place, wanted)
+
+static void wide_numbers(void) {
+  paris_handle handle = {0};
+  static const uint64_t words[2] = {UINT64_MAX, 7};
+  static const paris_wide of_words[2] = {{UINT64_MAX, 0}, {7, 0}}, a[2] = {{UINT64_MAX, UINT64_MAX}, {0, 1}}, a_again[2] = {{3, 5}, {0, 1}};
+  static const paris_wide sum[2] = {{UINT64_MAX - 1, 1}, {0, 0}}, small[2] = {{1, 0}, {255, 0}}, too_wide[1] = {{0, 2}};
+  uint64_t room[2] = {9, 9}, told = 0, ran = 0;
+  WANT(paris_open_profile(&handle, 2), PARIS_OK);
+  WANT_REPLY(&handle, "set s 2", "ok\n");
+  WANT_REPLY(&handle, "field a s 128", "ok\n");
+  WANT_REPLY(&handle, "field b s 65", "ok\n");
+  WANT_REPLY(&handle, "field c s 8", "ok\n");
+  WANT(paris_set(&handle, bytes("a"), 1, 0, words, 2), PARIS_OK);
+  WANT_REPLY(&handle, "show a end", "values 18446744073709551615 7\n");
+  WANT_WIDE(&handle, "a", PARIS_END, of_words);
+  WANT(paris_get(&handle, bytes("a"), 1, PARIS_END, room, 2, &told), PARIS_TOO_WIDE);
+  WANT(paris_get(&handle, bytes("b"), 1, PARIS_END, room, 2, &told), PARIS_TOO_WIDE);
+  WANT(room[0], 9);
+  WANT(room[1], 9);
+  WANT(paris_set_wide(&handle, bytes("a"), 1, 0, a, 2), PARIS_OK);
+  WANT_WIDE(&handle, "a", PARIS_START, a);
+  WANT_REPLY(&handle, "show a start", "values 340282366920938463463374607431768211455 18446744073709551616\n");
+  WANT_REPLY(&handle, "input a 0 92233720368547758083", "ok\n");
+  WANT_WIDE(&handle, "a", PARIS_START, a_again);
+  WANT(paris_set_wide(&handle, bytes("a"), 1, 0, a, 1), PARIS_OK);
+  WANT(paris_set_wide(&handle, bytes("b"), 1, 0, too_wide, 1), 9);
+  WANT(paris_set_wide(&handle, bytes("b"), 1, 1, a, 2), 8);
+  WANT(paris_set_wide(&handle, bytes("d"), 1, 0, a, 2), 7);
+  WANT(paris_set_wide(&handle, bytes("1"), 1, 0, a, 2), PARIS_NO_KEY);
+  WANT_REPLY(&handle, "insert end u-add-3-1L b a a 65", "row 1\n");
+  paris_wide left[2] = {{9, 9}, {9, 9}};
+  WANT(paris_get_wide(&handle, bytes("b"), 1, PARIS_END, left, 2, &told), PARIS_PENDING);
+  WANT(told, 1);
+  WANT(paris_get_wide(&handle, bytes("b"), 1, PARIS_START, left, 1, &told), PARIS_WRONG_ROOM);
+  WANT(told, 2);
+  WANT(paris_get_wide(&handle, bytes("b"), 1, 2, left, 2, &told), 10);
+  WANT(paris_get_wide(&handle, bytes("d"), 1, PARIS_END, left, 2, &told), 7);
+  WANT(paris_get_wide(&handle, bytes("s.c"), 3, PARIS_END, left, 2, &told), PARIS_NO_KEY);
+  WANT(left[0].low, 9);
+  WANT(left[1].high, 9);
+  WANT(paris_settle(&handle, &ran), PARIS_OK);
+  WANT_WIDE(&handle, "b", PARIS_END, sum);
+  WANT(paris_set_wide(&handle, bytes("c"), 1, 0, small, 2), PARIS_OK);
+  WANT_WIDE(&handle, "c", PARIS_END, small);
+  WANT(paris_get(&handle, bytes("c"), 1, PARIS_END, room, 2, &told), PARIS_OK);
+  WANT(room[1], 255);
+  WANT(paris_close(&handle), PARIS_OK);
 }
 
 static void declare(paris_handle *handle) {
@@ -107,6 +178,42 @@ static void sums_of_arrays(void) {
   WANT(paris_close(&handle), PARIS_OK);
 }
 
+static void want_part(int line, paris_handle *handle, uint64_t place, uint64_t from, size_t len, const uint64_t *wanted) {
+  uint64_t room[5] = {9, 9, 9, 9, 9}, told = 0;
+  WANT_AT(line, paris_part(handle, bytes("a"), 1, place, from, room, len, &told), PARIS_OK);
+  WANT_AT(line, told, 4);
+  for (size_t i = 0; i < 5; i++) WANT_AT(line, room[i], i < len ? wanted[from + i] : 9);
+}
+
+static void parts_of_arrays(void) {
+  static const uint64_t a[4] = {10, 20, 30, UINT64_MAX};
+  paris_handle handle = {0};
+  uint64_t room[5] = {9, 9, 9, 9, 9}, told = 0;
+  declare(&handle);
+  WANT(paris_set(&handle, bytes("a"), 1, 0, a, 4), PARIS_OK);
+  for (uint64_t from = 0; from <= 4; from++) {
+    for (size_t len = 0; from + len <= 4; len++) want_part(__LINE__, &handle, PARIS_END, from, len, a);
+    WANT(paris_part(&handle, bytes("a"), 1, PARIS_START, from, room, 5 - from, &told), PARIS_WRONG_ROOM);
+    WANT(told, 4);
+  }
+  WANT(paris_part(&handle, bytes("a"), 1, PARIS_START, 5, room, 0, &told), PARIS_WRONG_ROOM);
+  WANT(paris_part(&handle, bytes("a"), 1, PARIS_START, UINT64_MAX, room, 5, &told), PARIS_WRONG_ROOM);
+  WANT(paris_part(&handle, bytes("d"), 1, PARIS_END, 0, room, 4, &told), 7);
+  WANT(paris_part(&handle, bytes("a"), 1, 1, 0, room, 4, &told), 10);
+  WANT(paris_part(&handle, bytes("1"), 1, PARIS_END, 0, room, 4, &told), PARIS_NO_KEY);
+  WANT_REPLY(&handle, "insert end u-add-3-1L a a b 64", "row 1\n");
+  WANT(paris_part(&handle, bytes("a"), 1, PARIS_END, 0, room, 4, &told), PARIS_PENDING);
+  WANT(told, 1);
+  want_part(__LINE__, &handle, PARIS_START, 1, 2, a);
+  WANT(paris_open_profile(&handle, 2), PARIS_OK);
+  WANT_REPLY(&handle, "set s 4", "ok\n");
+  WANT_REPLY(&handle, "field a s 65", "ok\n");
+  WANT(paris_part(&handle, bytes("a"), 1, PARIS_END, 0, room, 4, &told), PARIS_TOO_WIDE);
+  WANT(paris_part(&handle, bytes("a"), 1, PARIS_END, 4, room, 1, &told), PARIS_WRONG_ROOM);
+  for (size_t i = 0; i < 5; i++) WANT(room[i], 9);
+  WANT(paris_close(&handle), PARIS_OK);
+}
+
 /* A session with two sends on four processors: the first one's addresses are 0 0 1 1, so messages meet at the processors 0 and 1, and
    the second one's 2 4 2 0, so processor 1 holds an address outside the set. */
 static void send_twice(paris_handle *handle) {
@@ -127,9 +234,9 @@ static void send_twice(paris_handle *handle) {
 static void want_faults(int line, paris_handle *handle, size_t words, size_t wanted_count, const uint64_t *wanted) {
   uint64_t room[8] = {9, 9, 9, 9, 9, 9, 9, 9};
   size_t count = 99;
-  want(line, paris_faults(handle, room, words, &count), PARIS_OK);
-  want(line, count, wanted_count);
-  for (size_t i = 0; i < 8; i++) want(line, room[i], i < words && i < 3 * wanted_count ? wanted[i] : 9);
+  WANT_AT(line, paris_faults(handle, room, words, &count), PARIS_OK);
+  WANT_AT(line, count, wanted_count);
+  for (size_t i = 0; i < 8; i++) WANT_AT(line, room[i], i < words && i < 3 * wanted_count ? wanted[i] : 9);
 }
 
 static void rows_that_are_refused(void) {
@@ -209,7 +316,10 @@ static void a_thousand_handles_at_once(void) {
 int main(void) {
   closed_handles();
   open_twice_and_close_twice();
+  profiles();
+  wide_numbers();
   sums_of_arrays();
+  parts_of_arrays();
   rows_that_are_refused();
   texts_and_short_rooms();
   scripts_and_short_rooms();

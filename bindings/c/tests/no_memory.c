@@ -1,8 +1,9 @@
 /* A script of each kind of command, and each call that is no line, with each of the allocations refused, one by one, and then with all
    from each one on, until a call answers that it got no memory.
    Then the session is as it was before that call. Looks at all of it say so, and so does the rest of the script: the call is made
-   again, and what it and all calls behind it tell is what they tell where no memory is refused. At PARIS_PARTLY some rows are settled
-   and no order is out, and the rows that are left are settled as the call is made again. */
+   again, and what it and all calls behind it tell is what they tell where no memory is refused. So the first line can choose the
+   profile when it is told again. At PARIS_PARTLY some rows are settled and no order is out, and the rows that are left are settled as
+   the call is made again. */
 #include "paris.h"
 
 #include <stdio.h>
@@ -92,6 +93,15 @@ static void settle(paris_handle *handle, const char *none, struct told *told) {
   told->status = paris_settle(handle, &told->ran);
 }
 
+static void run(paris_handle *handle, const char *none, struct told *told) {
+  (void)none;
+  told->status = paris_run(handle, UINT64_MAX, &told->ran);
+}
+
+static void settle_for(paris_handle *handle, const char *key, struct told *told) {
+  told->status = paris_settle_for(handle, bytes(key), strlen(key), PARIS_END, &told->ran);
+}
+
 static void set(paris_handle *handle, const char *key, struct told *told) {
   static const uint64_t numbers[3] = {7, 8, 9};
   told->status = paris_set(handle, bytes(key), strlen(key), 5, numbers, 3);
@@ -110,11 +120,24 @@ static void get(paris_handle *handle, const char *key, struct told *told) {
   put_room(told, room);
 }
 
+static void set_wide(paris_handle *handle, const char *key, struct told *told) {
+  static const paris_wide numbers[2] = {{7, 1}, {8, 0}};
+  told->status = paris_set_wide(handle, bytes(key), strlen(key), 1, numbers, 2);
+}
+
+static void get_wide(paris_handle *handle, const char *key, struct told *told) {
+  paris_wide room[NUMBERS / 2] = {{1, 1}, {1, 1}, {1, 1}, {1, 1}};
+  uint64_t words[NUMBERS] = {0}, count = 0;
+  told->status = paris_get_wide(handle, bytes(key), strlen(key), PARIS_END, room, NUMBERS / 2, &count);
+  memcpy(words, room, sizeof words);
+  put_room(told, words);
+}
+
 static void rows(paris_handle *handle, const char *none, struct told *told) {
   (void)none;
   uint64_t room[NUMBERS] = {1, 1, 1, 1, 1, 1, 1, 1};
   size_t count = 0;
-  told->status = paris_rows(handle, room, 4, &count);
+  told->status = paris_rows(handle, room, 5, &count);
   put_room(told, room);
 }
 
@@ -137,6 +160,99 @@ static void script(paris_handle *handle, const char *text, struct told *told) {
   if (!told->status) put(told, room, len);
 }
 
+static void part(paris_handle *handle, const char *key, struct told *told) {
+  uint64_t room[NUMBERS] = {1, 1, 1, 1, 1, 1, 1, 1}, count = 0;
+  told->status = paris_part(handle, bytes(key), strlen(key), PARIS_START, 2, room, 3, &count);
+  put_room(told, room);
+}
+
+/* The order that is taken, executed and brought. */
+static paris_order order = {0};
+
+static void put_order(struct told *told) {
+  uint64_t words[3] = {0};
+  bool is_run = false;
+  WANT(paris_order_row(&order, &words[0], &words[1], &is_run) == PARIS_OK);
+  words[2] = is_run;
+  put(told, words, sizeof words);
+}
+
+static void take(paris_handle *handle, const char *none, struct told *told) {
+  (void)none;
+  told->status = paris_take(handle, &order);
+  WANT(order.is_open == !told->status);
+  if (!told->status) put_order(told);
+}
+
+/* An order that isn't executed for want of memory is as it was. */
+static void execute(paris_handle *handle, const char *none, struct told *told) {
+  static struct told before, after;
+  (void)handle, (void)none;
+  before.len = after.len = 0;
+  put_order(&before);
+  told->status = paris_execute(&order);
+  put_order(&after);
+  WANT(!told->status || is_same(&before, &after));
+  if (!told->status) put_order(told);
+}
+
+/* A call that takes no memory, of which nothing is refused. */
+static void bring(paris_handle *handle, const char *none, struct told *told) {
+  long before = seen;
+  uint32_t verdict = 0;
+  uint64_t edition = 0;
+  (void)none;
+  told->status = paris_bring(handle, &order, &verdict, &edition);
+  WANT(!told->status && seen == before);
+  put(told, &verdict, sizeof verdict);
+  put_order(told);
+}
+
+static void release(paris_handle *handle, const char *none, struct told *told) {
+  long before = seen;
+  (void)none;
+  told->status = paris_release(handle);
+  WANT(!told->status && seen == before);
+}
+
+static void unsettled_ids(paris_handle *handle, const char *none, struct told *told) {
+  long before = seen;
+  uint64_t room[NUMBERS] = {1, 1, 1, 1, 1, 1, 1, 1};
+  size_t count = 0;
+  (void)none;
+  told->status = paris_unsettled(handle, room, NUMBERS, &count);
+  WANT(!told->status && seen == before);
+  put_room(told, room);
+  put(told, &count, sizeof count);
+}
+
+static void origin(paris_handle *handle, const char *key, struct told *told) {
+  long before = seen;
+  uint64_t row = 0;
+  told->status = paris_origin(handle, bytes(key), strlen(key), PARIS_END, &row);
+  WANT(!told->status && seen == before);
+  put(told, &row, sizeof row);
+}
+
+static void look(paris_handle *handle, struct told *told);
+
+/* A session in the same state, which is looked at and closed. Where there is no memory none is open. */
+static void snapshot(paris_handle *handle, const char *none, struct told *told) {
+  static struct told here, there;
+  static paris_handle copy = {0};
+  bool was_watching = watching;
+  (void)none;
+  told->status = paris_snapshot(handle, &copy);
+  WANT(copy.is_open == !told->status);
+  if (told->status) return;
+  watching = false;
+  look(handle, &here);
+  look(&copy, &there);
+  WANT(is_same(&here, &there));
+  WANT(paris_close(&copy) == PARIS_OK);
+  watching = was_watching;
+}
+
 struct step {
   const char *text;
   void (*call)(paris_handle *, const char *, struct told *);
@@ -152,6 +268,8 @@ static const struct step STEPS[] = {
     {"field at s 3", answer},
     {"field d t 8", answer},
     {"field e t 65", answer},
+    {"field f t 129", answer},
+    {"input e 0 36893488147419103231", answer},
     {"input a 0 1 2 3 4 5 6 7 8", answer},
     {"input s.context 1 0", answer},
     {"input a 7 1 2", answer},
@@ -175,12 +293,26 @@ static const struct step STEPS[] = {
     {"show c end", answer},
     {"take", answer},
     {"release", answer},
+    {"insert end u-max-3-1L d d d 8", answer},
+    {"", take},
+    {"", snapshot},
+    {"", execute},
+    {"", execute},
+    {"", bring},
+    {"", bring},
+    {"", take},
+    {"", release},
+    {"", snapshot},
+    {"b", part},
     {"take", answer},
     {"settle", settle_line},
     {"show c end", answer},
     {"show s.carry end", answer},
     {"insert end send-1L c at a 8 none", answer},
     {"insert end scan-with-u-add-1L b a 0 8 upward inclusive none", answer},
+    {"", unsettled_ids},
+    {"b", settle_for},
+    {"c", origin},
     {"list", answer},
     {"settle", settle_line},
     {"faults", answer},
@@ -188,6 +320,8 @@ static const struct step STEPS[] = {
     {"# a remark", answer},
     {"no such command", answer},
     {"a", set},
+    {"e", set_wide},
+    {"e", get_wide},
     {"", rows},
     {"take", answer},
     {"", settle},
@@ -196,6 +330,11 @@ static const struct step STEPS[] = {
     {"insert end get-1L b at a 8", answer},
     {"", settle},
     {"a", get},
+    {"replace 1 u-add-3-1L c a b 8", answer},
+    {"input a 2 5", answer},
+    {"", unsettled_ids},
+    {"", run},
+    {"", unsettled_ids},
 };
 
 enum { STEP_COUNT = sizeof STEPS / sizeof *STEPS };
@@ -207,7 +346,10 @@ static void do_step(paris_handle *handle, int step, struct told *told) {
   STEPS[step].call(handle, step_now, told);
 }
 
-static bool is_settle(int step) { return STEPS[step].call == settle || STEPS[step].call == settle_line; }
+/* Whether a step tells how many orders were run, at PARIS_PARTLY too. */
+static bool tells_runs(int step) { return STEPS[step].call == settle || STEPS[step].call == run || STEPS[step].call == settle_for; }
+
+static bool is_settle(int step) { return tells_runs(step) || STEPS[step].call == settle_line; }
 
 /* All that a session shows, but its orders. */
 static void look(paris_handle *handle, struct told *told) {
@@ -249,7 +391,7 @@ static void settle_again(paris_handle *handle, int step, struct told *told) {
   WANT(is_settle(step));
   do_step(handle, step, told);
   WANT(told->ran <= left);
-  WANT(STEPS[step].call == settle ? ran + told->ran == wanted : told->ran <= wanted);
+  WANT(tells_runs(step) ? ran + told->ran == wanted : told->ran <= wanted);
   told->ran = wanted;
 }
 
@@ -284,36 +426,57 @@ static void do_steps(paris_handle *handle) {
   WANT(is_same(&told, &seen_before[STEP_COUNT]));
 }
 
+static void open_session(paris_handle *handle) {
+  step_now = "paris_open";
+  uint32_t status = paris_open(handle);
+  if (status == PARIS_NO_MEMORY) {
+    watching = false;
+    WANT(refusals > 0 && !handle->is_open);
+    WANT(paris_close(handle) == PARIS_CLOSED);
+    status = paris_open(handle);
+  }
+  WANT(status == PARIS_OK);
+}
+
+/* The profile is chosen by the first line, which is the first again where it got no memory. */
+static void choose_profile(paris_handle *handle) {
+  static struct told told;
+  step_now = "paris 2";
+  told.len = 0;
+  answer(handle, step_now, &told);
+  if (told.status == PARIS_NO_MEMORY) {
+    watching = false;
+    WANT(refusals > 0);
+    unchanged++;
+    answer(handle, step_now, &told);
+  }
+  WANT(told.status == PARIS_OK && told.len == 3 && !memcmp(told.text, "ok\n", 3));
+}
+
 /* Whether a refusal came, and so whether there are further allocations to refuse. */
 static bool play(void) {
   paris_handle handle = {0};
   kept_len = 0;
   seen = refusals = 0;
   watching = true;
-  step_now = "paris_open";
-  uint32_t status = paris_open(&handle);
-  if (status == PARIS_NO_MEMORY) {
-    watching = false;
-    WANT(refusals > 0 && !handle.is_open);
-    WANT(paris_close(&handle) == PARIS_CLOSED);
-    status = paris_open(&handle);
-  }
-  WANT(status == PARIS_OK);
+  open_session(&handle);
+  choose_profile(&handle);
   do_steps(&handle);
-  WANT(paris_close(&handle) == PARIS_OK);
+  WANT(paris_close(&handle) == PARIS_OK && paris_order_close(&order) == PARIS_OK);
   return refusals > 0;
 }
 
 static void play_with_memory(void) {
   paris_handle handle = {0};
-  WANT(paris_open(&handle) == PARIS_OK);
+  open_session(&handle);
+  choose_profile(&handle);
   for (int step = 0; step < STEP_COUNT; step++) {
     look(&handle, &seen_before[step]);
     do_step(&handle, step, &expected[step]);
     WANT(expected[step].status == PARIS_OK);
   }
   look(&handle, &seen_before[STEP_COUNT]);
-  WANT(paris_close(&handle) == PARIS_OK);
+  WANT(paris_close(&handle) == PARIS_OK && paris_order_close(&order) == PARIS_OK);
 }
 
 int main(void) {

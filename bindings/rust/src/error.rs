@@ -15,7 +15,8 @@ pub enum Error {
     NoKey,
     /// The row with this id has to be settled first.
     Pending(u64),
-    /// The room has another length than the numbers that are to be put there, which are so many.
+    /// The room has another length than the numbers that are to be put there, or reaches past the last of
+    /// them. They are so many.
     WrongRoom(usize),
     /// The script is too long, or the session has answered as many lines as it can count.
     TooMany,
@@ -25,6 +26,13 @@ pub enum Error {
     /// tells how many where it can, and those that were settled stay so. Orders that were out may be
     /// given up, and the session can be settled again.
     PartlySettled(Option<u64>),
+    /// No profile has the number. A [`Profile`](crate::Profile) has one, so no call here gives this.
+    NoProfile,
+    /// No row is ready. [`Session::take`](crate::Session::take) says so by `None`, so no call here gives
+    /// this.
+    NothingReady,
+    /// The order is not executed. A [`Done`](crate::Done) is, so no call here gives this.
+    NotRun,
     /// The library answered by a status that this package doesn't know.
     Unknown(u32),
 }
@@ -40,6 +48,9 @@ impl Error {
             sys::TOO_MANY => Error::TooMany,
             sys::TOO_WIDE => Error::TooWide,
             sys::PARTLY => Error::PartlySettled(None),
+            sys::NO_PROFILE => Error::NoProfile,
+            sys::NOTHING => Error::NothingReady,
+            sys::NOT_RUN => Error::NotRun,
             _ => Fault::of_number(status).map_or(Error::Unknown(status), Error::Fault),
         }
     }
@@ -55,6 +66,9 @@ impl Error {
             Error::TooMany => sys::TOO_MANY,
             Error::TooWide => sys::TOO_WIDE,
             Error::PartlySettled(_) => sys::PARTLY,
+            Error::NoProfile => sys::NO_PROFILE,
+            Error::NothingReady => sys::NOTHING,
+            Error::NotRun => sys::NOT_RUN,
             Error::Unknown(status) => status,
         }
     }
@@ -87,6 +101,9 @@ impl Display for Error {
                 f,
                 "there was no memory left while rows were settled, and {ran} were run"
             ),
+            Error::NoProfile => f.write_str("no profile has this number"),
+            Error::NothingReady => f.write_str("no row is ready"),
+            Error::NotRun => f.write_str("the order is not executed"),
             Error::Unknown(status) => write!(
                 f,
                 "the library answered by status {status}, which this package doesn't know"
@@ -105,7 +122,7 @@ mod tests {
     fn an_error_keeps_its_status() {
         for status in 1..200 {
             let error = Error::of_status(status, 7);
-            let is_known = matches!(status, 1..=23 | 101..=107);
+            let is_known = matches!(status, 1..=23 | 101..=110);
             assert_eq!(error.status(), status);
             assert_eq!(error == Error::Unknown(status), !is_known, "{error:?}");
         }

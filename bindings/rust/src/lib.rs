@@ -25,19 +25,28 @@
 //! A settled row may be refused for its data, as a plain send in which two messages meet:
 //! [`Session::faults`] tells of such rows.
 //!
+//! Rows can be run in threads while the session takes edits: [`Session::take`] gives an [`Order`], which is
+//! executed in any thread, and [`Session::bring`] takes its result.
+//!
 //! The library is that of the folder which the variable `PARIS_LIB_DIR` names as the package is
 //! built, else that of `bindings/c/out`, where `bindings/c/build` or `bindings/c/unpack` of the repository puts it.
 #![warn(missing_docs, missing_debug_implementations)]
 
 mod error;
 mod fault;
+mod order;
 mod place;
+mod profile;
 mod refused;
 mod session;
 mod sys;
+mod verdict;
 
 pub use error::Error;
 pub use fault::Fault;
+pub use order::{Done, Order};
 pub use place::Place;
+pub use profile::Profile;
 pub use refused::{Cause, RowFault};
 pub use session::{transcript, Session};
+pub use verdict::Verdict;

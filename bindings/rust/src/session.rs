@@ -1,7 +1,10 @@
 use crate::error::Error;
+use crate::order::{Done, Order};
 use crate::place::Place;
+use crate::profile::Profile;
 use crate::refused::RowFault;
 use crate::sys::{self, Handle};
+use crate::verdict::Verdict;
 use std::fmt::{self, Debug, Formatter};
 
 /// So many refused rows are told by one call of the library, and more of them by two.
@@ -10,35 +13,56 @@ const FEW_ROWS: usize = 32;
 /// A session: a program, its input data, what is settled of it, and the orders that were taken.
 ///
 /// A key is a field's name, or a set's with a dot and a flag, as `a` or `s.context`. Numbers are
-/// words of 64 bits, one a processor, which hold what any field can.
+/// words of 64 bits, one a processor, which hold what a field of up to 64 bits can. In
+/// [`Profile::Two`] a field may have up to 128, and [`Session::set_wide`] and [`Session::get_wide`] go
+/// by numbers of so many.
 ///
-/// A session is closed as it is dropped. It stays in the thread that opened it, since the library
-/// promises no more:
+/// A session is closed as it is dropped. It may go to another thread, and is called by one at a time. A
+/// look counts as a call, so a session isn't shared by threads but in a mutex:
 ///
-/// ```compile_fail
+/// ```
 /// fn is_sent<T: Send>() {}
+/// fn is_shared<T: Sync>() {}
 /// is_sent::<paris::Session>();
+/// is_shared::<std::sync::Mutex<paris::Session>>();
+/// is_sent::<paris::Order>();
+/// is_sent::<paris::Done>();
+/// is_sent::<paris::Error>();
+/// is_shared::<paris::Error>();
 /// ```
 ///
 /// ```compile_fail
 /// fn is_shared<T: Sync>() {}
 /// is_shared::<paris::Session>();
 /// ```
-///
-/// Errors may go to another thread:
-///
-/// ```
-/// fn is_sent<T: Send>() {}
-/// fn is_shared<T: Sync>() {}
-/// is_sent::<paris::Error>();
-/// is_shared::<paris::Error>();
-/// ```
 pub struct Session(Handle);
 
 impl Session {
-    /// Opens a session with nothing in it.
+    /// Opens a session with nothing in it. It is in [`Profile::One`], and in [`Profile::Two`] where it
+    /// begins by the line `paris 2`.
     pub fn new() -> Result<Session, Error> {
         Handle::open().map(Session)
+    }
+
+    /// Opens a session with nothing in it, in a profile that no line changes.
+    ///
+    /// ```
+    /// # use paris::{Error, Place, Profile, Session};
+    /// # fn main() -> Result<(), Error> {
+    /// let mut session = Session::with_profile(Profile::Two)?;
+    /// session.answer("set s 2")?;
+    /// session.answer("field a s 128")?;
+    /// session.set_wide("a", 0, &[u128::MAX, 1 << 100])?;
+    /// session.answer("insert end lognot-2-1L a a 128")?;
+    /// session.settle()?;
+    ///
+    /// assert_eq!(session.get_wide("a", Place::End)?, [0, u128::MAX - (1 << 100)]);
+    /// assert_eq!(session.get("a", Place::End), Err(Error::TooWide));
+    /// # Ok(())
+    /// # }
+    /// ```
+    pub fn with_profile(profile: Profile) -> Result<Session, Error> {
+        Handle::open_profile(profile.number()).map(Session)
     }
 
     /// Answers a line of a script, without its line feed, as the program answers it: by its reply,
@@ -59,11 +83,29 @@ impl Session {
         self.0.set(key.as_ref(), from, numbers)
     }
 
-    /// The numbers that a key holds at a place: the command `show` without its text.
+    /// The same with numbers of up to 128 bits.
+    pub fn set_wide(
+        &mut self,
+        key: impl AsRef<[u8]>,
+        from: u64,
+        numbers: &[u128],
+    ) -> Result<(), Error> {
+        self.0.set_wide(key.as_ref(), from, numbers)
+    }
+
+    /// The numbers that a key holds at a place: the command `show` without its text. A field of more
+    /// than 64 bits is [`Error::TooWide`], whatever it holds.
     pub fn get(&self, key: impl AsRef<[u8]>, place: Place) -> Result<Vec<u64>, Error> {
         let key = key.as_ref();
         let place = place.number();
-        in_room(|room| self.0.get(key, place, room))
+        in_room(0, |room| self.0.get(key, place, room))
+    }
+
+    /// The same with numbers of up to 128 bits, of a key of any width.
+    pub fn get_wide(&self, key: impl AsRef<[u8]>, place: Place) -> Result<Vec<u128>, Error> {
+        let key = key.as_ref();
+        let place = place.number();
+        in_room(0, |room| self.0.get_wide(key, place, room))
     }
 
     /// Puts the numbers that a key holds at a place into a room of as many words.
@@ -76,9 +118,24 @@ impl Session {
         self.0.get(key.as_ref(), place.number(), room)
     }
 
+    /// Puts the numbers that a key holds at a place, from a processor on, into a room, as many as there is
+    /// room for, and answers how many there are in all. A room that reaches past the last one is
+    /// [`Error::WrongRoom`].
+    pub fn part_into(
+        &self,
+        key: impl AsRef<[u8]>,
+        place: Place,
+        from: u64,
+        room: &mut [u64],
+    ) -> Result<usize, Error> {
+        self.0
+            .part(key.as_ref(), place.number(), from, room)
+            .map(|told| told as usize)
+    }
+
     /// The ids of the rows in program order.
     pub fn rows(&self) -> Result<Vec<u64>, Error> {
-        in_room(|room| self.0.rows(room))
+        in_room(0, |room| self.0.rows(room))
     }
 
     /// Settles every row, and answers how many orders were run: the command `settle` without its
@@ -111,6 +168,94 @@ impl Session {
     /// ```
     pub fn settle(&mut self) -> Result<u64, Error> {
         self.0.settle()
+    }
+
+    /// Runs at most so many orders, one after another, and answers how many: fewer where no row is ready
+    /// any more. Orders that are out stay so.
+    pub fn run(&mut self, most: u64) -> Result<u64, Error> {
+        self.0.run(most)
+    }
+
+    /// Settles the value of a key at a place: runs the unsettled rows that it stands on, and no other, and
+    /// answers how many orders were run. A row that is out is run here too.
+    ///
+    /// ```
+    /// # use paris::{Place, Session};
+    /// # fn main() -> Result<(), paris::Error> {
+    /// let mut session = Session::new()?;
+    /// session.answer("set s 4")?;
+    /// session.answer("field a s 8")?;
+    /// session.answer("field b s 8")?;
+    /// session.answer("insert end my-send-address-1L a 2")?;
+    /// session.answer("insert end my-send-address-1L b 2")?;
+    ///
+    /// assert_eq!(session.settle_for("b", Place::End)?, 1);
+    /// assert_eq!(session.get("b", Place::End)?, [0, 1, 2, 3]);
+    /// assert_eq!(session.unsettled()?, [1]);
+    /// assert_eq!(session.origin("a", Place::End)?, Some(1));
+    /// # Ok(())
+    /// # }
+    /// ```
+    pub fn settle_for(&mut self, key: impl AsRef<[u8]>, place: Place) -> Result<u64, Error> {
+        self.0.settle_for(key.as_ref(), place.number())
+    }
+
+    /// The ids of the unsettled rows, in program order. What an edit made unsettled is here after it and
+    /// wasn't before.
+    pub fn unsettled(&self) -> Result<Vec<u64>, Error> {
+        let mut ids = vec![0; FEW_ROWS];
+        let count = self.0.unsettled(&mut ids)?;
+        ids.resize(count, 0);
+        if count > FEW_ROWS {
+            self.0.unsettled(&mut ids)?;
+        }
+        Ok(ids)
+    }
+
+    /// The row that gives a key its value at a place, settled or not. `None` is the input data.
+    pub fn origin(&self, key: impl AsRef<[u8]>, place: Place) -> Result<Option<u64>, Error> {
+        let row = self.0.origin(key.as_ref(), place.number())?;
+        Ok((row != 0).then_some(row))
+    }
+
+    /// An order for the first row that is ready: it waits, and all that it reads is settled. The row is out
+    /// then, until a result of it is brought, it is edited or [released](Session::release). `None` where
+    /// no row is ready.
+    pub fn take(&mut self) -> Result<Option<Order>, Error> {
+        Ok(self.0.take()?.map(Order))
+    }
+
+    /// Brings a result, however late, and answers what becomes of it.
+    ///
+    /// ```
+    /// # use paris::{Session, Verdict};
+    /// # fn main() -> Result<(), paris::Error> {
+    /// let mut session = Session::new()?;
+    /// session.answer("set s 4")?;
+    /// session.answer("field a s 8")?;
+    /// session.answer("insert end u-add-3-1L a a a 8")?;
+    /// let order = session.take()?.expect("the row is ready");
+    /// session.set("a", 0, &[1])?;
+    /// let done = order.execute().map_err(|refused| refused.1)?;
+    ///
+    /// assert_eq!(session.bring(&done)?, Verdict::Stale(4));
+    /// # Ok(())
+    /// # }
+    /// ```
+    pub fn bring(&mut self, done: &Done) -> Result<Verdict, Error> {
+        let (number, edition) = self.0.bring(&done.0)?;
+        Ok(Verdict::of_number(number, edition).expect("the library has five verdicts"))
+    }
+
+    /// Gives up the orders that are out: their rows are ready again. Results of them can still be brought.
+    pub fn release(&mut self) -> Result<(), Error> {
+        self.0.release()
+    }
+
+    /// A session in the same state. The two share values, and what is done with either leaves the other
+    /// as it is. Rows that are out are out in both.
+    pub fn snapshot(&self) -> Result<Session, Error> {
+        self.0.snapshot().map(Session)
     }
 
     /// The settled rows that are refused for their data, in program order: the command `faults`
@@ -150,12 +295,15 @@ pub fn transcript(script: impl AsRef<[u8]>) -> Result<String, Error> {
 }
 
 /// Fills a room of the length that is wanted, which the call tells of an empty room.
-fn in_room(fill: impl Fn(&mut [u64]) -> Result<(), Error>) -> Result<Vec<u64>, Error> {
+fn in_room<T: Clone>(
+    zero: T,
+    fill: impl Fn(&mut [T]) -> Result<(), Error>,
+) -> Result<Vec<T>, Error> {
     let count = match fill(&mut []) {
         Err(Error::WrongRoom(count)) => count,
         ended => return ended.map(|()| Vec::new()),
     };
-    let mut room = vec![0; count];
+    let mut room = vec![zero; count];
     fill(&mut room)?;
     Ok(room)
 }

@@ -1,8 +1,8 @@
 //! The calls of the library, as safe functions. Nothing else in this package is unsafe.
 //!
 //! What `bindings/c/paris.h` wants of its callers is kept here: a handle begins as zeros, stays where
-//! it is, and goes to one call at a time in one thread; each pointer is that of a slice, with its
-//! length; and no two arguments of a call overlap.
+//! it is, and is in one call at a time, since no two threads share it; each pointer is that of a slice,
+//! with its length; and no two arguments of a call overlap.
 #![allow(unsafe_code)]
 
 use crate::error::Error;
@@ -18,6 +18,9 @@ pub(crate) const WRONG_ROOM: u32 = 104;
 pub(crate) const TOO_MANY: u32 = 105;
 pub(crate) const TOO_WIDE: u32 = 106;
 pub(crate) const PARTLY: u32 = 107;
+pub(crate) const NO_PROFILE: u32 = 108;
+pub(crate) const NOTHING: u32 = 109;
+pub(crate) const NOT_RUN: u32 = 110;
 
 #[repr(C)]
 struct Words {
@@ -25,8 +28,30 @@ struct Words {
     is_open: bool,
 }
 
+/// A number in two words.
+#[repr(C)]
+#[derive(Clone, Copy)]
+struct Wide {
+    low: u64,
+    high: u64,
+}
+
+impl Wide {
+    fn of(number: u128) -> Wide {
+        Wide {
+            low: number as u64,
+            high: (number >> 64) as u64,
+        }
+    }
+
+    fn number(self) -> u128 {
+        u128::from(self.high) << 64 | u128::from(self.low)
+    }
+}
+
 extern "C" {
     fn paris_open(handle: *mut Words) -> u32;
+    fn paris_open_profile(handle: *mut Words, profile: u32) -> u32;
     fn paris_close(handle: *mut Words) -> u32;
     fn paris_answer(handle: *mut Words, line: *const u8, len: usize, reply: *mut usize) -> u32;
     fn paris_reply(handle: *mut Words, room: *mut u8, len: usize) -> u32;
@@ -54,9 +79,69 @@ extern "C" {
         len: usize,
         told: *mut u64,
     ) -> u32;
+    fn paris_set_wide(
+        handle: *mut Words,
+        key: *const u8,
+        key_len: usize,
+        from: u64,
+        numbers: *const Wide,
+        len: usize,
+    ) -> u32;
+    fn paris_get_wide(
+        handle: *mut Words,
+        key: *const u8,
+        key_len: usize,
+        place: u64,
+        room: *mut Wide,
+        len: usize,
+        told: *mut u64,
+    ) -> u32;
+    fn paris_part(
+        handle: *mut Words,
+        key: *const u8,
+        key_len: usize,
+        place: u64,
+        from: u64,
+        room: *mut u64,
+        len: usize,
+        told: *mut u64,
+    ) -> u32;
     fn paris_rows(handle: *mut Words, room: *mut u64, len: usize, count: *mut usize) -> u32;
     fn paris_settle(handle: *mut Words, ran: *mut u64) -> u32;
     fn paris_faults(handle: *mut Words, room: *mut u64, len: usize, count: *mut usize) -> u32;
+    fn paris_run(handle: *mut Words, most: u64, ran: *mut u64) -> u32;
+    fn paris_settle_for(
+        handle: *mut Words,
+        key: *const u8,
+        key_len: usize,
+        place: u64,
+        ran: *mut u64,
+    ) -> u32;
+    fn paris_unsettled(handle: *mut Words, room: *mut u64, len: usize, count: *mut usize) -> u32;
+    fn paris_origin(
+        handle: *mut Words,
+        key: *const u8,
+        key_len: usize,
+        place: u64,
+        row: *mut u64,
+    ) -> u32;
+    fn paris_take(handle: *mut Words, order: *mut Words) -> u32;
+    fn paris_execute(order: *mut Words) -> u32;
+    fn paris_bring(
+        handle: *mut Words,
+        order: *mut Words,
+        verdict: *mut u32,
+        edition: *mut u64,
+    ) -> u32;
+    fn paris_order_row(
+        order: *mut Words,
+        row: *mut u64,
+        edition: *mut u64,
+        is_run: *mut bool,
+    ) -> u32;
+    fn paris_order_close(order: *mut Words) -> u32;
+    fn paris_release(handle: *mut Words) -> u32;
+    fn paris_snapshot(handle: *mut Words, into: *mut Words) -> u32;
     #[cfg(test)]
     fn paris_fault_text(status: u32, room: *mut u8, len: usize) -> usize;
     #[cfg(test)]
@@ -71,19 +156,47 @@ fn outcome(status: u32, told: u64) -> Result<(), Error> {
     }
 }
 
-/// An open handle. By the cell a call that leaves the session as it was takes a shared borrow, and
-/// by the cell and the pointer in it the handle stays in its thread.
-pub(crate) struct Handle(Box<UnsafeCell<Words>>);
+/// The words of a handle, which stay where they are. By the cell a call that leaves all as it was takes
+/// a shared borrow, and no two threads have one.
+struct Place(Box<UnsafeCell<Words>>);
 
-impl Handle {
-    pub(crate) fn open() -> Result<Handle, Error> {
+impl Place {
+    fn closed() -> Place {
         let words = Words {
             at: ptr::null_mut(),
             is_open: false,
         };
-        let handle = Handle(Box::new(UnsafeCell::new(words)));
+        Place(Box::new(UnsafeCell::new(words)))
+    }
+
+    fn get(&self) -> *mut Words {
+        self.0.get()
+    }
+}
+
+// SAFETY: the library lets a handle go to another thread. It is in one call at a time there too, since
+// a cell isn't shared by threads.
+unsafe impl Send for Place {}
+
+/// An open handle of a session.
+pub(crate) struct Handle(Place);
+
+impl Handle {
+    fn closed() -> Handle {
+        Handle(Place::closed())
+    }
+
+    pub(crate) fn open() -> Result<Handle, Error> {
+        let handle = Handle::closed();
         // SAFETY: the handle is all zeros.
         let status = unsafe { paris_open(handle.0.get()) };
+        outcome(status, 0).map(|()| handle)
+    }
+
+    pub(crate) fn open_profile(profile: u32) -> Result<Handle, Error> {
+        let handle = Handle::closed();
+        // SAFETY: the handle is all zeros.
+        let status = unsafe { paris_open_profile(handle.0.get(), profile) };
         outcome(status, 0).map(|()| handle)
     }
 
@@ -136,6 +249,49 @@ impl Handle {
         outcome(status, told)
     }
 
+    pub(crate) fn set_wide(
+        &mut self,
+        key: &[u8],
+        from: u64,
+        numbers: &[u128],
+    ) -> Result<(), Error> {
+        let numbers: Vec<Wide> = numbers.iter().copied().map(Wide::of).collect();
+        // SAFETY: the handle is in no other call, and the numbers are a copy, so no slices overlap.
+        let status = unsafe {
+            paris_set_wide(
+                self.0.get(),
+                key.as_ptr(),
+                key.len(),
+                from,
+                numbers.as_ptr(),
+                numbers.len(),
+            )
+        };
+        outcome(status, 0)
+    }
+
+    pub(crate) fn get_wide(&self, key: &[u8], place: u64, room: &mut [u128]) -> Result<(), Error> {
+        let mut told = 0;
+        let mut words = vec![Wide::of(0); room.len()];
+        // SAFETY: the handle is in no other call, and no slice overlaps one that is written.
+        let status = unsafe {
+            paris_get_wide(
+                self.0.get(),
+                key.as_ptr(),
+                key.len(),
+                place,
+                words.as_mut_ptr(),
+                words.len(),
+                &mut told,
+            )
+        };
+        outcome(status, told)?;
+        for (number, wide) in room.iter_mut().zip(words) {
+            *number = wide.number();
+        }
+        Ok(())
+    }
+
     pub(crate) fn rows(&self, room: &mut [u64]) -> Result<(), Error> {
         let mut count = 0;
         // SAFETY: the handle is in no other call, and the room is a slice.
@@ -157,10 +313,133 @@ impl Handle {
         let mut ran = 0;
         // SAFETY: the handle is in no other call.
         let status = unsafe { paris_settle(self.0.get(), &mut ran) };
+        settled(status, ran)
+    }
+
+    pub(crate) fn run(&mut self, most: u64) -> Result<u64, Error> {
+        let mut ran = 0;
+        // SAFETY: the handle is in no other call.
+        let status = unsafe { paris_run(self.0.get(), most, &mut ran) };
+        settled(status, ran)
+    }
+
+    pub(crate) fn settle_for(&mut self, key: &[u8], place: u64) -> Result<u64, Error> {
+        let mut ran = 0;
+        // SAFETY: the handle is in no other call, and the key is a slice.
+        let status =
+            unsafe { paris_settle_for(self.0.get(), key.as_ptr(), key.len(), place, &mut ran) };
+        settled(status, ran)
+    }
+
+    /// Puts the ids of unsettled rows into a room, as many as there is room for, and says how many rows
+    /// are unsettled.
+    pub(crate) fn unsettled(&self, room: &mut [u64]) -> Result<usize, Error> {
+        let mut count = 0;
+        // SAFETY: the handle is in no other call, and the room is a slice.
+        let status =
+            unsafe { paris_unsettled(self.0.get(), room.as_mut_ptr(), room.len(), &mut count) };
+        outcome(status, 0).map(|()| count)
+    }
+
+    /// The id of the row that gives a key its value at a place, and 0 for the start.
+    pub(crate) fn origin(&self, key: &[u8], place: u64) -> Result<u64, Error> {
+        let mut row = 0;
+        // SAFETY: the handle is in no other call, and the key is a slice.
+        let status =
+            unsafe { paris_origin(self.0.get(), key.as_ptr(), key.len(), place, &mut row) };
+        outcome(status, 0).map(|()| row)
+    }
+}
+
+/// What became of a call that settles rows, which ran so many orders.
+fn settled(status: u32, ran: u64) -> Result<u64, Error> {
+    match status {
+        PARTLY => Err(Error::PartlySettled(Some(ran))),
+        _ => outcome(status, 0).map(|()| ran),
+    }
+}
+
+impl Handle {
+    /// Puts numbers from a processor on into a room, and says how many there are in all.
+    pub(crate) fn part(
+        &self,
+        key: &[u8],
+        place: u64,
+        from: u64,
+        room: &mut [u64],
+    ) -> Result<u64, Error> {
+        let mut told = 0;
+        // SAFETY: the handle is in no other call, and no slice overlaps one that is written.
+        let status = unsafe {
+            paris_part(
+                self.0.get(),
+                key.as_ptr(),
+                key.len(),
+                place,
+                from,
+                room.as_mut_ptr(),
+                room.len(),
+                &mut told,
+            )
+        };
+        outcome(status, told).map(|()| told)
+    }
+
+    /// An order for the first row that is ready, if there is one.
+    pub(crate) fn take(&mut self) -> Result<Option<OrderHandle>, Error> {
+        let order = OrderHandle(Place::closed());
+        // SAFETY: the handle is in no other call, and the order is all zeros.
+        let status = unsafe { paris_take(self.0.get(), order.0.get()) };
         match status {
-            PARTLY => Err(Error::PartlySettled(Some(ran))),
-            _ => outcome(status, 0).map(|()| ran),
+            NOTHING => Ok(None),
+            _ => outcome(status, 0).map(|()| Some(order)),
         }
+    }
+
+    /// Brings a result, and says the number of the verdict and the edition that is told with it.
+    pub(crate) fn bring(&mut self, order: &OrderHandle) -> Result<(u32, u64), Error> {
+        let (mut verdict, mut edition) = (0, 0);
+        // SAFETY: neither handle is in another call.
+        let status =
+            unsafe { paris_bring(self.0.get(), order.0.get(), &mut verdict, &mut edition) };
+        outcome(status, 0).map(|()| (verdict, edition))
+    }
+
+    pub(crate) fn release(&mut self) -> Result<(), Error> {
+        // SAFETY: the handle is in no other call.
+        outcome(unsafe { paris_release(self.0.get()) }, 0)
+    }
+
+    pub(crate) fn snapshot(&self) -> Result<Handle, Error> {
+        let into = Handle::closed();
+        // SAFETY: the handle is in no other call, and the other one is all zeros.
+        let status = unsafe { paris_snapshot(self.0.get(), into.0.get()) };
+        outcome(status, 0).map(|()| into)
+    }
+}
+
+/// An open handle of an order.
+pub(crate) struct OrderHandle(Place);
+
+impl OrderHandle {
+    pub(crate) fn execute(&mut self) -> Result<(), Error> {
+        // SAFETY: the handle is in no other call.
+        outcome(unsafe { paris_execute(self.0.get()) }, 0)
+    }
+
+    /// The row and the edition of the order.
+    pub(crate) fn row(&self) -> (u64, u64) {
+        let (mut row, mut edition, mut is_run) = (0, 0, false);
+        // SAFETY: the handle is in no other call.
+        unsafe { paris_order_row(self.0.get(), &mut row, &mut edition, &mut is_run) };
+        (row, edition)
+    }
+}
+
+impl Drop for OrderHandle {
+    fn drop(&mut self) {
+        // SAFETY: the handle is in no other call.
+        unsafe { paris_order_close(self.0.get()) };
     }
 }
 

@@ -1,6 +1,6 @@
 //! Each error that a session gives while there is memory.
 
-use paris::{Error, Fault, Place, Session};
+use paris::{Error, Fault, Place, Profile, Session};
 
 const FAULT_NO_ROW: Error = Error::Fault(Fault::NoRow);
 const FAULT_NO_FIELD: Error = Error::Fault(Fault::NoField);
@@ -178,4 +178,84 @@ fn errors_and_faults_go_through_the_question_mark() {
     }
     let error = show().expect_err("there is no field");
     assert_eq!(error.downcast_ref(), Some(&FAULT_NO_FIELD));
+}
+
+#[test]
+fn a_width_is_bounded_by_the_profile() -> Result<(), Error> {
+    for (profile, widest) in [(Profile::One, 64), (Profile::Two, 128)] {
+        let mut session = Session::with_profile(profile)?;
+        assert_eq!(session.answer("set s 4")?, "ok\n");
+        assert_eq!(session.answer(format!("field a s {widest}"))?, "ok\n");
+        let wider = widest + 1;
+        assert_eq!(session.answer(format!("field b s {wider}"))?, "refused 6\n");
+    }
+    Ok(())
+}
+
+#[test]
+fn a_profile_is_chosen_by_the_first_line_or_by_the_call() -> Result<(), Error> {
+    let mut session = Session::new()?;
+    assert_eq!(session.answer("# a remark")?, "");
+    assert_eq!(session.answer("paris 2")?, "ok\n");
+    assert_eq!(session.answer("paris 2")?, "refused 20 1\n");
+    assert_eq!(session.answer("set s 4")?, "ok\n");
+    assert_eq!(session.answer("field a s 65")?, "ok\n");
+    let mut chosen = Session::with_profile(Profile::Two)?;
+    assert_eq!(chosen.answer("paris 1")?, "refused 20 1\n");
+    Ok(())
+}
+
+#[test]
+fn wide_numbers_are_given_and_told() -> Result<(), Error> {
+    let mut session = Session::with_profile(Profile::Two)?;
+    for line in ["set s 4", "field a s 128", "field b s 65", "field c s 8"] {
+        assert_eq!(session.answer(line)?, "ok\n");
+    }
+    let numbers = [u128::MAX, 1 << 64, u128::from(u64::MAX), 5];
+    session.set_wide("a", 0, &numbers)?;
+    assert_eq!(session.get_wide("a", Place::End)?, numbers);
+    let [a, b, c, d] = numbers;
+    let shown = format!("values {a} {b} {c} {d}\n");
+    assert_eq!(session.answer("show a start")?, shown);
+    assert_eq!(
+        session.answer(format!("input a 2 {}", 1u128 << 127))?,
+        "ok\n"
+    );
+    assert_eq!(session.get_wide("a", Place::Start)?[2], 1 << 127);
+    session.set("b", 1, &[u64::MAX, 7, 8])?;
+    assert_eq!(
+        session.get_wide("b", Place::End)?,
+        [0, u128::from(u64::MAX), 7, 8]
+    );
+    assert_eq!(session.get("b", Place::End), Err(Error::TooWide));
+    session.set_wide("c", 0, &[1, 2, 3, 255])?;
+    assert_eq!(session.get("c", Place::End)?, [1, 2, 3, 255]);
+    Ok(())
+}
+
+#[test]
+fn refused_wide_numbers_leave_the_field() -> Result<(), Error> {
+    let mut session = Session::with_profile(Profile::Two)?;
+    for line in ["set s 2", "field a s 65"] {
+        assert_eq!(session.answer(line)?, "ok\n");
+    }
+    session.set_wide("a", 0, &[1, (1 << 65) - 1])?;
+    let refused = |fault| Err(Error::Fault(fault));
+    assert_eq!(
+        session.set_wide("a", 0, &[1 << 65]),
+        refused(Fault::TooWide)
+    );
+    assert_eq!(
+        session.set_wide("a", 1, &[9, 9]),
+        refused(Fault::WrongCount)
+    );
+    assert_eq!(session.set_wide("a", 0, &[]), refused(Fault::WrongCount));
+    assert_eq!(session.set_wide("z", 0, &[9]), Err(FAULT_NO_FIELD));
+    assert_eq!(session.set_wide("1", 0, &[9]), Err(Error::NoKey));
+    assert_eq!(session.get_wide("1", Place::End), Err(Error::NoKey));
+    assert_eq!(session.get_wide("a", Place::After(9)), Err(FAULT_NO_ROW));
+    assert_eq!(session.get_wide("a", Place::End)?, [1, (1 << 65) - 1]);
+    session.answer("insert end u-move-constant-1L a 5 65")?;
+    assert_eq!(session.get_wide("a", Place::End), Err(Error::Pending(1)));
+    Ok(())
 }

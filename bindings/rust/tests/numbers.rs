@@ -1,6 +1,6 @@
 //! The numbers of this package beside those of the library's header and of the machine's faults.
 
-use paris::{Cause, Error, Fault};
+use paris::{Cause, Error, Fault, Verdict};
 use std::collections::BTreeMap;
 
 const HEADER: &str = include_str!("../../c/paris.h");
@@ -17,6 +17,9 @@ fn errors() -> BTreeMap<&'static str, Error> {
         ("TOO_MANY", Error::TooMany),
         ("TOO_WIDE", Error::TooWide),
         ("PARTLY", Error::PartlySettled(None)),
+        ("NO_PROFILE", Error::NoProfile),
+        ("NOTHING", Error::NothingReady),
+        ("NOT_RUN", Error::NotRun),
     ])
 }
 
@@ -66,6 +69,18 @@ fn causes_are_those_of_the_header() {
             "cause {number}"
         );
     }
+}
+
+#[test]
+fn verdicts_are_those_of_the_header() {
+    let known = BTreeMap::from([
+        ("KEPT", Verdict::Kept.number()),
+        ("REPEATED", Verdict::Repeated.number()),
+        ("STALE", Verdict::Stale(1).number()),
+        ("GONE", Verdict::Gone.number()),
+        ("FOREIGN", Verdict::Foreign.number()),
+    ]);
+    assert_eq!(known, declared("paris_verdict"));
 }
 
 #[test]

@@ -13,7 +13,7 @@ use Rattle.paris_machine.specs.declared.events.Reply.{Reply}
 use Rattle.paris_records.specs.declared.records.Entry.{Entry}
 use Rattle.paris_records.specs.declared.records.Receipt.{Receipt}
 use Rattle.paris_records.specs.History.{LegalFrom, entry}
-use Rattle.paris_records.specs.Agreement.{Accounted, InPlace, InPlaces, calls_of, list_of}
+use Rattle.paris_records.specs.Agreement.{Accounted, InPlace, InPlaces, calls_of, receipts_of_seat}
 
 pub turn : {X : Type 0} (i : ℕ) (xs : List X) (x : X) → i < length xs → x ≡ get_or xs i x → drop i xs ≡ x ∷ drop (i + 1) xs
 turn i xs x lt is = rw add-one (drop-cons xs i x lt ∙ ap (λ z. z ∷ drop (suc i) xs) (sym is))
@@ -85,10 +85,10 @@ all_below n (e ∷ es) none = and_from (nat_lt e.seat n) (list_all (λ (x : Entr
         absurd (grind (arith, self, c))
 
 -- each list accounts for its seat's entries, and each entry's seat has a list: so all seats are accounted for
-all_seats : (n : ℕ) (h : List Entry) (rss : List (List Receipt)) → length rss ≡ n → list_all (λ (e : Entry). nat_lt e.seat n) h ≡ true → ((seat : ℕ) → seat < n → Accounted h seat (list_of rss seat)) → (seat : ℕ) → Accounted h seat (list_of rss seat)
+all_seats : (n : ℕ) (h : List Entry) (rss : List (List Receipt)) → length rss ≡ n → list_all (λ (e : Entry). nat_lt e.seat n) h ≡ true → ((seat : ℕ) → seat < n → Accounted h seat (receipts_of_seat rss seat)) → (seat : ℕ) → Accounted h seat (receipts_of_seat rss seat)
 all_seats n h rss count below lists seat = by_test (nat_lt seat n) refl
   where
-    by_test : (b : Bool) → nat_lt seat n ≡ b → Accounted h seat (list_of rss seat)
+    by_test : (b : Bool) → nat_lt seat n ≡ b → Accounted h seat (receipts_of_seat rss seat)
     by_test true is = lists seat (grind (arith, nat_tests, is))
     by_test false is =
         let le : n ≤ seat = grind (arith, nat_tests, is) in
@@ -97,14 +97,14 @@ all_seats n h rss count below lists seat = by_test (nat_lt seat n) refl
 
 -- where each entry's seat has a list, the lists that account for their seats' entries account for all
 pub each_listed : (h : List Entry) (vs : List (Vec Receipt Global)) (b : Bool) → list_all (λ (e : Entry). nat_lt e.seat (length vs)) h ≡ true
-    → (IsTrue b ↔ ((seat : ℕ) → seat < length vs → Accounted h seat (list_of (map (λ (r : Vec Receipt Global). r.items) vs) seat)))
-    → IsTrue b ↔ ((seat : ℕ) → Accounted h seat (list_of (map (λ (r : Vec Receipt Global). r.items) vs) seat))
+    → (IsTrue b ↔ ((seat : ℕ) → seat < length vs → Accounted h seat (receipts_of_seat (map (λ (r : Vec Receipt Global). r.items) vs) seat)))
+    → IsTrue b ↔ ((seat : ℕ) → Accounted h seat (receipts_of_seat (map (λ (r : Vec Receipt Global). r.items) vs) seat))
 each_listed h vs b below is =
     let f : Vec Receipt Global → List Receipt = λ r. r.items in
     (λ t. all_seats (length vs) h (map f vs) (length-map vs f) below (is.0 t), λ all. is.1 (λ seat lt. all seat))
 
 -- where all seats are accounted for, each entry's seat has a list
-pub are_listed : (h : List Entry) (vs : List (Vec Receipt Global)) → ((seat : ℕ) → Accounted h seat (list_of (map (λ (r : Vec Receipt Global). r.items) vs) seat)) → list_all (λ (e : Entry). nat_lt e.seat (length vs)) h ≡ true
+pub are_listed : (h : List Entry) (vs : List (Vec Receipt Global)) → ((seat : ℕ) → Accounted h seat (receipts_of_seat (map (λ (r : Vec Receipt Global). r.items) vs) seat)) → list_all (λ (e : Entry). nat_lt e.seat (length vs)) h ≡ true
 are_listed h vs all =
     let f : Vec Receipt Global → List Receipt = λ r. r.items in
     let count = length-map vs f in

@@ -3,4 +3,4 @@
 
 mod agreement;
 
-pub use agreement::audit;
+pub use agreement::{audit, audit_with};

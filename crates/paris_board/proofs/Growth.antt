@@ -10,6 +10,7 @@ use Rattle.indexmap.proofs.MapLemmas.{Missing-position, insert_entry-absent}
 use Rattle.paris_names.specs.declared.faults.Fault.TheVariants.{SetsFull, NameTaken, NoSet, FieldsFull, BadWidth}
 use Rattle.paris_names.specs.contracts.names.NamePartialEq.TheImpl.{ghosts}
 use Rattle.paris_board.specs.Board.{Board, DeclaredSet, DeclaredField, AreFields, set_named, field_named, is_taken, set_fault, field_fault, with_set, with_field}
+use Rattle.paris_names.specs.Profiles.{max_width}
 use Rattle.paris_board.specs.BoardFields.{declared_set, declared_field, board_of, IsSound}
 use Rattle.paris_board.specs.declared.declarations.FieldDeclaration.{FieldDeclaration}
 use Rattle.paris_board.specs.declared.declarations.Board.TheInside.{Inside}
@@ -58,23 +59,23 @@ pub record MayAddField (b : Board) (name : List ℕ) (width : ℕ) : Type 0 wher
   pub absent : field_named b name ≡ None
   pub few : length b.fields < 64
   pub positive : 0 < width
-  pub small : width ≤ 64
+  pub small : width ≤ max_width b.profile
 
 pub may_add_field : (b : Board) (name set : List ℕ) (width : ℕ) → field_fault b name set width ≡ None → MayAddField b name width
 may_add_field b name set width h =
-    let tests = field_tests (is_none (set_named b set)) (is_taken b name) (nat_le 64 (length b.fields)) ((width == 0) || nat_lt 64 width) h in
-    let widths = or_parts (width == 0) (nat_lt 64 width) tests.2 in
+    let tests = field_tests (is_none (set_named b set)) (is_taken b name) (nat_le 64 (length b.fields)) ((width == 0) || nat_lt (max_width b.profile) width) h in
+    let widths = or_parts (width == 0) (nat_lt (max_width b.profile) width) tests.2 in
     let positive : 0 < width = (let nonzero = widths.0 in grind (arith, nat_tests)) in
-    record { absent = (free_of b name tests.0).1; few = leb-false 64 (length b.fields) tests.1; positive = positive; small = (let h : nat_lt 64 width ≡ false = widths.1 in grind (arith, nat_tests)) }
+    record { absent = (free_of b name tests.0).1; few = leb-false 64 (length b.fields) tests.1; positive = positive; small = (let h : nat_lt (max_width b.profile) width ≡ false = widths.1 in grind (arith, nat_tests)) }
 
 -- the fields stay sound as sets are declared, and with one more that is sound
-AreFields-weaker : (m n : ℕ) (fields : List DeclaredField) → m ≤ n → AreFields m fields → AreFields n fields
-AreFields-weaker m n [] le are = tt
-AreFields-weaker m n (f ∷ fs) le are = (omega (arith, are.0), are.1, are.2, AreFields-weaker m n fs le are.3)
+AreFields-weaker : (widest m n : ℕ) (fields : List DeclaredField) → m ≤ n → AreFields widest m fields → AreFields widest n fields
+AreFields-weaker widest m n [] le are = tt
+AreFields-weaker widest m n (f ∷ fs) le are = (omega (arith, are.0), are.1, are.2, AreFields-weaker widest m n fs le are.3)
 
-AreFields-push : (sets : ℕ) (fields : List DeclaredField) (f : DeclaredField) → AreFields sets fields → f.set_no < sets → 0 < f.width → f.width ≤ 64 → AreFields sets (fields ++ f ∷ [])
-AreFields-push sets [] f are declared positive small = (declared, positive, small, tt)
-AreFields-push sets (g ∷ gs) f are declared positive small = (are.0, are.1, are.2, AreFields-push sets gs f are.3 declared positive small)
+AreFields-push : (widest sets : ℕ) (fields : List DeclaredField) (f : DeclaredField) → AreFields widest sets fields → f.set_no < sets → 0 < f.width → f.width ≤ widest → AreFields widest sets (fields ++ f ∷ [])
+AreFields-push widest sets [] f are declared positive small = (declared, positive, small, tt)
+AreFields-push widest sets (g ∷ gs) f are declared positive small = (are.0, are.1, are.2, AreFields-push widest sets gs f are.3 declared positive small)
 
 -- the map with a new name holds it last
 sets_more : (b : Inside) (name axes : List ℕ) (m : Sets) → set_named (board_of b) name ≡ None → m.entries ≡ insert_entry (ghosts).eq b.sets.entries name axes → m.entries ≡ b.sets.entries ++ (name, axes) ∷ []
@@ -87,8 +88,8 @@ fields_more b name v m absent grown =
 
 -- the board with one more set
 pub record GrownBySet (b : Inside) (name axes : List ℕ) (m : Sets) : Type 0 where
-  pub sound : IsSound (record { sets = m; fields = b.fields })
-  pub shown : board_of (record { sets = m; fields = b.fields }) ≡ with_set (board_of b) name axes
+  pub sound : IsSound (record { profile = b.profile; sets = m; fields = b.fields })
+  pub shown : board_of (record { profile = b.profile; sets = m; fields = b.fields }) ≡ with_set (board_of b) name axes
 
 pub grown_by_set : (b : Inside) (name axes : List ℕ) (m : Sets) → IsSound b → set_fault (board_of b) name ≡ None → m.entries ≡ insert_entry (ghosts).eq b.sets.entries name axes → GrownBySet b name axes m
 grown_by_set b name axes m sound free grown =
@@ -100,15 +101,15 @@ grown_by_set b name axes m sound free grown =
     let after : length (map declared_set m.entries) ≡ length m.entries = length-map m.entries declared_set in
     let few : length (board_of b).sets < 8 = may.few in
     let le : length (board_of b).sets ≤ length (map declared_set m.entries) = omega arith in
-    let P : List DeclaredSet → Board = λ sets. record { sets = sets; fields = (board_of b).fields } in
+    let P : List DeclaredSet → Board = λ sets. record { profile = b.profile; sets = sets; fields = (board_of b).fields } in
     record {
-      sound = record { few_sets = omega arith; few_fields = sound.few_fields; board = AreFields-weaker (length (board_of b).sets) (length (map declared_set m.entries)) (board_of b).fields le sound.board };
+      sound = record { few_sets = omega arith; few_fields = sound.few_fields; board = AreFields-weaker (max_width b.profile) (length (board_of b).sets) (length (map declared_set m.entries)) (board_of b).fields le sound.board };
       shown = ap P listed;
     }
 
 pub record GrownByField (b : Inside) (name : List ℕ) (v : FieldDeclaration) (m : Fields) : Type 0 where
-  pub sound : IsSound (record { sets = b.sets; fields = m })
-  pub shown : board_of (record { sets = b.sets; fields = m }) ≡ with_field (board_of b) name v.set v.width
+  pub sound : IsSound (record { profile = b.profile; sets = b.sets; fields = m })
+  pub shown : board_of (record { profile = b.profile; sets = b.sets; fields = m }) ≡ with_field (board_of b) name v.set v.width
 
 pub grown_by_field : (b : Inside) (name set : List ℕ) (v : FieldDeclaration) (m : Fields) → IsSound b → field_fault (board_of b) name set v.width ≡ None → v.set < length (board_of b).sets
     → m.entries ≡ insert_entry (ghosts).eq b.fields.entries name v → GrownByField b name v m
@@ -119,13 +120,13 @@ grown_by_field b name set v m sound free declared grown =
     let counted : length m.entries ≡ length b.fields.entries + 1 = ap length more ∙ length-append b.fields.entries ((name, v) ∷ []) in
     let before : length (board_of b).fields ≡ length b.fields.entries = length-map b.fields.entries declared_field in
     let few : length (board_of b).fields < 64 = may.few in
-    let P : List DeclaredField → Board = λ fields. record { sets = (board_of b).sets; fields = fields } in
-    let Q : List DeclaredField → Type 0 = AreFields (length (board_of b).sets) in
+    let P : List DeclaredField → Board = λ fields. record { profile = b.profile; sets = (board_of b).sets; fields = fields } in
+    let Q : List DeclaredField → Type 0 = AreFields (max_width b.profile) (length (board_of b).sets) in
     record {
       sound = record {
         few_sets = sound.few_sets;
         few_fields = omega arith;
-        board = subst Q (sym listed) (AreFields-push (length (board_of b).sets) (board_of b).fields (declared_field (name, v)) sound.board declared may.positive may.small);
+        board = subst Q (sym listed) (AreFields-push (max_width b.profile) (length (board_of b).sets) (board_of b).fields (declared_field (name, v)) sound.board declared may.positive may.small);
       };
       shown = ap P listed;
     }

@@ -8,7 +8,9 @@ use Rattle.paris_names.specs.declared.keys.Key.{Key}
 use Rattle.paris_names.specs.declared.keys.Key.TheVariants.{Field, Flag}
 use Rattle.paris_names.specs.declared.names.KeyName.{KeyName}
 use Rattle.paris_geometry.specs.Geometry.{processor_count}
-use Rattle.paris_names.specs.declared.limits.TheConstants.{MAX_FIELDS, MAX_SETS, MAX_WIDTH}
+use Rattle.paris_names.specs.declared.profiles.Profile.{Profile}
+use Rattle.paris_names.specs.Profiles.{max_width}
+use Rattle.paris_names.specs.declared.limits.TheConstants.{MAX_FIELDS, MAX_SETS}
 
 pub record DeclaredSet : Type 0 where
   pub name : List ℕ
@@ -19,12 +21,14 @@ pub record DeclaredField : Type 0 where
   pub set_no : ℕ
   pub width : ℕ
 
+-- the profile says how wide a field may be
 pub record Board : Type 0 where
+  pub profile : Profile
   pub sets : List DeclaredSet
   pub fields : List DeclaredField
 
-abbrev pub empty_board : Board
-empty_board = record { sets = []; fields = [] }
+abbrev pub empty_board : Profile → Board
+empty_board profile = record { profile = profile; sets = []; fields = [] }
 
 -- the set of this name, and the field of this name
 abbrev pub set_named : Board → List ℕ → Option ℕ
@@ -81,7 +85,7 @@ field_fault b name set width =
     if is_none (set_named b set) then Some NoSet
     else if is_taken b name then Some NameTaken
     else if nat_le MAX_FIELDS (length b.fields) then Some FieldsFull
-    else if (width == 0) || nat_lt MAX_WIDTH width then Some BadWidth
+    else if (width == 0) || nat_lt (max_width b.profile) width then Some BadWidth
     else None
 
 abbrev pub with_set : Board → List ℕ → List ℕ → Board
@@ -90,10 +94,10 @@ with_set b name axes = record b { sets = b.sets ++ record { name = name; axes = 
 abbrev pub with_field : Board → List ℕ → ℕ → ℕ → Board
 with_field b name set_no width = record b { fields = b.fields ++ record { name = name; set_no = set_no; width = width } ∷ [] }
 
--- each field is of a declared set, and 1 to 64 bits wide
-abbrev pub AreFields : ℕ → List DeclaredField → Type 0
-AreFields sets [] = Unit {0}
-AreFields sets (f ∷ fs) = (f.set_no < sets) × (0 < f.width) × (f.width ≤ MAX_WIDTH) × AreFields sets fs
+-- each field is of a declared set, and from 1 bit to the widest wide
+abbrev pub AreFields : ℕ → ℕ → List DeclaredField → Type 0
+AreFields widest sets [] = Unit {0}
+AreFields widest sets (f ∷ fs) = (f.set_no < sets) × (0 < f.width) × (f.width ≤ widest) × AreFields widest sets fs
 
 abbrev pub IsBoard : Board → Type 0
-IsBoard b = AreFields (length b.sets) b.fields
+IsBoard b = AreFields (max_width b.profile) (length b.sets) b.fields

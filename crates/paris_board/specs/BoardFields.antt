@@ -12,7 +12,7 @@ abbrev pub declared_field : List ℕ × FieldDeclaration → DeclaredField
 declared_field e = record { name = e.0; set_no = e.1.set; width = e.1.width }
 
 abbrev pub board_of : Inside → Board
-board_of b = record { sets = map declared_set b.sets.entries; fields = map declared_field b.fields.entries }
+board_of b = record { profile = b.profile; sets = map declared_set b.sets.entries; fields = map declared_field b.fields.entries }
 
 -- the limits hold, and each field is of a declared set
 pub record IsSound (b : Inside) : Type 0 where

@@ -4,12 +4,14 @@ ghost use Rattle.std.specs.Prelude.{◌≡◌, ℕ, ◌<◌, ◌≤◌, length, 
 ghost use Rattle.paris_names.specs.declared.faults.Fault.TheVariants as Fault;
 ghost use Rattle.paris_names.specs.Faults.{IsFaultOf};
 ghost use Rattle.paris_board.specs.Board.{empty_board, set_named, field_named, key_named, is_taken, axes_of, is_declared, declaration_at, set_of_key, width_of, set_fault, field_fault, with_set, with_field, IsBoard};
+ghost use Rattle.paris_names.specs.Profiles.{max_width};
+ghost use Rattle.paris_names.specs.declared.profiles.Profile.TheVariants.{One};
 ghost use Rattle.paris_names.specs.declared.limits.TheConstants.{MAX_FIELDS, MAX_SETS, MAX_WIDTH};
 
 use indexmap::IndexMap;
 use paris_geometry::Geometry;
-use paris_names::limits::{MAX_FIELDS, MAX_SETS, MAX_WIDTH};
-use paris_names::{Fault, FieldNo, Key, KeyName, Name, SetNo};
+use paris_names::limits::{MAX_FIELDS, MAX_SETS};
+use paris_names::{Fault, FieldNo, Key, KeyName, Name, Profile, SetNo};
 use std::alloc::{AllocError, Global};
 use std::marker::Model;
 
@@ -20,9 +22,11 @@ struct FieldDeclaration {
     width: u64,
 }
 
-/// The declared sets and fields. A clause sees both lists, each in the order of its declaration.
+/// The declared sets and fields, and the profile, which says how wide a field may be. A clause sees the profile and both lists, each in
+/// the order of its declaration.
 #[derive(Drop)]
 pub struct Board {
+    profile: Profile,
     sets: IndexMap<Name, Geometry>,
     fields: IndexMap<Name, FieldDeclaration>,
 }
@@ -40,11 +44,19 @@ impl Model for Board {
 }
 
 impl Board {
-    /// A board with no sets and no fields, which grows by this allocator.
+    /// A board of profile 1 with no sets and no fields, which grows by this allocator.
     pub fn new(alloc: Global) -> Board
-        ensures { result ≡ empty_board }
+        ensures { result ≡ empty_board One }
+    {
+        Board::with_profile(alloc, Profile::One)
+    }
+
+    /// A board of a profile with no sets and no fields, which grows by this allocator.
+    pub fn with_profile(alloc: Global, profile: Profile) -> Board
+        ensures { result ≡ empty_board profile }
     {
         Board {
+            profile,
             sets: IndexMap::new(alloc),
             fields: IndexMap::new(alloc),
         }
@@ -56,7 +68,18 @@ impl Board {
     {
         let sets = self.sets.clone()?;
         let fields = self.fields.clone()?;
-        Ok(Board { sets, fields })
+        Ok(Board {
+            profile: self.profile,
+            sets,
+            fields,
+        })
+    }
+
+    /// The profile.
+    pub fn profile(&self) -> Profile
+        ensures { result ≡ self.now.profile }
+    {
+        self.profile
     }
 
     fn set_named(&self, name: Name) -> Option<SetNo>
@@ -112,7 +135,7 @@ impl Board {
             Some(Fault::NameTaken)
         } else if self.fields.len() >= MAX_FIELDS {
             Some(Fault::FieldsFull)
-        } else if width == 0 || width > MAX_WIDTH {
+        } else if width == 0 || width > self.profile.max_width() {
             Some(Fault::BadWidth)
         } else {
             None
@@ -209,7 +232,7 @@ impl Board {
         ensures declared { result.set < length self.now.sets }
         ensures width { result.width ≡ (declaration_at self.now field).width }
         ensures positive { 0 < result.width }
-        ensures small { result.width ≤ MAX_WIDTH }
+        ensures small { result.width ≤ max_width self.now.profile }
     {
         self.fields[field.number() as usize]
     }
@@ -219,6 +242,7 @@ impl Board {
         requires { is_declared self.now key ≡ true }
         ensures value { result ≡ width_of self.now key }
         ensures positive { 0 < result }
+        ensures within { result ≤ max_width self.now.profile }
         ensures small { result ≤ MAX_WIDTH }
     {
         match key {

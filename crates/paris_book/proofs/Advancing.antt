@@ -163,7 +163,7 @@ then_runs n (suc k) s t u a (v, before, run) =
 
 -- ---- a pass leaves plans, and what is settled
 
-more_cut : (w : World) (h : Key → Bool) (rs : List Row) → More rs (cut w h rs)
+pub more_cut : (w : World) (h : Key → Bool) (rs : List Row) → More rs (cut w h rs)
 more_cut w h [] = tt
 more_cut w h (r ∷ rs) = ((plan_stays w h r, stays_settled w h r), more_cut (one r.plan w) (firm_after h (cut_row w h r)) rs)
 

@@ -14,6 +14,7 @@ use Rattle.paris_names.specs.Keys.{has_key, key_eq}
 use Rattle.paris_names.specs.declared.limits.TheConstants.{MAX_EDITS}
 use Rattle.paris_names.proofs.KeyLists.{key_eq-same}
 use Rattle.paris_geometry.specs.Geometry.{processor_count}
+use Rattle.paris_names.specs.Profiles.{max_width}
 use Rattle.paris_board.specs.Board.{Board, DeclaredField, DeclaredSet, is_declared, width_of, count_of, axes_of, declaration_at, with_set, with_field, AreFields, IsBoard}
 use Rattle.paris_model.specs.Instructions.{Plan, reads, writes, key_width}
 use Rattle.paris_model.specs.Recipe.{same}
@@ -167,10 +168,10 @@ less_than m n e = grind (arith, nat_tests)
 lt_next : (s n : ℕ) → (s ≡ n → ⊥) → nat_lt s (n + 1) ≡ nat_lt s n
 lt_next s n ne = grind (arith, nat_tests)
 
-known_set : (sets : ℕ) (fs : List DeclaredField) (f : ℕ) (x : DeclaredField) → AreFields sets fs → f < length fs → (get_or fs f x).set_no < sets
-known_set sets [] f x h a = absurd (omega arith)
-known_set sets (y ∷ ys) zero x h a = h.0
-known_set sets (y ∷ ys) (suc f) x h a = known_set sets ys f x h.3 (omega arith)
+known_set : (widest sets : ℕ) (fs : List DeclaredField) (f : ℕ) (x : DeclaredField) → AreFields widest sets fs → f < length fs → (get_or fs f x).set_no < sets
+known_set widest sets [] f x h a = absurd (omega arith)
+known_set widest sets (y ∷ ys) zero x h a = h.0
+known_set widest sets (y ∷ ys) (suc f) x h a = known_set widest sets ys f x h.3 (omega arith)
 
 -- ---- a new set
 
@@ -223,7 +224,7 @@ module _ (b : Board) (n m : ℕ) (inputs : Inputs) (name axes : List ℕ) where
           ap (option_map (λ y. flag_input y flag)) (get-push_other inputs.flags (declared_flags (n + 1) (processor_count axes)) s (apart_of s (length inputs.flags) t))
 
   set_shape_old : (k : Key) → IsBoard b → length inputs.flags ≡ length b.sets → is_new_flag (length inputs.flags) k ≡ false → shape_on (with_set b name axes) k ≡ shape_on b k
-  set_shape_old (Field f) board many t = shape_same b (with_set b name axes) (Field f) refl (λ e. (refl, ap processor_count (ap (λ (x : DeclaredSet). x.axes) (or-push_before b.sets (record { name = name; axes = axes }) (record { name = []; axes = [] }) (declaration_at b f).set_no (known_set (length b.sets) b.fields f (record { name = []; set_no = 0; width = 0 }) board (less_than f (length b.fields) e))))))
+  set_shape_old (Field f) board many t = shape_same b (with_set b name axes) (Field f) refl (λ e. (refl, ap processor_count (ap (λ (x : DeclaredSet). x.axes) (or-push_before b.sets (record { name = name; axes = axes }) (record { name = []; axes = [] }) (declaration_at b f).set_no (known_set (max_width b.profile) (length b.sets) b.fields f (record { name = []; set_no = 0; width = 0 }) board (less_than f (length b.fields) e))))))
   set_shape_old (Flag s flag) board many t =
       let same_length : length (with_set b name axes).sets ≡ length b.sets + 1 = length-push b.sets (record { name = name; axes = axes }) in
       let declared : nat_lt s (length (with_set b name axes).sets) ≡ nat_lt s (length b.sets) = ap (nat_lt s) same_length ∙ lt_next s (length b.sets) (λ e. apart_of s (length inputs.flags) t (e ∙ sym many)) in

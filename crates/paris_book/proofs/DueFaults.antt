@@ -28,7 +28,8 @@ use Rattle.paris_events.specs.declared.edits.Edit.{Edit}
 use Rattle.paris_events.specs.declared.edits.Edit.TheVariants.{AddSet, AddField, Input as SetInput, Insert, Delete, Replace}
 use Rattle.paris_machine.specs.State.{State, Row, find_row, place_of_spot}
 use Rattle.paris_machine.specs.Edits.{fault_of_values, input_fault, insert_fault, delete_fault, replace_fault, content_fault, edit_fault}
-use Rattle.paris_names.specs.declared.limits.TheConstants.{MAX_EDITS, MAX_ROWS, MAX_SETS, MAX_FIELDS, MAX_WIDTH}
+use Rattle.paris_names.specs.declared.limits.TheConstants.{MAX_EDITS, MAX_ROWS, MAX_SETS, MAX_FIELDS}
+use Rattle.paris_names.specs.Profiles.{max_width}
 
 -- whether a fault has other reasons than what an edit says
 abbrev is_other : Fault → Bool
@@ -151,7 +152,7 @@ set_wanted b name axes = by_tests (is_taken b name) (nat_le MAX_SETS (length b.s
     by_tests false false false = refl
 
 field_wanted : (b : Board) (name set : List ℕ) (width : ℕ) → Wanted (field_fault b name set width)
-field_wanted b name set width = by_tests (is_none (set_named b set)) (is_taken b name) (nat_le MAX_FIELDS (length b.fields)) ((width == 0) || nat_lt MAX_WIDTH width)
+field_wanted b name set width = by_tests (is_none (set_named b set)) (is_taken b name) (nat_le MAX_FIELDS (length b.fields)) ((width == 0) || nat_lt (max_width b.profile) width)
   where
     by_tests : (t u v w : Bool) → Wanted (cond t (Some NoSet) (cond u (Some NameTaken) (cond v (Some FieldsFull) (cond w (Some BadWidth) None))))
     by_tests true u v w = refl

@@ -21,6 +21,7 @@ pub mod Origins
 pub mod OwnOrders
 pub mod Pending
 pub mod Playing
+pub mod ReadyRuns
 pub mod Recalling
 pub mod Recipes
 pub mod RefusalHere
@@ -40,5 +41,7 @@ pub mod Swept
 pub mod Takes
 pub mod Targets
 pub mod Turns
+pub mod UnsettledIds
 pub mod Unsettling
 pub mod Values
+pub mod Wanting

@@ -10,7 +10,7 @@ use Rattle.paris_model.specs.declared.actions.Refusal.{Refusal}
 use Rattle.paris_model.specs.Frame.{World}
 use Rattle.paris_model.specs.Instructions.{Plan, reads, refusal, one, value_at, outcome, outcome_in}
 use Rattle.paris_field.specs.Fields.{FieldNumbers}
-use Rattle.paris_exec.specs.Tasks.{Task, numbers_of, told}
+use Rattle.paris_exec.specs.Tasks.{Task, numbers_of, result_told}
 use Rattle.paris_exec.specs.declared.orders.Outcome.TheVariants.{Values, Refused}
 use Rattle.paris_events.specs.Rows.{is_settled}
 use Rattle.paris_machine.specs.State.{Inputs, State, start_world}
@@ -23,19 +23,19 @@ use Rattle.paris_book.proofs.Inserts.{state_of}
 use Rattle.paris_book.proofs.RefusalHere.{refusal_here}
 
 -- the cause that an outcome tells
-pub refused_told : (p : Plan) (inputs : List (List ℕ)) (cause : Refusal) → Refused cause ≡ told p (outcome p inputs) → refusal p (value_at (reads p) inputs) ≡ Some cause
+pub refused_told : (p : Plan) (inputs : List (List ℕ)) (cause : Refusal) → Refused cause ≡ result_told p (outcome p inputs) → refusal p (value_at (reads p) inputs) ≡ Some cause
 unfolding outcome
 refused_told p inputs cause h = by_refusal (refusal p (value_at (reads p) inputs)) h
   where
-    by_refusal : (o : Option Refusal) → Refused cause ≡ told p (outcome_in p (value_at (reads p) inputs) o) → o ≡ Some cause
+    by_refusal : (o : Option Refusal) → Refused cause ≡ result_told p (outcome_in p (value_at (reads p) inputs) o) → o ≡ Some cause
     by_refusal None x = absurd (cc)
     by_refusal (Some c) x = let same : cause ≡ c = cc in ap Some (sym same)
 
-pub values_told : (p : Plan) (inputs : List (List ℕ)) (values : List FieldNumbers) → Values values ≡ told p (outcome p inputs) → refusal p (value_at (reads p) inputs) ≡ None
+pub values_told : (p : Plan) (inputs : List (List ℕ)) (values : List FieldNumbers) → Values values ≡ result_told p (outcome p inputs) → refusal p (value_at (reads p) inputs) ≡ None
 unfolding outcome
 values_told p inputs values h = by_refusal (refusal p (value_at (reads p) inputs)) h
   where
-    by_refusal : (o : Option Refusal) → Values values ≡ told p (outcome_in p (value_at (reads p) inputs) o) → o ≡ None
+    by_refusal : (o : Option Refusal) → Values values ≡ result_told p (outcome_in p (value_at (reads p) inputs) o) → o ≡ None
     by_refusal None x = refl
     by_refusal (Some c) x = absurd (cc)
 

@@ -7,7 +7,7 @@ use Rattle.paris_names.specs.declared.limits.TheConstants.{MAX_ROWS}
 use Rattle.std.proofs.lemmas.List.Sums.{sum_by-cons, sum_by-set, sum_by-insert, sum_by-remove, count_by-le-length}
 use Rattle.std.proofs.lemmas.Option.{slice_get_within, get_or_from_slice_get}
 use Rattle.paris_events.specs.declared.rows.Status.{Status}
-use Rattle.paris_book.specs.Statuses.{Holds, IsSpanned, is_unsettled, first_unsettled}
+use Rattle.paris_book.specs.Statuses.{IsInSpan, IsSpanned, is_unsettled, first_unsettled}
 use Rattle.paris_book.specs.declared.statuses.Span.{Span}
 
 module _ {X : Type 0} where
@@ -94,8 +94,8 @@ fewer_than_rows l old mid i x w within less at =
 
 -- after a status is written
 pub spanned_set : (l : List Status) (i : ℕ) (x y : Status) (old mid new : Span) → IsSpanned l old → slice_get l i ≡ Some x
-    → mid.unsettled + part x ≡ old.unsettled → ((j : ℕ) → (j ≡ i → ⊥) → Holds old j → Holds mid j) → mid.end ≤ old.end
-    → new.unsettled ≡ mid.unsettled + part y → (is_unsettled y ≡ true → Holds new i) → ((j : ℕ) → 0 < mid.unsettled → Holds mid j → Holds new j) → ((n : ℕ) → mid.end ≤ n → i < n → new.end ≤ n)
+    → mid.unsettled + part x ≡ old.unsettled → ((j : ℕ) → (j ≡ i → ⊥) → IsInSpan old j → IsInSpan mid j) → mid.end ≤ old.end
+    → new.unsettled ≡ mid.unsettled + part y → (is_unsettled y ≡ true → IsInSpan new i) → ((j : ℕ) → 0 < mid.unsettled → IsInSpan mid j → IsInSpan new j) → ((n : ℕ) → mid.end ≤ n → i < n → new.end ≤ n)
     → IsSpanned (set l i y) new
 spanned_set l i x y old mid new w at less kept ends more there others end =
     let long = length-set l i y in
@@ -109,7 +109,7 @@ spanned_set l i x y old mid new w at less kept ends more there others end =
       few = omega (arith, long, few);
       within = omega (arith, last, long);
       count = omega (arith, count, change, less, more);
-      held = at_set (λ j s. is_unsettled s ≡ true → Holds new j) l i y
+      held = at_set (λ j s. is_unsettled s ≡ true → IsInSpan new j) l i y
           (λ j s apart seen unsettled.
           let both = counted_both is_unsettled l i j x s apart at seen unsettled in
           others j (omega (arith, both, count, less)) (kept j apart (w.held j s seen unsettled)))
@@ -118,8 +118,8 @@ spanned_set l i x y old mid new w at less kept ends more there others end =
 
 -- after one is put in
 pub spanned_insert : (l : List Status) (i : ℕ) (y : Status) (old mid new : Span) → IsSpanned l old → i ≤ length l → length l < MAX_ROWS
-    → mid.unsettled ≡ old.unsettled → ((j : ℕ) → j < i → Holds old j → Holds mid j) → ((j : ℕ) → i ≤ j → Holds old j → Holds mid (j + 1)) → mid.end ≤ old.end + 1
-    → new.unsettled ≡ mid.unsettled + part y → (is_unsettled y ≡ true → Holds new i) → ((j : ℕ) → 0 < mid.unsettled → Holds mid j → Holds new j) → ((n : ℕ) → mid.end ≤ n → i < n → new.end ≤ n)
+    → mid.unsettled ≡ old.unsettled → ((j : ℕ) → j < i → IsInSpan old j → IsInSpan mid j) → ((j : ℕ) → i ≤ j → IsInSpan old j → IsInSpan mid (j + 1)) → mid.end ≤ old.end + 1
+    → new.unsettled ≡ mid.unsettled + part y → (is_unsettled y ≡ true → IsInSpan new i) → ((j : ℕ) → 0 < mid.unsettled → IsInSpan mid j → IsInSpan new j) → ((n : ℕ) → mid.end ≤ n → i < n → new.end ≤ n)
     → IsSpanned (insert l i y) new
 spanned_insert l i y old mid new w place few same before behind ends more there others end =
     let long = length-insert l i y place in
@@ -133,16 +133,16 @@ spanned_insert l i y old mid new w place few same before behind ends more there 
       few = omega (arith, long, few);
       within = omega (arith, last, long);
       count = omega (arith, count, change, same, more);
-      held = at_insert (λ j s. is_unsettled s ≡ true → Holds new j) l i y place
+      held = at_insert (λ j s. is_unsettled s ≡ true → IsInSpan new j) l i y place
           (λ j s first seen unsettled. others j (some j s seen unsettled) (before j first (w.held j s seen unsettled)))
           there
-          (λ j s past seen unsettled. others (suc j) (some j s seen unsettled) (subst (Holds mid) (add-one j) (behind j past (w.held j s seen unsettled))));
+          (λ j s past seen unsettled. others (suc j) (some j s seen unsettled) (subst (IsInSpan mid) (add-one j) (behind j past (w.held j s seen unsettled))));
     }
 
 -- after one is taken out
 pub spanned_remove : (l : List Status) (i : ℕ) (x : Status) (old mid new : Span) → IsSpanned l old → slice_get l i ≡ Some x
-    → mid.unsettled + part x ≡ old.unsettled → ((j : ℕ) → (j ≡ i → ⊥) → Holds old j → Holds mid j) → mid.end ≤ old.end
-    → new.unsettled ≡ mid.unsettled → ((j : ℕ) → j < i → Holds mid j → Holds new j) → ((j : ℕ) → i ≤ j → Holds mid (j + 1) → Holds new j) → ((n : ℕ) → mid.end ≤ n + 1 → i ≤ n → new.end ≤ n)
+    → mid.unsettled + part x ≡ old.unsettled → ((j : ℕ) → (j ≡ i → ⊥) → IsInSpan old j → IsInSpan mid j) → mid.end ≤ old.end
+    → new.unsettled ≡ mid.unsettled → ((j : ℕ) → j < i → IsInSpan mid j → IsInSpan new j) → ((j : ℕ) → i ≤ j → IsInSpan mid (j + 1) → IsInSpan new j) → ((n : ℕ) → mid.end ≤ n + 1 → i ≤ n → new.end ≤ n)
     → IsSpanned (remove l i) new
 spanned_remove l i x old mid new w at less kept ends same before behind end =
     let here = slice_get_within l i x at in
@@ -156,9 +156,9 @@ spanned_remove l i x old mid new w at less kept ends same before behind end =
       few = omega (arith, long, few);
       within = last;
       count = omega (arith, count, change, less, same);
-      held = at_remove (λ j s. is_unsettled s ≡ true → Holds new j) l i
+      held = at_remove (λ j s. is_unsettled s ≡ true → IsInSpan new j) l i
           (λ j s first seen unsettled. before j first (kept j (λ is. absurd (omega (arith, first, is))) (w.held j s seen unsettled)))
-          (λ j s past seen unsettled. behind j past (subst (Holds mid) (sym (add-one j)) (kept (suc j) (λ is. absurd (omega (arith, past, is))) (w.held (suc j) s seen unsettled))));
+          (λ j s past seen unsettled. behind j past (subst (IsInSpan mid) (sym (add-one j)) (kept (suc j) (λ is. absurd (omega (arith, past, is))) (w.held (suc j) s seen unsettled))));
     }
 
 -- where none is counted none is found

@@ -2,16 +2,23 @@
 use Rattle.std.proofs.Common.{◌≡◌, ℕ, ◌<◌, Bool, true, false, cond, Option, Some, None, refl, sym, ap, ◌∙◌, length, slice_get}
 use Rattle.std.proofs.Math.Path.{ap₂}
 use Rattle.std.specs.Prelude.{◌&&◌, ◌||◌, not}
+use Rattle.std.specs.Cmp.Lexicographic.{pointwise}
+use Rattle.paris_instr.specs.PlanEq.{plan_eq}
+use Rattle.paris_field.specs.Fields.{field_eq}
 use Rattle.paris_exec.specs.Tasks.{Task}
 use Rattle.paris_events.specs.Rows.{is_settled}
-use Rattle.paris_machine.specs.State.{Row, State}
-use Rattle.paris_machine.specs.Orders.{order_of}
+use Rattle.paris_machine.specs.State.{Row, State, Work}
+use Rattle.paris_machine.specs.Orders.{inputs_now, order_of}
 use Rattle.paris_machine.specs.CutOff.{is_cut, is_last_present, cut_found, cut_at}
 use Rattle.paris_machine.specs.Settling.{settled_row}
-use Rattle.paris_book.specs.Steps.{is_free, order_on, own_order, run_on, run_at, settled_on, cuts_on, cuts_at, is_left, left_on, left_at, is_run, runs_on, runs_at, turned_on, turned_at}
+use Rattle.paris_book.specs.Steps.{is_free, order_on, own_order, run_on, run_at, settled_on, cuts_on, cuts_at, is_left, left_on, left_at, is_run, runs_on, runs_at, turn_order, turned_on, turned_at}
 use Rattle.paris_book.specs.Rounds.{HoldsTask}
 use Rattle.paris_book.proofs.Finds.{entry_at}
 use Rattle.paris_book.proofs.Advancing.{put_in, left_differs}
+
+none_of : (b : Bool) → (b && false) ≡ false
+none_of true = refl
+none_of false = refl
 
 module _ (s : State) (place : ℕ) where
   -- a place where nothing is cut off
@@ -32,6 +39,30 @@ module _ (s : State) (place : ℕ) where
           let cut : is_cut s place r ≡ false = ap (λ b. not b && is_last_present s place r r.last) t in
           let run : is_run s place r ≡ false = ap (λ b. not (b || is_cut s place r) && is_free s place r) t in
           (sym run, sym (ap₂ (λ b c. cond b (run_on s place (Some r)) (cond c (put_in s place (settled_row r)) s)) run cut))
+
+  -- isn't cut off
+  pub settled_uncut : settled_on (slice_get s.rows place) ≡ true → cuts_at s place ≡ false
+  settled_uncut h = by_row (slice_get s.rows place) h
+    where
+      by_row : (o : Option Row) → settled_on o ≡ true → cuts_on s place o ≡ false
+      by_row None t = refl
+      by_row (Some r) t = ap (λ b. not b && is_last_present s place r r.last) t
+
+  -- nor is one that gives no order
+  pub waiting_uncut : own_order s place ≡ None → cuts_at s place ≡ false
+  waiting_uncut h = by_row (slice_get s.rows place) h
+    where
+      by_free : (t : Task) (b : Bool) → cond b (Some t) None ≡ None → b ≡ false
+      by_free t true x = absurd (cc)
+      by_free t false x = refl
+
+      by_last : (r : Row) (o : Option Work) → is_free s place r ≡ false → is_last_present s place r o ≡ false
+      by_last r None f = refl
+      by_last r (Some w) f = ap (λ b. plan_eq r.plan w.plan && (b && pointwise field_eq (inputs_now s place r.plan) w.inputs)) f ∙ none_of (plan_eq r.plan w.plan)
+
+      by_row : (o : Option Row) → order_on s place o ≡ None → cuts_on s place o ≡ false
+      by_row None e = refl
+      by_row (Some r) e = ap (λ b. not (is_settled r.status) && b) (by_last r r.last (by_free (order_of s (place, r)) (is_free s place r) e)) ∙ none_of (not (is_settled r.status))
 
   -- a row that is cut off
   pub turn_cut : cuts_at s place ≡ true → (false ≡ runs_at s place) × (cut_at s place ≡ turned_at s place)
@@ -63,13 +94,9 @@ module _ (s : State) (place : ℕ) where
         by_row None e u c = (refl, refl)
         by_row (Some r) e u c =
             let free : is_free s place r ≡ false = by_free (is_free s place r) e in
-            let run : is_run s place r ≡ false = ap (λ b. is_left s place r && b) free ∙ and_false (is_left s place r) in
+            let run : is_run s place r ≡ false = ap (λ b. is_left s place r && b) free ∙ none_of (is_left s place r) in
             (sym run, sym (ap₂ (λ a b. cond a (run_on s place (Some r)) (cond b (put_in s place (settled_row r)) s)) run c))
           where
-            and_false : (b : Bool) → (b && false) ≡ false
-            and_false true = refl
-            and_false false = refl
-
             by_free : (b : Bool) → cond b (Some (order_of s (place, r))) None ≡ None → b ≡ false
             by_free true x = absurd (cc)
             by_free false x = refl
@@ -99,6 +126,90 @@ module _ (s : State) (place : ℕ) where
       by_free : (r : Row) (b : Bool) → is_free s place r ≡ b → cond b (Some (order_of s (place, r))) None ≡ Some t → is_free s place r ≡ true
       by_free r true e x = e
       by_free r false e x = absurd (cc)
+
+  -- ---- by the order that it is run by
+
+  -- a row that isn't run has none
+  pub not_run : false ≡ runs_at s place → turn_order s place ≡ None
+  not_run h = ap (λ b. cond b (own_order s place) None) (sym h)
+
+  -- one that waits has none
+  pub order_waits : own_order s place ≡ None → turn_order s place ≡ None
+  order_waits h = ap (λ o. cond (runs_at s place) o None) h ∙ either (runs_at s place)
+    where
+      nothing : Option Task
+      nothing = None
+
+      either : (b : Bool) → cond b nothing nothing ≡ nothing
+      either true = refl
+      either false = refl
+
+  module _ (none : turn_order s place ≡ None) where
+    -- a row that has none isn't run
+    runs_none : runs_at s place ≡ false
+    runs_none = by_row (slice_get s.rows place) none
+      where
+        by_free : (r : Row) (l b : Bool) → cond (l && b) (cond b (Some (order_of s (place, r))) None) None ≡ None → (l && b) ≡ false
+        by_free r l false x = none_of l
+        by_free r false true x = refl
+        by_free r true true x = absurd (cc)
+
+        by_row : (o : Option Row) → cond (runs_on s place o) (order_on s place o) None ≡ None → runs_on s place o ≡ false
+        by_row None x = refl
+        by_row (Some r) x = by_free r (is_left s place r) (is_free s place r) x
+
+    pub turn_none : (false ≡ runs_at s place) × (cut_at s place ≡ turned_at s place)
+    turn_none = (sym runs_none, by_row (slice_get s.rows place) runs_none)
+      where
+        by_row : (o : Option Row) → runs_on s place o ≡ false → cut_found s place o ≡ turned_on s place o
+        by_row None x = refl
+        by_row (Some r) x = sym (ap (λ b. cond b (run_on s place (Some r)) (cut_found s place (Some r))) x)
+
+  module _ (t : Task) (some : turn_order s place ≡ Some t) where
+    -- a row that has one is run, by the order that it gives
+    runs_some : (runs_at s place ≡ true) × (own_order s place ≡ Some t)
+    runs_some = by_run (runs_at s place) (own_order s place) some
+      where
+        by_run : (b : Bool) (o : Option Task) → cond b o None ≡ Some t → (b ≡ true) × (o ≡ Some t)
+        by_run true o x = (refl, x)
+        by_run false o x = absurd (cc)
+
+    left_some : left_at s place ≡ true
+    left_some = by_row (slice_get s.rows place) runs_some.0
+      where
+        by_and : (a b : Bool) → (a && b) ≡ true → a ≡ true
+        by_and true b x = refl
+        by_and false b x = absurd (cc)
+
+        by_row : (o : Option Row) → runs_on s place o ≡ true → left_on s place o ≡ true
+        by_row None x = absurd (cc)
+        by_row (Some r) x = by_and (is_left s place r) (is_free s place r) x
+
+    uncut_some : cuts_at s place ≡ false
+    uncut_some = by_row (slice_get s.rows place) left_some
+      where
+        by_or : (a b : Bool) → not (a || b) ≡ true → b ≡ false
+        by_or true b x = absurd (cc)
+        by_or false true x = absurd (cc)
+        by_or false false x = refl
+
+        by_row : (o : Option Row) → left_on s place o ≡ true → cuts_on s place o ≡ false
+        by_row None x = refl
+        by_row (Some r) x = by_or (is_settled r.status) (is_cut s place r) x
+
+    -- nothing is cut off then
+    pub turn_some : (true ≡ runs_at s place) × (own_order s place ≡ Some t) × (cut_at s place ≡ s) × (cuts_at s place ≡ false)
+    turn_some = (sym runs_some.0, runs_some.1, uncut uncut_some, uncut_some)
+
+    pub turned_some : run_at s place ≡ turned_at s place
+    turned_some = by_row (slice_get s.rows place) runs_some.0
+      where
+        by_row : (o : Option Row) → runs_on s place o ≡ true → run_on s place o ≡ turned_on s place o
+        by_row None x = absurd (cc)
+        by_row (Some r) x = sym (ap (λ b. cond b (run_on s place (Some r)) (cut_found s place (Some r))) x)
+
+    pub left_there : true ≡ left_at s place
+    left_there = sym left_some
 
 -- a row that gives an order stands there
 pub task_there : (s : State) (place : ℕ) (t : Task) → own_order s place ≡ Some t → (r : Row) × (slice_get s.rows place ≡ Some r)

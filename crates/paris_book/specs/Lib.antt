@@ -4,11 +4,14 @@ pub mod Indexed
 pub mod Kept
 pub mod Laws
 pub mod Marks
+pub mod Origins
 pub mod Rounds
 pub mod Rows
 pub mod RowsInside
 pub mod SharedIndexes
 pub mod Statuses
 pub mod Steps
+pub mod Unsettled
 pub mod Verdicts
+pub mod Wanted
 pub mod Whole

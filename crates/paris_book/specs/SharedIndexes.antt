@@ -11,13 +11,13 @@ indexed_in (Own index) = index.rows
 indexed_in (Shared index) = (arc_value index).rows
 
 -- the room of one that no other book may share
-abbrev pub room_in : SharedIndex → Option Room
-room_in (Own index) = Some index.room
-room_in (Shared index) = None
+abbrev pub own_room : SharedIndex → Option Room
+own_room (Own index) = Some index.room
+own_room (Shared index) = None
 
 abbrev pub IsOwn : SharedIndex → Type 0
-IsOwn s = IsSome (room_in s)
+IsOwn s = IsSome (own_room s)
 
 -- it may be changed, and a row with this footprint fits with no more memory
 abbrev pub HasOwnRoom : SharedIndex → Footprint → Type 0
-HasOwnRoom s f = IsSomeAnd (room_in s) (λ room. HasRoom room f)
+HasOwnRoom s f = IsSomeAnd (own_room s) (λ room. HasRoom room f)

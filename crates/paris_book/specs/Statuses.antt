@@ -25,12 +25,12 @@ first_unsettled statuses from = position_from is_unsettled from (drop from statu
 abbrev pub next_unsettled : List Row → ℕ → Option ℕ
 next_unsettled rows from = position_from (λ (r : Row). is_unsettled r.status) from (drop from rows)
 
-abbrev pub Holds : Span → ℕ → Type 0
-Holds span i = (span.start ≤ i) × (i < span.end)
+abbrev pub IsInSpan : Span → ℕ → Type 0
+IsInSpan span i = (span.start ≤ i) × (i < span.end)
 
 -- the span counts the unsettled rows, and has the places of all of them
 pub record IsSpanned (statuses : List Status) (span : Span) : Type 0 where
   pub few : length statuses ≤ MAX_ROWS
   pub within : span.end ≤ length statuses
   pub count : span.unsettled ≡ count_by is_unsettled statuses
-  pub held : (i : ℕ) (s : Status) → slice_get statuses i ≡ Some s → is_unsettled s ≡ true → Holds span i
+  pub held : (i : ℕ) (s : Status) → slice_get statuses i ≡ Some s → is_unsettled s ≡ true → IsInSpan span i

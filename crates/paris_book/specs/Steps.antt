@@ -80,6 +80,10 @@ runs_on s place (Some r) = is_run s place r
 abbrev pub runs_at : State → ℕ → Bool
 runs_at s place = runs_on s place (slice_get s.rows place)
 
+-- the order by which it is run then
+abbrev pub turn_order : State → ℕ → Option Task
+turn_order s place = if runs_at s place then own_order s place else None
+
 -- the state once the row at a place had its turn: run, or settled where it is cut off
 abbrev pub turned_on : State → ℕ → Option Row → State
 turned_on s place None = s

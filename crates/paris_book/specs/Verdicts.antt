@@ -43,6 +43,14 @@ last_among inputs es place e (Some t) = present_among inputs es place e t
 abbrev pub cut_among : Inputs → List Entry → ℕ → Entry → Bool
 cut_among inputs es place e = not (is_settled e.1.status) && last_among inputs es place e e.1.done
 
+-- the same by values
+abbrev pub last_by : List FieldNumbers → Entry → Option Task → Bool
+last_by values e None = false
+last_by values e (Some t) = plan_eq e.1.plan t.plan && pointwise field_eq values t.inputs
+
+abbrev pub cut_by : List FieldNumbers → Entry → Bool
+cut_by values e = not (is_settled e.1.status) && last_by values e e.1.done
+
 abbrev pub verdict_among : Inputs → List Entry → ℕ → Entry → Task → Verdict
 verdict_among inputs es place e t =
     if e.1.edition.0 == t.edition.0

@@ -4,7 +4,7 @@ ghost use Rattle.std.specs.Prelude.{◌≡◌, ◌≤◌, Ok, Err, IsSome, IfOk,
 ghost use Rattle.paris_names.specs.Faults.{IsFaultOf};
 ghost use Rattle.paris_names.specs.declared.limits.TheConstants.{MAX_EDITS};
 ghost use Rattle.paris_events.specs.declared.edits.Edit.TheVariants as EditCase;
-ghost use Rattle.paris_machine.specs.State.{empty_state};
+ghost use Rattle.paris_machine.specs.State.{empty_state, empty_state_of};
 ghost use Rattle.paris_machine.specs.Show.{show_reply};
 ghost use Rattle.paris_machine.specs.Orders.{take_reply, after_take, after_release};
 ghost use Rattle.paris_machine.specs.CutOff.{cut_off};
@@ -12,12 +12,13 @@ ghost use Rattle.paris_machine.specs.Results.{verdict_of, after_bring};
 ghost use Rattle.paris_machine.specs.Edits.{edit_fault, edit_answer, accepted};
 ghost use Rattle.paris_machine.specs.Settling.{unsettled_rows};
 ghost use Rattle.paris_book.specs.Among.{look_shown, shared_shown};
+ghost use Rattle.paris_book.specs.Origins.{origin_reply};
 
 use crate::look::{Look, SharedLook};
 use crate::loose::Loose;
 use paris_events::{Edit, EditReply, Verdict};
 use paris_exec::{Done, Order};
-use paris_names::{Fault, KeyName, Spot};
+use paris_names::{Fault, KeyName, Profile, RowId, Spot};
 use std::alloc::{AllocError, Global};
 use std::marker::Model;
 
@@ -43,21 +44,37 @@ impl Model for Book {
 }
 
 impl Book {
-    /// A book with nothing in it, which grows by this allocator.
+    /// A book of profile 1 with nothing in it, which grows by this allocator.
     pub fn new(alloc: Global) -> Book
         ensures { result ≡ empty_state 0 }
     {
-        Book::starting_at(alloc, 0)
+        Book::with_profile(alloc, Profile::One)
     }
 
-    /// A book with nothing in it, of which that many edits count as made.
+    /// A book of a profile with nothing in it, which grows by this allocator.
+    pub fn with_profile(alloc: Global, profile: Profile) -> Book
+        ensures { result ≡ empty_state_of profile 0 }
+    {
+        Book {
+            loose: Loose::empty(alloc, profile, 0),
+        }
+    }
+
+    /// A book of profile 1 with nothing in it, of which that many edits count as made.
     pub fn starting_at(alloc: Global, count: u64) -> Book
         requires { count ≤ MAX_EDITS }
         ensures { result ≡ empty_state count }
     {
         Book {
-            loose: Loose::starting_at(alloc, count),
+            loose: Loose::empty(alloc, Profile::One, count),
         }
+    }
+
+    /// The profile, which says how wide a field may be.
+    pub fn profile(&self) -> Profile
+        ensures { result ≡ self.now.board.profile }
+    {
+        self.loose.board.profile()
     }
 
     /// Makes an edit. It is refused by `EditionsSpent` where the count of edits is spent, then by the first fault of its content, or
@@ -146,6 +163,14 @@ impl Book {
         ensures refused { IfErr result (λ fault. Err fault ≡ show_reply self.now name spot) }
     {
         self.loose.shared_look(name, spot)
+    }
+
+    /// The row whose value `show` shows, or the row that it says is pending: the last one before the place that writes the key. `None`
+    /// is the start. The errors are those of `show`. It takes no memory.
+    pub fn origin(&self, name: KeyName, spot: Spot) -> Result<Option<RowId>, Fault>
+        ensures { result ≡ origin_reply self.now name spot }
+    {
+        self.loose.origin(name, spot)
     }
 
     /// How many edits were accepted.

@@ -1,6 +1,6 @@
 //! Early cut-off: a row that would compute again what it computed last is settled with that, and nothing is executed.
 
-ghost use Rattle.std.specs.Prelude.{◌≡◌, ◌≤◌, ◌<◌, ℕ, length, slice_get, true, false, Some, None, if◌then◌else◌, IfOk, IfErr};
+ghost use Rattle.std.specs.Prelude.{◌≡◌, ◌≤◌, ◌<◌, ℕ, length, slice_get, true, false, Some, None, if◌then◌else◌, IfOk, IfErr, OnOk, OnErr};
 ghost use Rattle.paris_names.specs.Faults.{IsFaultOf};
 ghost use Rattle.paris_names.specs.declared.keys.Key.{Key as AnyKey};
 ghost use Rattle.paris_names.specs.Keys.{has_key};
@@ -9,13 +9,15 @@ ghost use Rattle.paris_depends.specs.Sweeps.{marked};
 ghost use Rattle.paris_machine.specs.State.{Row, find_row};
 ghost use Rattle.paris_machine.specs.CutOff.{IsAtRest, is_cut, cut_at, cut_off};
 ghost use Rattle.paris_machine.specs.Edits.{edit_fault, edit_answer, accepted};
-ghost use Rattle.paris_book.specs.Steps.{StaysBefore, WasSettled, found_place, cuts_at, settled_on, sweeps_at, swept_at};
+ghost use Rattle.paris_book.specs.Steps.{StaysBefore, WasSettled, found_place, cuts_at, left_at, own_order, settled_on, sweeps_at, swept_at, turn_order};
 
-use crate::looks::is_cut;
+use crate::looks::{is_cut, is_cut_by};
 use crate::loose::Loose;
 use paris_depends::{is_any_marked, is_none_marked, mark};
 use paris_events::{Edit, EditReply};
+use paris_exec::Order;
 use paris_names::{Fault, RowId, Spot};
+use std::alloc::AllocError;
 
 impl Loose {
     /// Whether there is a row at a place, and it is settled.
@@ -30,7 +32,7 @@ impl Loose {
     }
 
     /// Settles the row at a place where it is cut off, and says whether it is.
-    pub(crate) fn cut_at(&mut self, place: usize) -> bool
+    fn cut_at(&mut self, place: usize) -> bool
         ensures cut { result ≡ cuts_at self.old place }
         ensures state { self.new ≡ cut_at self.old place }
     {
@@ -42,6 +44,50 @@ impl Loose {
             self.rows.settle_again(place);
         }
         cut
+    }
+
+    /// The same where the order is there that the row would give now, and with it the values at the keys that it reads.
+    fn cut_by(&mut self, place: usize, order: &Order) -> bool
+        requires { own_order self.old place ≡ Some order.now }
+        ensures cut { result ≡ cuts_at self.old place }
+        ensures state { self.new ≡ cut_at self.old place }
+    {
+        let cut = is_cut_by(&self.rows, place, order.inputs());
+        if cut {
+            self.rows.settle_again(place);
+        }
+        cut
+    }
+
+    /// The order by which the row at a place is run at its turn. `None` where it isn't: there is no row, or it is settled, or a key that
+    /// it reads waits, or it would compute again what it computed last and is settled with that. At an error nothing has changed.
+    pub(crate) fn order_or_cut(&mut self, place: usize) -> Result<Option<Order>, AllocError>
+        ensures order { IfOk result (λ order. order ≡ turn_order self.old place) }
+        ensures state { OnOk result (self.new ≡ cut_at self.old place) }
+        ensures err { OnErr result (self.new ≡ self.old) }
+        ensures left { OnErr result (left_at self.old place ≡ true) }
+    {
+        if self.is_settled_at(place) {
+            return Ok(None);
+        }
+        let Ok(own) = self.own_order(place) else {
+            // A row that is cut off wants no order.
+            return if self.cut_at(place) {
+                Ok(None)
+            } else {
+                Err(AllocError)
+            };
+        };
+        match own {
+            None => Ok(None),
+            Some(order) => {
+                if self.cut_by(place, &order) {
+                    Ok(None)
+                } else {
+                    Ok(Some(order))
+                }
+            }
+        }
     }
 
     /// One pass over the rows in program order, which settles each that is cut off. It takes no memory.

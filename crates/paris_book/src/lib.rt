@@ -18,10 +18,12 @@ mod program_rows;
 mod refusals;
 mod rounds;
 mod rows;
+mod running;
 mod settlement;
 mod shared_index;
 mod snapshot;
 mod statuses;
+mod wanted;
 
 pub use book::Book;
 pub use look::Look;

@@ -1,8 +1,11 @@
 //! The list of rows, with their states.
 
-ghost use Rattle.std.specs.Prelude.{◌≡◌, IfOk};
+ghost use Rattle.std.specs.Prelude.{◌≡◌, map, IfOk};
 ghost use Rattle.paris_machine.specs.Lists.{list_of};
+ghost use Rattle.paris_machine.specs.Settling.{unsettled_rows};
 ghost use Rattle.paris_book.specs.Among.{listed_entry, looks_kept};
+ghost use Rattle.paris_book.specs.Entries.{machine_row};
+ghost use Rattle.paris_book.specs.Unsettled.{filled, unsettled_ids};
 
 use crate::book::Book;
 use crate::loose::Loose;
@@ -38,6 +41,21 @@ fn listed_among(alloc: Global, rows: &Rows) -> Result<Vec<RowLook>, AllocError>
     Ok(looks)
 }
 
+/// Puts the ids of the first unsettled rows into a room, as many as it has places for.
+fn put_unsettled(rows: &Rows, room: &mut [u64])
+    ensures { room.new ≡ filled room.old (unsettled_ids (map machine_row rows.now.rows)) }
+{
+    let mut from = 0;
+    for i in 0..room.len() {
+        let Some(place) = rows.next_unsettled(from) else {
+            return;
+        };
+        let (id, _) = rows.at(place);
+        room[i] = id.0;
+        from = place + 1;
+    }
+}
+
 impl Loose {
     /// The rows as they are listed.
     fn list(&self) -> Result<Items<RowLook>, AllocError>
@@ -45,6 +63,15 @@ impl Loose {
     {
         let looks = listed_among(self.alloc, &self.rows)?;
         Ok(Items::new(looks))
+    }
+
+    /// Puts the ids of the first unsettled rows into a room, as many as it has places for, and says how many rows are unsettled.
+    fn unsettled_ids(&self, room: &mut [u64]) -> usize
+        ensures ids { room.new ≡ filled room.old (unsettled_ids self.now.rows) }
+        ensures count { result ≡ unsettled_rows self.now.rows }
+    {
+        put_unsettled(&self.rows, room);
+        self.unsettled_count()
     }
 }
 
@@ -55,5 +82,13 @@ impl Book {
         ensures { IfOk result (λ looks. looks ≡ list_of self.now) }
     {
         self.loose.list()
+    }
+    /// Puts the ids of the unsettled rows into a room, in program order, as many as it has places for, and says how many rows are
+    /// unsettled. It takes no memory.
+    pub fn unsettled_ids(&self, room: &mut [u64]) -> usize
+        ensures ids { room.new ≡ filled room.old (unsettled_ids self.now.rows) }
+        ensures count { result ≡ unsettled_rows self.now.rows }
+    {
+        self.loose.unsettled_ids(room)
     }
 }

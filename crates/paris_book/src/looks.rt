@@ -16,7 +16,7 @@ ghost use Rattle.paris_machine.specs.Show.{shown_of};
 ghost use Rattle.paris_book.specs.Kept.{Sound, present};
 ghost use Rattle.paris_book.specs.Whole.{AllFitted, Fitted, shape_in};
 ghost use Rattle.paris_book.specs.Among.{inputs_of, look_among, shared_shown, LookFits, firm_among, next_among, firm_inputs, inputs_among, own_among};
-ghost use Rattle.paris_book.specs.Verdicts.{KeptFor, LooksAt, are_present, present_among, verdict_among, cut_among};
+ghost use Rattle.paris_book.specs.Verdicts.{KeptFor, LooksAt, are_present, present_among, verdict_among, cut_among, cut_by};
 ghost use Rattle.paris_book.specs.Entries.{Entry, machine_row};
 
 use crate::inputs::{InputData, input_at};
@@ -212,7 +212,7 @@ fn is_present(inputs: &InputData, rows: &Rows, place: usize, order: &Order) -> b
 }
 
 /// Whether the row at a place is unsettled, and the result that was last kept of it is of its plan and of the present values. Values
-/// are compared where no key that the row reads waits, and nowhere else.
+/// are compared where no key that the row reads waits, and else none is.
 pub(crate) fn is_cut(inputs: &InputData, rows: &Rows, place: usize) -> bool
     requires within { place < length rows.now.rows }
     requires sound { Sound (start_world (inputs_of inputs.now)) (λ _. true) rows.now.rows }
@@ -221,15 +221,43 @@ pub(crate) fn is_cut(inputs: &InputData, rows: &Rows, place: usize) -> bool
     ensures plan { (e : Entry) (d : Task) → slice_get rows.now.rows place ≡ Some e → result ≡ true → e.1.done ≡ Some d → e.1.plan ≡ d.plan }
 {
     let (_, row) = rows.at(place);
+    if row.status().is_settled() || !are_firm(rows, place, row.plan().reads()) {
+        return false;
+    }
+    match row.result_of_plan() {
+        None => false,
+        Some(done) => agree(inputs, rows, place, row.plan(), done.order().inputs()),
+    }
+}
+
+/// Whether values are the same, one by one.
+fn are_equal(values: &[SharedValue], others: &[SharedValue]) -> bool
+    ensures { result ≡ pointwise field_eq values.now others.now }
+{
+    if values.len() != others.len() {
+        return false;
+    }
+    for i in 0..values.len() {
+        if !values[i].get().equals(others[i].get()) {
+            return false;
+        }
+    }
+    true
+}
+
+/// Whether the row at a place is unsettled, and the result that was last kept of it is of its plan and of these values.
+pub(crate) fn is_cut_by(rows: &Rows, place: usize, values: &[SharedValue]) -> bool
+    requires within { place < length rows.now.rows }
+    ensures value { (e : Entry) → slice_get rows.now.rows place ≡ Some e → result ≡ cut_by values.now e }
+    ensures plan { (e : Entry) (d : Task) → slice_get rows.now.rows place ≡ Some e → result ≡ true → e.1.done ≡ Some d → e.1.plan ≡ d.plan }
+{
+    let (_, row) = rows.at(place);
     if row.status().is_settled() {
         return false;
     }
-    match row.done() {
+    match row.result_of_plan() {
         None => false,
-        Some(done) => {
-            are_firm(rows, place, row.plan().reads())
-                && is_present(inputs, rows, place, done.order())
-        }
+        Some(done) => are_equal(values, done.order().inputs()),
     }
 }
 

@@ -4,7 +4,7 @@ ghost use Rattle.std.specs.Prelude.{◌≡◌, ◌<◌, ◌≤◌, ◌+◌, leng
 ghost use Rattle.std.specs.Option.{option_map};
 ghost use Rattle.paris_names.specs.declared.faults.Fault.TheVariants as FaultCase;
 ghost use Rattle.paris_program.specs.Program.{place_of};
-ghost use Rattle.paris_machine.specs.State.{empty_state, place_of_spot};
+ghost use Rattle.paris_machine.specs.State.{empty_state_of, place_of_spot};
 ghost use Rattle.paris_machine.specs.Show.{show_reply};
 ghost use Rattle.paris_machine.specs.Orders.{take_reply, after_take};
 ghost use Rattle.paris_machine.specs.CutOff.{IsAtRest};
@@ -12,6 +12,7 @@ ghost use Rattle.paris_machine.specs.Results.{verdict_of, after_bring};
 ghost use Rattle.paris_machine.specs.Settling.{unsettled_rows};
 ghost use Rattle.paris_book.specs.Among.{shared_shown};
 ghost use Rattle.paris_book.specs.Entries.{machine_row};
+ghost use Rattle.paris_book.specs.Origins.{origin_reply};
 ghost use Rattle.paris_names.specs.declared.limits.TheConstants.{MAX_EDITS};
 
 use crate::inputs::InputData;
@@ -21,7 +22,7 @@ use crate::program_rows::Rows;
 use paris_board::Board;
 use paris_events::Verdict;
 use paris_exec::{Done, Order};
-use paris_names::{Fault, KeyName, RowId, Spot};
+use paris_names::{Fault, KeyName, Profile, RowId, Spot};
 use std::alloc::{AllocError, Global};
 use std::marker::Model;
 
@@ -51,13 +52,13 @@ impl Model for Loose {
 }
 
 impl Loose {
-    /// A book with nothing in it, of which that many edits count as made.
-    pub(crate) fn starting_at(alloc: Global, count: u64) -> Loose
+    /// A book of a profile with nothing in it, of which that many edits count as made.
+    pub(crate) fn empty(alloc: Global, profile: Profile, count: u64) -> Loose
         requires { count ≤ MAX_EDITS }
-        ensures { result ≡ empty_state count }
+        ensures { result ≡ empty_state_of profile count }
     {
         Loose {
-            board: Board::new(alloc),
+            board: Board::with_profile(alloc, profile),
             edits: count,
             inputs: InputData {
                 fields: Vec::new(alloc),
@@ -142,6 +143,15 @@ impl Loose {
         let key = self.board.key_of(name)?;
         let place = self.place_of_spot(spot)?;
         Ok(look_at(&self.inputs, &self.rows, place, &key))
+    }
+
+    /// The row whose value a look shows.
+    pub(crate) fn origin(&self, name: KeyName, spot: Spot) -> Result<Option<RowId>, Fault>
+        ensures { result ≡ origin_reply self.now name spot }
+    {
+        let key = self.board.key_of(name)?;
+        let place = self.place_of_spot(spot)?;
+        Ok(self.rows.origin(place, &key))
     }
 
     /// How many edits were accepted.

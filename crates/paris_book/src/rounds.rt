@@ -73,10 +73,7 @@ impl Loose {
         ensures advances { Advances 0 self.old self.new }
         ensures slots { HoldOrders self.new slots.new.items }
     {
-        if self.cut_at(place) {
-            return Ok(());
-        }
-        if let Some(order) = self.own_order(place)? {
+        if let Some(order) = self.order_or_cut(place)? {
             slots.push(Slot::new(place, order))?;
         }
         Ok(())

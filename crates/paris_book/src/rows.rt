@@ -1,8 +1,8 @@
 //! What the book keeps of a row, and what calls change of it.
 
-ghost use Rattle.std.specs.Prelude.{◌≡◌, IfOk};
+ghost use Rattle.std.specs.Prelude.{◌≡◌, IfOk, IfSome};
 ghost use Rattle.std.specs.Option.{option_copied};
-ghost use Rattle.paris_book.specs.RowsInside.{plan_held, done_held};
+ghost use Rattle.paris_book.specs.RowsInside.{plan_held, done_held, of_plan};
 ghost use Rattle.paris_book.specs.Marks.{fresh_data, replaced_data, out_data, kept_data, again_data, recalled_data, stale_data};
 
 use paris_events::Status;
@@ -14,7 +14,7 @@ use std::marker::Model;
 
 /// The plan of a row, with the result that was last kept of it, if there is one.
 #[derive(Debug, Drop)]
-pub(crate) enum Held {
+pub(crate) enum RowContent {
     /// A plan of which no result was kept yet.
     Plan(SharedPlan),
     /// A result, whose order has the plan.
@@ -23,15 +23,18 @@ pub(crate) enum Held {
     Replaced(SharedPlan, Done),
 }
 
-impl Held {
+impl RowContent {
     /// The same once more, which is shared.
-    fn copy(&self) -> Result<Held, AllocError>
+    fn copy(&self) -> Result<RowContent, AllocError>
         ensures { IfOk result (λ copy. copy ≡ self.now) }
     {
         match self {
-            Held::Plan(plan) => Ok(Held::Plan(plan.copy()?)),
-            Held::Done(done) => Ok(Held::Done(done.copy()?)),
-            Held::Replaced(plan, done) => Ok(Held::Replaced(plan.copy()?, done.copy()?)),
+            RowContent::Plan(plan) => Ok(RowContent::Plan(plan.copy()?)),
+            RowContent::Done(done) => Ok(RowContent::Done(done.copy()?)),
+            RowContent::Replaced(plan, done) => Ok(RowContent::Replaced(
+                plan.copy()?,
+                done.copy()?,
+            )),
         }
     }
 
@@ -40,19 +43,37 @@ impl Held {
         ensures { option_copied result ≡ done_held self.now }
     {
         match self {
-            Held::Plan(_) => None,
-            Held::Done(done) | Held::Replaced(_, done) => Some(done),
+            RowContent::Plan(_) => None,
+            RowContent::Done(done) | RowContent::Replaced(_, done) => Some(done),
+        }
+    }
+
+    /// The result, if there is one and it is of the plan.
+    fn result_of_plan(&self) -> Option<&Done>
+        ensures value { option_copied result ≡ of_plan (plan_held self.now) (done_held self.now) }
+        ensures same { IfSome result (λ done. done.now.plan ≡ plan_held self.now) }
+    {
+        match self {
+            RowContent::Plan(_) => None,
+            RowContent::Done(done) => Some(done),
+            RowContent::Replaced(plan, done) => {
+                if plan.get().equals(done.order().plan()) {
+                    Some(done)
+                } else {
+                    None
+                }
+            }
         }
     }
 
     /// Another plan, with the same result. It is shared.
-    fn with_plan(&self, plan: SharedPlan) -> Result<Held, AllocError>
+    fn with_plan(&self, plan: SharedPlan) -> Result<RowContent, AllocError>
         ensures plan { IfOk result (λ held. plan_held held ≡ plan) }
         ensures done { IfOk result (λ held. done_held held ≡ done_held self.now) }
     {
         match self.done() {
-            None => Ok(Held::Plan(plan)),
-            Some(done) => Ok(Held::Replaced(plan, done.copy()?)),
+            None => Ok(RowContent::Plan(plan)),
+            Some(done) => Ok(RowContent::Replaced(plan, done.copy()?)),
         }
     }
 }
@@ -71,7 +92,7 @@ fn shared(alloc: Global, plan: Plan) -> Result<SharedPlan, AllocError>
 /// its result. A clause sees the plan, and the result beside it.
 #[derive(Debug, Drop)]
 pub struct RowData {
-    held: Held,
+    held: RowContent,
     set_by: u64,
     edition: Edition,
     status: Status,
@@ -93,7 +114,7 @@ impl RowData {
     {
         let plan = shared(alloc, plan)?;
         Ok(RowData {
-            held: Held::Plan(plan),
+            held: RowContent::Plan(plan),
             set_by: number,
             edition: Edition(number),
             status: Status::Waiting,
@@ -124,8 +145,8 @@ impl RowData {
         ensures { result.now ≡ self.now.plan }
     {
         match &self.held {
-            Held::Plan(plan) | Held::Replaced(plan, _) => plan.get(),
-            Held::Done(done) => done.order().plan(),
+            RowContent::Plan(plan) | RowContent::Replaced(plan, _) => plan.get(),
+            RowContent::Done(done) => done.order().plan(),
         }
     }
 
@@ -134,8 +155,8 @@ impl RowData {
         ensures { IfOk result (λ plan. plan ≡ self.now.plan) }
     {
         match &self.held {
-            Held::Plan(plan) | Held::Replaced(plan, _) => plan.copy(),
-            Held::Done(done) => shared(alloc, done.order().plan().copy()?),
+            RowContent::Plan(plan) | RowContent::Replaced(plan, _) => plan.copy(),
+            RowContent::Done(done) => shared(alloc, done.order().plan().copy()?),
         }
     }
 
@@ -160,6 +181,14 @@ impl RowData {
         self.held.done()
     }
 
+    /// The result that was last kept, if there is one and it is of the plan.
+    pub(crate) fn result_of_plan(&self) -> Option<&Done>
+        ensures value { option_copied result ≡ of_plan self.now.plan self.now.done }
+        ensures same { IfSome result (λ done. done.now.plan ≡ self.now.plan) }
+    {
+        self.held.result_of_plan()
+    }
+
     /// Marks the row as one of which an order is out.
     pub(crate) fn hand_out(&mut self)
         ensures { self.new ≡ out_data self.old }
@@ -173,7 +202,7 @@ impl RowData {
         ensures { self.new ≡ kept_data done self.old }
     {
         self.status = Status::Settled;
-        self.held = Held::Done(done);
+        self.held = RowContent::Done(done);
     }
 
     /// Settles the row by the result that was last kept.

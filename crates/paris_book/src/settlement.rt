@@ -97,13 +97,7 @@ impl Loose {
         ensures err { OnErr result (self.new ≡ self.old) }
         ensures left { OnErr result (left_at self.old place ≡ true) }
     {
-        if self.is_settled_at(place) {
-            return Ok(0);
-        }
-        if self.cut_at(place) {
-            return Ok(0);
-        }
-        let Some(order) = self.own_order(place)? else {
+        let Some(order) = self.order_or_cut(place)? else {
             return Ok(0);
         };
         match execute_inside(self.alloc, gate, order) {

@@ -3,7 +3,7 @@
 ghost use Rattle.std.specs.Prelude.{◌≡◌, ℕ, true, cond, ◌<◌, ◌≤◌, ◌+◌, [], length, set, insert, remove, None, IfOk, OnErr, OnOk};
 ghost use Rattle.std.specs.List.{count_by};
 ghost use Rattle.paris_names.specs.declared.limits.TheConstants.{MAX_ROWS};
-ghost use Rattle.paris_book.specs.Statuses.{Holds, is_unsettled, first_unsettled as first_from};
+ghost use Rattle.paris_book.specs.Statuses.{IsInSpan, is_unsettled, first_unsettled as first_from};
 
 use paris_events::Status;
 use std::alloc::{AllocError, Global};
@@ -23,8 +23,8 @@ impl Span {
         requires few { self.unsettled < MAX_ROWS }
         requires there { place < MAX_ROWS }
         ensures count { result.unsettled ≡ self.unsettled + cond (is_unsettled status) 1 0 }
-        ensures place { is_unsettled status ≡ true → Holds result place }
-        ensures others { (i : ℕ) → 0 < self.unsettled → Holds self i → Holds result i }
+        ensures place { is_unsettled status ≡ true → IsInSpan result place }
+        ensures others { (i : ℕ) → 0 < self.unsettled → IsInSpan self i → IsInSpan result i }
         ensures end { (n : ℕ) → self.end ≤ n → place < n → result.end ≤ n }
     {
         if status.is_settled() {
@@ -50,7 +50,7 @@ impl Span {
         requires some { is_unsettled status ≡ true → 0 < self.unsettled }
         requires there { place < MAX_ROWS }
         ensures count { result.unsettled + cond (is_unsettled status) 1 0 ≡ self.unsettled }
-        ensures others { (i : ℕ) → (i ≡ place → ⊥) → Holds self i → Holds result i }
+        ensures others { (i : ℕ) → (i ≡ place → ⊥) → IsInSpan self i → IsInSpan result i }
         ensures end { result.end ≤ self.end }
     {
         if status.is_settled() {
@@ -77,8 +77,8 @@ impl Span {
     fn opened(self, place: usize) -> Span
         requires { self.end ≤ MAX_ROWS }
         ensures count { result.unsettled ≡ self.unsettled }
-        ensures before { (i : ℕ) → i < place → Holds self i → Holds result i }
-        ensures behind { (i : ℕ) → place ≤ i → Holds self i → Holds result (i + 1) }
+        ensures before { (i : ℕ) → i < place → IsInSpan self i → IsInSpan result i }
+        ensures behind { (i : ℕ) → place ≤ i → IsInSpan self i → IsInSpan result (i + 1) }
         ensures end { result.end ≤ self.end + 1 }
     {
         let end = if place < self.end {
@@ -96,8 +96,8 @@ impl Span {
     /// The span after the row at a place was taken out, where it counts no row at that place.
     fn closed(self, place: usize) -> Span
         ensures count { result.unsettled ≡ self.unsettled }
-        ensures before { (i : ℕ) → i < place → Holds self i → Holds result i }
-        ensures behind { (i : ℕ) → place ≤ i → Holds self (i + 1) → Holds result i }
+        ensures before { (i : ℕ) → i < place → IsInSpan self i → IsInSpan result i }
+        ensures behind { (i : ℕ) → place ≤ i → IsInSpan self (i + 1) → IsInSpan result i }
         ensures end { (n : ℕ) → self.end ≤ n + 1 → place ≤ n → result.end ≤ n }
     {
         let start = if place < self.start {

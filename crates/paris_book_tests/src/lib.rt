@@ -26,4 +26,6 @@ mod spellings;
 #[cfg(test)]
 mod steps;
 #[cfg(test)]
+mod turns;
+#[cfg(test)]
 mod words;

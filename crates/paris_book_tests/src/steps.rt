@@ -59,6 +59,18 @@ pub(crate) enum Step {
     ReleasesByEvent,
     /// The book is settled by so many orders.
     Settles(u64),
+    /// At most so many orders are run, and so many are.
+    Runs(u64, u64),
+    /// What a key holds at a spot is settled by so many orders.
+    SettlesFor(Text, Spot, u64),
+    /// To settle what a key holds at a spot is refused with this fault. The list of rows stays as it was.
+    RefusesToSettle(Text, Spot, Fault),
+    /// What a key holds at a spot is from the row of this id, or from the start.
+    StemsFrom(Text, Spot, Option<u64>),
+    /// A look for the origin of a key at a spot is refused with this fault.
+    RefusesOrigin(Text, Spot, Fault),
+    /// A room of as many places gets these ids of unsettled rows, and so many rows aren't settled.
+    PutsUnsettled(&'static [u64], usize),
     /// Just these rows are listed.
     Lists(&'static [Row]),
     /// What is shown of a key at a spot is settled, and these numbers.
@@ -320,6 +332,105 @@ fn settles(rt: &impl Abort, book: &mut Book, count: u64) -> Result<(), AllocErro
     Ok(())
 }
 
+fn is_run_by(book: &mut Book, most: u64, count: u64) -> bool {
+    book.run(most) == Ok(count)
+}
+
+fn runs(rt: &impl Abort, book: &mut Book, most: u64, count: u64) -> Result<(), AllocError> {
+    assert!(rt; is_run_by(book, most, count));
+    Ok(())
+}
+
+fn is_settled_for(book: &mut Book, key: KeyName, spot: Spot, count: u64) -> bool {
+    book.settle_for(key, spot) == Ok(Ok(count))
+}
+
+fn settles_for(
+    rt: &impl Abort,
+    book: &mut Book,
+    text: &[u8],
+    spot: Spot,
+    count: u64,
+) -> Result<(), AllocError> {
+    assert!(rt; is_settled_for(book, key(rt, text), spot, count));
+    Ok(())
+}
+
+/// Whether to settle what a key holds at a spot is refused with this fault, and leaves these rows as they were.
+fn is_settling_refused(
+    book: &mut Book,
+    key: KeyName,
+    spot: Spot,
+    fault: Fault,
+    looks: &[RowLook],
+) -> Result<bool, AllocError> {
+    Ok(book.settle_for(key, spot) == Err(fault) && is_listed(book, looks)?)
+}
+
+fn refuses_to_settle(
+    rt: &impl Abort,
+    book: &mut Book,
+    text: &[u8],
+    spot: Spot,
+    fault: Fault,
+) -> Result<(), AllocError> {
+    let rows = book.list()?;
+    let refused = is_settling_refused(book, key(rt, text), spot, fault, rows.as_slice())?;
+    assert!(rt; refused);
+    Ok(())
+}
+
+fn is_origin(book: &Book, key: KeyName, spot: Spot, origin: Result<Option<RowId>, Fault>) -> bool {
+    book.origin(key, spot) == origin
+}
+
+fn stems_from(
+    rt: &impl Abort,
+    book: &Book,
+    text: &[u8],
+    spot: Spot,
+    id: Option<u64>,
+) -> Result<(), AllocError> {
+    assert!(rt; is_origin(book, key(rt, text), spot, Ok(id.map(RowId))));
+    Ok(())
+}
+
+fn refuses_origin(
+    rt: &impl Abort,
+    book: &Book,
+    text: &[u8],
+    spot: Spot,
+    fault: Fault,
+) -> Result<(), AllocError> {
+    assert!(rt; is_origin(book, key(rt, text), spot, Err(fault)));
+    Ok(())
+}
+
+/// A room of so many places, each of which has a number that is no row's id.
+fn empty_room(alloc: Global, len: usize) -> Result<Vec<u64>, AllocError> {
+    let mut room = Vec::new(alloc);
+    for _place in 0..len {
+        room.push(0)?;
+    }
+    Ok(room)
+}
+
+fn is_put(book: &Book, room: &mut [u64], ids: &[u64], count: usize) -> bool {
+    book.unsettled_ids(room) == count && *room == *ids
+}
+
+fn puts_unsettled(
+    rt: &impl Abort,
+    alloc: Global,
+    book: &Book,
+    ids: &[u64],
+    count: usize,
+) -> Result<(), AllocError> {
+    let mut room = empty_room(alloc, ids.len())?;
+    assert!(rt; is_put(book, room.as_mut_slice(), ids, count));
+    Ok(())
+}
+
 fn lists(rt: &impl Abort, alloc: Global, book: &Book, rows: &[Row]) -> Result<(), AllocError> {
     let looks = looks_of(rt, alloc, rows)?;
     let listed = is_listed(book, looks.as_slice())?;
@@ -391,6 +502,14 @@ fn plays_step(
         Step::Releases => releases(book),
         Step::ReleasesByEvent => releases_by_event(rt, book),
         Step::Settles(count) => settles(rt, book, *count),
+        Step::Runs(most, count) => runs(rt, book, *most, *count),
+        Step::SettlesFor(text, spot, count) => settles_for(rt, book, *text, *spot, *count),
+        Step::RefusesToSettle(text, spot, fault) => {
+            refuses_to_settle(rt, book, *text, *spot, *fault)
+        }
+        Step::StemsFrom(text, spot, id) => stems_from(rt, book, *text, *spot, *id),
+        Step::RefusesOrigin(text, spot, fault) => refuses_origin(rt, book, *text, *spot, *fault),
+        Step::PutsUnsettled(ids, count) => puts_unsettled(rt, alloc, book, *ids, *count),
         Step::Lists(rows) => lists(rt, alloc, book, *rows),
         Step::Shows(text, spot, numbers) => shows_at(rt, book, *text, *spot, *numbers),
         Step::Waits(text, spot, id) => waits(rt, book, *text, *spot, *id),

@@ -1,4 +1,7 @@
 mod KeptValues
+mod KeptOrderValues
+mod SendSync
 mod FaultNumbers
 mod Numbers
 mod FaultWords
+mod WideLemmas

@@ -34,6 +34,9 @@ status_text status =
     else if status == 105 then codes "the script is too long, or the session has answered as many lines as it can count"
     else if status == 106 then codes "a number is wider than a word"
     else if status == 107 then codes "there was no memory left while rows were settled: those that ran are settled"
+    else if status == 108 then codes "no profile has this number"
+    else if status == 109 then codes "no row is ready"
+    else if status == 110 then codes "the order is not executed"
     else []
 
 -- the text of a cause, by its number; no other number has one

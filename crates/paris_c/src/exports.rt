@@ -1,17 +1,20 @@
 //! The calls from C.
 
-ghost use Rattle.std.specs.Prelude.{◌≡◌, ◌≢◌, ◌⊎◌, ◌≤◌, ◌^◌, None, length};
+ghost use Rattle.std.specs.Prelude.{◌≡◌, ◌≢◌, ◌⊎◌, ◌<◌, ◌≤◌, ◌+◌, ◌^◌, None, length};
+ghost use Rattle.paris_book.specs.Unsettled.{filled};
 ghost use Rattle.paris_text.specs.Words.{key_word};
 ghost use Rattle.paris_session.specs.Transcript.{transcript};
-ghost use Rattle.paris_c.specs.Calls.{filled, looked, CountsReply, IsFresh, IsAnswered, IsFull, IsPartlyAnswered, IsReply, IsSet, IsSetFault, ShowsNumbers, ShowsCount, ShowsPending, ShowsFault, ShowsWide, HasRows, CountsRows, HasFaults, CountsFaults, IsSettled, IsPartlySettled};
+ghost use Rattle.paris_c.specs.Calls.{looked, profile_of, wide_numbers, CountsReply, IsFresh, IsFreshOf, IsAnswered, IsFull, IsPartlyAnswered, IsReply, IsSet, IsSetFault, ShowsNumbers, ShowsPart, ShowsCount, ShowsPending, ShowsFault, ShowsWide, HasRows, CountsRows, HasFaults, CountsFaults, IsSettled, IsPartlySettled};
 ghost use Rattle.paris_c.specs.Texts.{cause_text, status_text};
-ghost use Rattle.paris_c.specs.declared.statuses.TheConstants.{OK, NO_MEMORY, CLOSED, NO_KEY, PENDING, WRONG_ROOM, TOO_MANY, TOO_WIDE, PARTLY};
+ghost use Rattle.paris_c.specs.declared.statuses.TheConstants.{OK, NO_MEMORY, CLOSED, NO_KEY, PENDING, WRONG_ROOM, TOO_MANY, TOO_WIDE, PARTLY, NO_PROFILE};
 
-use crate::desk::Desk;
+use crate::contents::Contents;
 use crate::handle::Handle;
 use crate::rooms::fill;
-use crate::statuses::{CLOSED, NO_MEMORY, OK, TOO_MANY};
+use crate::statuses::{CLOSED, NO_MEMORY, NO_PROFILE, OK, TOO_MANY};
 use crate::texts::{cause_text, status_text};
+use crate::wide::Wide;
+use paris_names::Profile;
 use std::alloc::Global;
 
 /// Opens a session in a handle, and drops what it held.
@@ -21,9 +24,42 @@ pub extern "C" fn paris_open(alloc: Global, handle: &mut Handle) -> u32
     ensures closed { result ≢ OK → (result ≡ NO_MEMORY) × (handle.new.kept.value ≡ None) }
 {
     drop(handle.take(alloc));
-    match Box::new(alloc, Desk::new(alloc)) {
-        Ok(desk) => {
-            handle.put(desk);
+    match Box::new(alloc, Contents::new(alloc)) {
+        Ok(contents) => {
+            handle.put(contents);
+            OK
+        }
+        Err(_) => NO_MEMORY,
+    }
+}
+
+/// The profile that a number names.
+fn profile_of(number: u32) -> Option<Profile>
+    ensures { result ≡ profile_of number }
+{
+    match number {
+        1 => Some(Profile::One),
+        2 => Some(Profile::Two),
+        _ => None,
+    }
+}
+
+/// Opens a session of a profile in a handle, and drops what it held. A number that names no profile leaves the handle as it was.
+#[unsafe(no_mangle)]
+pub extern "C" fn paris_open_profile(alloc: Global, handle: &mut Handle, profile: u32) -> u32
+    ensures fresh { result ≡ OK → IsFreshOf (profile_of profile) handle.new.kept.value }
+    ensures closed { result ≡ NO_MEMORY → handle.new.kept.value ≡ None }
+    ensures none { result ≡ NO_PROFILE → (profile_of profile ≡ None) × (handle.new.kept.value ≡ handle.old.kept.value) }
+    ensures some { result ≢ NO_PROFILE → profile_of profile ≢ None }
+    ensures status { (result ≡ OK) ⊎ ((result ≡ NO_MEMORY) ⊎ (result ≡ NO_PROFILE)) }
+{
+    let Some(profile) = profile_of(profile) else {
+        return NO_PROFILE;
+    };
+    drop(handle.take(alloc));
+    match Box::new(alloc, Contents::with_profile(alloc, profile)) {
+        Ok(contents) => {
+            handle.put(contents);
             OK
         }
         Err(_) => NO_MEMORY,
@@ -39,8 +75,8 @@ pub extern "C" fn paris_close(alloc: Global, handle: &mut Handle) -> u32
     ensures was_open { result ≡ OK → handle.old.kept.value ≢ None }
 {
     match handle.take(alloc) {
-        Some(desk) => {
-            drop(desk);
+        Some(contents) => {
+            drop(contents);
             OK
         }
         None => CLOSED,
@@ -65,12 +101,12 @@ pub extern "C" fn paris_answer(
     ensures len { result ≢ CLOSED → CountsReply handle.new.kept.value reply.new }
     ensures status { (result ≡ OK) ⊎ ((result ≡ CLOSED) ⊎ ((result ≡ NO_MEMORY) ⊎ ((result ≡ TOO_MANY) ⊎ (result ≡ PARTLY)))) }
 {
-    let Some(mut desk) = handle.take(alloc) else {
+    let Some(mut contents) = handle.take(alloc) else {
         return CLOSED;
     };
-    let status = desk.answer(line);
-    *reply = desk.reply.len();
-    handle.put(desk);
+    let status = contents.answer(line);
+    *reply = contents.reply.len();
+    handle.put(contents);
     status
 }
 
@@ -81,11 +117,11 @@ pub extern "C" fn paris_reply(alloc: Global, handle: &mut Handle, room: &mut [u8
     ensures closed { result ≢ OK → (result ≡ CLOSED) × (handle.old.kept.value ≡ None) }
     ensures kept { handle.new.kept.value ≡ handle.old.kept.value }
 {
-    let Some(desk) = handle.take(alloc) else {
+    let Some(contents) = handle.take(alloc) else {
         return CLOSED;
     };
-    fill(room, desk.reply.as_slice());
-    handle.put(desk);
+    fill(room, contents.reply.as_slice());
+    handle.put(contents);
     OK
 }
 
@@ -134,11 +170,11 @@ pub extern "C" fn paris_set(
         IsSetFault handle.old.kept.value (key_word key.now) from words.now result }
     ensures status { (result ≤ 23) ⊎ ((result ≡ CLOSED) ⊎ (result ≡ NO_KEY)) }
 {
-    let Some(mut desk) = handle.take(alloc) else {
+    let Some(mut contents) = handle.take(alloc) else {
         return CLOSED;
     };
-    let status = desk.set(key, from, words);
-    handle.put(desk);
+    let status = contents.set(key, from, words);
+    handle.put(contents);
     status
 }
 
@@ -167,11 +203,103 @@ pub extern "C" fn paris_get(
     ensures room { result ≢ OK → room.new ≡ room.old }
     ensures kept { handle.new.kept.value ≡ handle.old.kept.value }
 {
-    let Some(desk) = handle.take(alloc) else {
+    let Some(contents) = handle.take(alloc) else {
         return CLOSED;
     };
-    let status = desk.get(key, place, room, told);
-    handle.put(desk);
+    let status = contents.get(key, place, room, told);
+    handle.put(contents);
+    status
+}
+
+/// Puts the numbers that the key of a word holds at a place of the program, from a processor on, into a room of words, and says how many
+/// the key has. Where a row is pending, it says its id.
+#[unsafe(no_mangle)]
+pub extern "C" fn paris_part(
+    alloc: Global,
+    handle: &mut Handle,
+    key: &[u8],
+    place: u64,
+    from: u64,
+    room: &mut [u64],
+    told: &mut u64,
+) -> u32
+    ensures part { result ≡ OK → ShowsPart (looked handle.old.kept.value (key_word key.now) place) from (length room.old) room.new }
+    ensures count { (result ≡ OK) ⊎ (result ≡ WRONG_ROOM) → ShowsCount (looked handle.old.kept.value (key_word key.now) place) told.new }
+    ensures pending { result ≡ PENDING → ShowsPending (looked handle.old.kept.value (key_word key.now) place) told.new }
+    ensures fault { 1 ≤ result → result ≤ 23 → result ≢ NO_MEMORY →
+        ShowsFault (looked handle.old.kept.value (key_word key.now) place) result }
+    ensures closed { handle.old.kept.value ≡ None → result ≡ CLOSED }
+    ensures was_closed { result ≡ CLOSED → handle.old.kept.value ≡ None }
+    ensures key { result ≡ NO_KEY → key_word key.now ≡ None }
+    ensures past { result ≡ WRONG_ROOM → told.new < from + length room.old }
+    ensures wide { result ≡ TOO_WIDE → ShowsWide (looked handle.old.kept.value (key_word key.now) place) }
+    ensures status { (result ≤ 23) ⊎ ((result ≡ CLOSED) ⊎ ((result ≡ NO_KEY) ⊎ ((result ≡ PENDING) ⊎ ((result ≡ WRONG_ROOM) ⊎ (result ≡ TOO_WIDE))))) }
+    ensures room { result ≢ OK → room.new ≡ room.old }
+    ensures kept { handle.new.kept.value ≡ handle.old.kept.value }
+{
+    let Some(contents) = handle.take(alloc) else {
+        return CLOSED;
+    };
+    let status = contents.part(key, place, from, room, told);
+    handle.put(contents);
+    status
+}
+
+/// Gives the key that a word names numbers from a processor on, two words a number.
+#[unsafe(no_mangle)]
+pub extern "C" fn paris_set_wide(
+    alloc: Global,
+    handle: &mut Handle,
+    key: &[u8],
+    from: u64,
+    given: &[Wide],
+) -> u32
+    ensures set { result ≡ OK → IsSet handle.old.kept.value handle.new.kept.value (key_word key.now) from (wide_numbers given.now) }
+    ensures kept { result ≢ OK → handle.new.kept.value ≡ handle.old.kept.value }
+    ensures closed { handle.old.kept.value ≡ None → result ≡ CLOSED }
+    ensures was_closed { result ≡ CLOSED → handle.old.kept.value ≡ None }
+    ensures key { result ≡ NO_KEY → key_word key.now ≡ None }
+    ensures fault { 1 ≤ result → result ≤ 23 → result ≢ NO_MEMORY →
+        IsSetFault handle.old.kept.value (key_word key.now) from (wide_numbers given.now) result }
+    ensures status { (result ≤ 23) ⊎ ((result ≡ CLOSED) ⊎ (result ≡ NO_KEY)) }
+{
+    let Some(mut contents) = handle.take(alloc) else {
+        return CLOSED;
+    };
+    let status = contents.set_wide(alloc, key, from, given);
+    handle.put(contents);
+    status
+}
+
+/// Puts the numbers that the key of a word holds at a place of the program into a room of as many, two words a number, and says how
+/// many they are. Where a row is pending, it says its id.
+#[unsafe(no_mangle)]
+pub extern "C" fn paris_get_wide(
+    alloc: Global,
+    handle: &mut Handle,
+    key: &[u8],
+    place: u64,
+    room: &mut [Wide],
+    told: &mut u64,
+) -> u32
+    ensures numbers { result ≡ OK → ShowsNumbers (looked handle.old.kept.value (key_word key.now) place) (wide_numbers room.new) }
+    ensures count { (result ≡ OK) ⊎ (result ≡ WRONG_ROOM) → ShowsCount (looked handle.old.kept.value (key_word key.now) place) told.new }
+    ensures pending { result ≡ PENDING → ShowsPending (looked handle.old.kept.value (key_word key.now) place) told.new }
+    ensures fault { 1 ≤ result → result ≤ 23 → result ≢ NO_MEMORY →
+        ShowsFault (looked handle.old.kept.value (key_word key.now) place) result }
+    ensures closed { handle.old.kept.value ≡ None → result ≡ CLOSED }
+    ensures was_closed { result ≡ CLOSED → handle.old.kept.value ≡ None }
+    ensures key { result ≡ NO_KEY → key_word key.now ≡ None }
+    ensures few { result ≡ WRONG_ROOM → length room.old ≢ told.new }
+    ensures status { (result ≤ 23) ⊎ ((result ≡ CLOSED) ⊎ ((result ≡ NO_KEY) ⊎ ((result ≡ PENDING) ⊎ (result ≡ WRONG_ROOM)))) }
+    ensures room { result ≢ OK → room.new ≡ room.old }
+    ensures kept { handle.new.kept.value ≡ handle.old.kept.value }
+{
+    let Some(contents) = handle.take(alloc) else {
+        return CLOSED;
+    };
+    let status = contents.get_wide(key, place, room, told);
+    handle.put(contents);
     status
 }
 
@@ -192,11 +320,11 @@ pub extern "C" fn paris_rows(
     ensures room { result ≢ OK → room.new ≡ room.old }
     ensures kept { handle.new.kept.value ≡ handle.old.kept.value }
 {
-    let Some(desk) = handle.take(alloc) else {
+    let Some(contents) = handle.take(alloc) else {
         return CLOSED;
     };
-    let status = desk.rows(room, count);
-    handle.put(desk);
+    let status = contents.rows(room, count);
+    handle.put(contents);
     status
 }
 
@@ -208,11 +336,11 @@ pub extern "C" fn paris_settle(alloc: Global, handle: &mut Handle, ran: &mut u64
     ensures closed { result ≡ CLOSED → (handle.old.kept.value ≡ None) × (handle.new.kept.value ≡ None) }
     ensures status { (result ≡ OK) ⊎ ((result ≡ CLOSED) ⊎ (result ≡ PARTLY)) }
 {
-    let Some(mut desk) = handle.take(alloc) else {
+    let Some(mut contents) = handle.take(alloc) else {
         return CLOSED;
     };
-    let status = desk.settle(ran);
-    handle.put(desk);
+    let status = contents.settle(ran);
+    handle.put(contents);
     status
 }
 
@@ -233,11 +361,11 @@ pub extern "C" fn paris_faults(
     ensures room { result ≢ OK → room.new ≡ room.old }
     ensures kept { handle.new.kept.value ≡ handle.old.kept.value }
 {
-    let Some(desk) = handle.take(alloc) else {
+    let Some(contents) = handle.take(alloc) else {
         return CLOSED;
     };
-    let status = desk.faults(alloc, room, count);
-    handle.put(desk);
+    let status = contents.faults(alloc, room, count);
+    handle.put(contents);
     status
 }
 

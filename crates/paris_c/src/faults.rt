@@ -5,7 +5,7 @@ ghost use Rattle.paris_machine.specs.Lists.{faults_of};
 ghost use Rattle.paris_c.specs.Calls.{cause_number, cause_processor, fault_words, row_words, HasFaults, CountsFaults};
 ghost use Rattle.paris_c.specs.declared.statuses.TheConstants.{OK, NO_MEMORY};
 
-use crate::desk::Desk;
+use crate::contents::Contents;
 use crate::rooms::fill;
 use crate::statuses::{BAD_ADDRESS, COLLISION, NO_MEMORY, OK};
 use paris_events::RowLook;
@@ -48,7 +48,7 @@ fn refused_words(alloc: Global, looks: &[RowLook]) -> Result<Vec<u64>, AllocErro
     Ok(words)
 }
 
-impl Desk {
+impl Contents {
     /// The words of the settled rows that are refused for their data.
     #[tactic(auto, using(crate::proofs::FaultWords::words_are))]
     fn fault_words(&self, alloc: Global) -> Result<Vec<u64>, AllocError>

@@ -1,50 +1,52 @@
-//! What a C caller holds of a desk: nothing, or a box of it as its pointer.
+//! What a C caller holds of a session with its reply: nothing, or a box of it as its pointer.
 
 ghost use Rattle.std.specs.Prelude.{◌≡◌, Option, None, Some, is_some, true, option_map};
-ghost use Rattle.paris_c.specs.declared.desk.Desk.{Desk};
+ghost use Rattle.paris_c.specs.declared.contents.Contents.{Contents};
 
-use crate::desk::Desk;
-use keep::Loose;
+use crate::contents::Contents;
+use keep::RawBox;
 use std::alloc::Global;
 use std::marker::Model;
 use std::mem;
 use std::ptr::null_mut;
 
-/// Nothing, or a box as its pointer. Its type names no desk, since C may not be passed what points to one.
+/// Nothing, or a box as its pointer. Its type is another than that of the contents, since C may not be passed what points to those.
 #[repr(C)]
 #[derive(Drop)]
 pub struct Kept {
     at: *mut u8,
     alloc: Global,
-    pub ghost value: { Option Desk },
+    pub ghost value: { Option Contents },
 }
 
 impl Model for Kept {
     ghost use Rattle.std.specs.contracts.impls.GlobalAllocator.TheImpl as heap;
-    ghost use Rattle.paris_c.specs.contracts.desk.Desk.{the_row};
+    ghost use Rattle.paris_c.specs.contracts.contents.Contents.{the_row};
     ghost use Rattle.paris_c.specs.Holding.{holds};
 
     ghost also_owns = { λ h. holds (heap.ghosts.dealloc_token h.alloc) the_row h.at h.value };
 }
 
+unsafe impl Send for Kept {}
+
 impl Kept {
-    fn of(loose: Loose<Desk, Global>) -> Kept
-        ensures { result.value ≡ Some loose.value }
+    fn of(raw_box: RawBox<Contents, Global>) -> Kept
+        ensures { result.value ≡ Some raw_box.value }
     {
-        let Loose { at, alloc } = loose;
+        let RawBox { at, alloc } = raw_box;
         Kept {
             at: at as *mut u8,
             alloc,
         }
     }
 
-    fn into_loose(self) -> Loose<Desk, Global>
+    fn into_raw_box(self) -> RawBox<Contents, Global>
         requires { is_some self.value ≡ true }
         ensures { self.value ≡ Some result.value }
     {
         let Kept { at, alloc } = self;
-        Loose {
-            at: at as *mut Desk,
+        RawBox {
+            at: at as *mut Contents,
             alloc,
         }
     }
@@ -77,26 +79,26 @@ impl Handle {
         }
     }
 
-    /// Takes the desk, and leaves the handle closed.
-    pub(crate) fn take(&mut self, alloc: Global) -> Option<Box<Desk>>
-        ensures given { option_map (λ desk. desk.value) result ≡ self.old.kept.value }
+    /// Takes the contents, and leaves the handle closed.
+    pub(crate) fn take(&mut self, alloc: Global) -> Option<Box<Contents>>
+        ensures given { option_map (λ contents. contents.value) result ≡ self.old.kept.value }
         ensures closed { self.new.kept.value ≡ None }
     {
         let Handle { kept, is_open } = mem::replace(self, Handle::closed(alloc));
         if is_open {
-            Some(kept.into_loose().into_box())
+            Some(kept.into_raw_box().into_box())
         } else {
             None
         }
     }
 
-    /// Puts a desk into a closed handle.
-    pub(crate) fn put(&mut self, desk: Box<Desk>)
+    /// Puts contents into a closed handle.
+    pub(crate) fn put(&mut self, contents: Box<Contents>)
         requires { self.old.kept.value ≡ None }
-        ensures { self.new.kept.value ≡ Some desk.value }
+        ensures { self.new.kept.value ≡ Some contents.value }
     {
         *self = Handle {
-            kept: Kept::of(Loose::of(desk)),
+            kept: Kept::of(RawBox::of(contents)),
             is_open: true,
         };
     }

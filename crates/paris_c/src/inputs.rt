@@ -5,11 +5,11 @@ ghost use Rattle.paris_text.specs.Words.{key_word};
 ghost use Rattle.paris_c.specs.Calls.{IsSet, IsSetFault};
 ghost use Rattle.paris_c.specs.declared.statuses.TheConstants.{OK, NO_MEMORY, CLOSED, NO_KEY};
 
-use crate::desk::Desk;
+use crate::contents::Contents;
 use crate::statuses::{self, NO_KEY, OK};
 use paris_text::key_of_word;
 
-impl Desk {
+impl Contents {
     /// Gives the key that a word names numbers from a processor on.
     pub(crate) fn set(&mut self, key: &[u8], from: u64, words: &[u64]) -> u32
         ensures set { result ≡ OK → IsSet (Some self.old) (Some self.new) (key_word key.now) from words.now }

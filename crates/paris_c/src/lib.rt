@@ -1,12 +1,20 @@
-//! The session of a script as calls from C. `include/paris.h` declares them.
+//! The session of a script as calls from C. `bindings/c/paris.h` declares them.
 #![tactic(auto)]
 
-mod desk;
+mod contents;
 mod exports;
 mod faults;
 mod handle;
 mod inputs;
 mod looks;
+mod order_handle;
+mod order_state;
+mod orders;
 mod rooms;
+mod running;
 mod statuses;
 mod texts;
+mod threads;
+mod turns;
+mod unsettled;
+mod wide;

@@ -1,12 +1,12 @@
 //! What a key holds, and the rows, as words.
 
-ghost use Rattle.std.specs.Prelude.{◌≡◌, ◌≢◌, ◌⊎◌, ◌<◌, ◌≤◌, length, None, Some, map};
+ghost use Rattle.std.specs.Prelude.{◌≡◌, ◌≢◌, ◌⊎◌, ◌<◌, ◌≤◌, ◌+◌, length, None, Some, map, nat_lt};
 ghost use Rattle.paris_text.specs.Words.{key_word};
 ghost use Rattle.paris_field.specs.Fields.{AllFit};
-ghost use Rattle.paris_c.specs.Calls.{spot_of, looked, row_ids, ShowsNumbers, ShowsCount, ShowsPending, ShowsFault, ShowsWide};
+ghost use Rattle.paris_c.specs.Calls.{spot_of, looked, ids_listed, IsPart, ShowsNumbers, ShowsPart, ShowsCount, ShowsPending, ShowsFault, ShowsWide};
 ghost use Rattle.paris_c.specs.declared.statuses.TheConstants.{OK, NO_MEMORY, CLOSED, NO_KEY, PENDING, WRONG_ROOM, TOO_WIDE};
 
-use crate::desk::Desk;
+use crate::contents::Contents;
 use crate::statuses::{self, NO_KEY, NO_MEMORY, OK, PENDING, TOO_WIDE, WRONG_ROOM};
 use paris_book::Look;
 use paris_events::RowLook;
@@ -15,7 +15,7 @@ use paris_names::{RowId, Spot};
 use paris_text::key_of_word;
 
 /// The place of the program that a number names.
-fn spot_at(place: u64) -> Spot
+pub(crate) fn spot_at(place: u64) -> Spot
     ensures { result ≡ spot_of place }
 {
     if place == 0 {
@@ -25,6 +25,13 @@ fn spot_at(place: u64) -> Spot
     } else {
         Spot::After(RowId(place))
     }
+}
+
+/// Whether a value has more bits than a word.
+fn is_too_wide(value: &FieldValue) -> bool
+    ensures { result ≡ nat_lt 64 value.now.width }
+{
+    value.width() > 64
 }
 
 /// Puts numbers that fit a word into a room of as many words.
@@ -51,7 +58,7 @@ fn put_value(value: &FieldValue, room: &mut [u64], told: &mut u64) -> u32
     if room.len() != value.len() {
         return WRONG_ROOM;
     }
-    if value.width() > 64 {
+    if is_too_wide(value) {
         return TOO_WIDE;
     }
     match value.numbers() {
@@ -61,6 +68,29 @@ fn put_value(value: &FieldValue, room: &mut [u64], told: &mut u64) -> u32
         }
         Err(_) => NO_MEMORY,
     }
+}
+
+/// Puts the numbers of a value from a processor on into a room, and says how many the value has. It takes no memory.
+fn put_part(value: &FieldValue, from: u64, room: &mut [u64], told: &mut u64) -> u32
+    ensures part { result ≡ OK → IsPart value.now.numbers from (length room.old) room.new }
+    ensures told { told.new ≡ length value.now.numbers }
+    ensures kept { result ≢ OK → room.new ≡ room.old }
+    ensures past { result ≡ WRONG_ROOM → length value.now.numbers < from + length room.old }
+    ensures wide { result ≡ TOO_WIDE → 64 < value.now.width }
+    ensures status { (result ≡ OK) ⊎ ((result ≡ WRONG_ROOM) ⊎ (result ≡ TOO_WIDE)) }
+{
+    let count = value.len() as u64;
+    *told = count;
+    if from > count || room.len() as u64 > count - from {
+        return WRONG_ROOM;
+    }
+    if is_too_wide(value) {
+        return TOO_WIDE;
+    }
+    for i in 0..room.len() {
+        room[i] = value.get(from as usize + i) as u64;
+    }
+    OK
 }
 
 /// Puts the ids of rows into a room of as many words, and says how many they are.
@@ -80,7 +110,7 @@ fn put_ids(rows: &[RowLook], room: &mut [u64], count: &mut usize) -> u32
     OK
 }
 
-impl Desk {
+impl Contents {
     /// Puts the numbers that the key of a word holds at a place into a room of as many words, and says how many they are. Where a
     /// row is pending, it says its id.
     pub(crate) fn get(&self, key: &[u8], place: u64, room: &mut [u64], told: &mut u64) -> u32
@@ -108,10 +138,44 @@ impl Desk {
         }
     }
 
+    /// Puts the numbers that the key of a word holds at a place, from a processor on, into a room of words, and says how many the key
+    /// has. Where a row is pending, it says its id.
+    pub(crate) fn part(
+        &self,
+        key: &[u8],
+        place: u64,
+        from: u64,
+        room: &mut [u64],
+        told: &mut u64,
+    ) -> u32
+        ensures part { result ≡ OK → ShowsPart (looked (Some self.now) (key_word key.now) place) from (length room.old) room.new }
+        ensures count { (result ≡ OK) ⊎ (result ≡ WRONG_ROOM) → ShowsCount (looked (Some self.now) (key_word key.now) place) told.new }
+        ensures pending { result ≡ PENDING → ShowsPending (looked (Some self.now) (key_word key.now) place) told.new }
+        ensures fault { 1 ≤ result → result ≤ 23 → result ≢ NO_MEMORY → ShowsFault (looked (Some self.now) (key_word key.now) place) result }
+        ensures key { result ≡ NO_KEY → key_word key.now ≡ None }
+        ensures past { result ≡ WRONG_ROOM → told.new < from + length room.old }
+        ensures wide { result ≡ TOO_WIDE → ShowsWide (looked (Some self.now) (key_word key.now) place) }
+        ensures kept { result ≢ OK → room.new ≡ room.old }
+        ensures status { (result ≤ 23) ⊎ ((result ≡ NO_KEY) ⊎ ((result ≡ PENDING) ⊎ ((result ≡ WRONG_ROOM) ⊎ (result ≡ TOO_WIDE)))) }
+        ensures open { result ≢ CLOSED }
+    {
+        let Some(key) = key_of_word(key) else {
+            return NO_KEY;
+        };
+        match self.session.look(key, spot_at(place)) {
+            Ok(Look::Settled(value)) => put_part(value, from, room, told),
+            Ok(Look::Pending(id)) => {
+                *told = id.0;
+                PENDING
+            }
+            Err(fault) => statuses::of_fault(fault),
+        }
+    }
+
     /// Puts the ids of the rows in program order into a room of as many words, and says how many they are.
     pub(crate) fn rows(&self, room: &mut [u64], count: &mut usize) -> u32
-        ensures ids { result ≡ OK → room.new ≡ row_ids self.now.session }
-        ensures count { (result ≡ OK) ⊎ (result ≡ WRONG_ROOM) → count.new ≡ length (row_ids self.now.session) }
+        ensures ids { result ≡ OK → room.new ≡ ids_listed self.now.session }
+        ensures count { (result ≡ OK) ⊎ (result ≡ WRONG_ROOM) → count.new ≡ length (ids_listed self.now.session) }
         ensures few { result ≡ WRONG_ROOM → length room.old ≢ count.new }
         ensures kept { result ≢ OK → room.new ≡ room.old }
         ensures status { (result ≡ OK) ⊎ ((result ≡ NO_MEMORY) ⊎ (result ≡ WRONG_ROOM)) }

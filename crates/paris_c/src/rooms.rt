@@ -1,7 +1,7 @@
 //! Rooms of the caller's.
 
 ghost use Rattle.std.specs.Prelude.{◌≡◌};
-ghost use Rattle.paris_c.specs.Calls.{filled};
+ghost use Rattle.paris_book.specs.Unsettled.{filled};
 
 /// Copies items to a room, as many of them as there is room for.
 pub(crate) fn fill<T: Copy>(room: &mut [T], items: &[T])

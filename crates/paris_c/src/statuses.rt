@@ -32,11 +32,35 @@ pub(crate) const TOO_WIDE: u32 = 106;
 /// Memory was refused while rows were settled. Those that ran are settled.
 pub(crate) const PARTLY: u32 = 107;
 
+/// No profile has this number.
+pub(crate) const NO_PROFILE: u32 = 108;
+
+/// No row is ready.
+pub(crate) const NOTHING: u32 = 109;
+
+/// The order is not executed.
+pub(crate) const NOT_RUN: u32 = 110;
+
 /// The cause of a row that is refused for its data: two messages meet at a processor.
 pub(crate) const COLLISION: u32 = 1;
 
 /// The cause of a row that is refused for its data: a processor holds an address outside its set.
 pub(crate) const BAD_ADDRESS: u32 = 2;
+
+/// The verdict on a result: its row is settled by it.
+pub(crate) const KEPT: u32 = 1;
+
+/// The verdict on a result: its row is settled.
+pub(crate) const REPEATED: u32 = 2;
+
+/// The verdict on a result: its row has another edition.
+pub(crate) const STALE: u32 = 3;
+
+/// The verdict on a result: no row has its id.
+pub(crate) const GONE: u32 = 4;
+
+/// The verdict on a result: its plan or an input differs from the present one, or an origin isn't settled.
+pub(crate) const FOREIGN: u32 = 5;
 
 /// The status of a call that is refused by a fault.
 #[tactic(auto, using(crate::proofs::FaultNumbers::number_small))]

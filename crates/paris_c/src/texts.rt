@@ -39,6 +39,9 @@ pub(crate) fn status_text(status: u32) -> &'static [u8]
         105 => b"the script is too long, or the session has answered as many lines as it can count",
         106 => b"a number is wider than a word",
         107 => b"there was no memory left while rows were settled: those that ran are settled",
+        108 => b"no profile has this number",
+        109 => b"no row is ready",
+        110 => b"the order is not executed",
         _ => b"",
     }
 }

@@ -12,7 +12,7 @@ use Rattle.clap.specs.declared.parser.matches.ArgMatches.{ArgMatches}
 use Rattle.clap.specs.declared.error.kind.ErrorKind.TheVariants.{OutOfMemory}
 use Rattle.clap.proofs.OnLiterals.{clap_on_literals}
 use Rattle.clap.proofs.WalkLemmas.{first_value-rows, one_text-rows}
-use Rattle.paris_cli.specs.Words.{AreTaken, command_line, desk_option, flag_word, workers_option}
+use Rattle.paris_cli.specs.Words.{AreTaken, command_line, desk_option, switch_word, workers_option}
 
 pub is_simple : is_simple_and_free command_line ≡ true
 unfolding clap_on_literals
@@ -58,13 +58,13 @@ word_found a words m found other word same matches got first =
 pub flag_found : (a : App) (words : List (List ℕ)) (m : ArgMatches) (found desk : Bool) → a ≡ command_line → HasMatchesOf a words m
     → (one_text (found_of m) (codes "desk") ≡ Some (codes "true") → found ≡ true)
     → (one_text (found_of m) (codes "desk") ≡ Some (codes "false") → found ≡ false)
-    → one_of (codes "desk") (matches_of command_line words) ≡ Some (flag_word desk) → found ≡ desk
+    → one_of (codes "desk") (matches_of command_line words) ≡ Some (switch_word desk) → found ≡ desk
 flag_found a words m found desk same matches is_true is_false said = of_flag desk (one_text-rows (found_of m) (codes "desk") ∙ ap (one_of (codes "desk")) rows ∙ said)
   where
     rows : rows_of (found_of m) ≡ matches_of command_line words
     rows = let P : App → Type 0 = λ b. has_matches b ≡ true → rows_of (found_of m) ≡ matches_of b words in (subst P same (λ h. (matches h).0)) line_has_matches
 
-    of_flag : (b : Bool) → one_text (found_of m) (codes "desk") ≡ Some (flag_word b) → found ≡ b
+    of_flag : (b : Bool) → one_text (found_of m) (codes "desk") ≡ Some (switch_word b) → found ≡ b
     of_flag true is = is_true is
     of_flag false is = is_false is
 

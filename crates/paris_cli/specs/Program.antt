@@ -9,7 +9,7 @@ use Rattle.paris_session.specs.declared.answers.Summary.{Summary}
 use Rattle.paris_names.specs.declared.faults.Fault.TheVariants.{NoEntry}
 use Rattle.paris_parts.specs.declared.run.DeskRunFault.{DeskRunFault}
 use Rattle.paris_parts.specs.declared.run.DeskRunFault.TheVariants as desk
-use Rattle.paris_parts.specs.Run.{HasDeskCause, IsCutShort, Runs}
+use Rattle.paris_parts.specs.Run.{HasDeskCause, IsCutShort, ScriptRuns}
 use Rattle.paris_cli.specs.Words.{AreTaken, AskFor, refusal_line, refusal_status}
 use Rattle.paris_cli.specs.declared.words.WordsFault.{WordsFault}
 use Rattle.paris_cli.specs.declared.words.WordsFault.TheVariants as words_fault
@@ -81,7 +81,7 @@ pub record FinishesAtDesk (workers : ℕ) (reader_old reader_new writer_old writ
   pub consumed : Consumes reader_old reader_new read
   pub at_end : IsAtEnd reader_new
   pub written : Appends writer_old writer_new text
-  pub runs : Runs workers read text summary
+  pub runs : ScriptRuns workers read text summary
   pub status_is : status ≡ exit_status summary.refusals
   pub silent : Keeps errors_old errors_new
 

@@ -39,13 +39,13 @@ SaysNumber word k = IsNumeral 10 (without_leading_plus word) × (digits_value 10
 abbrev pub AskFor : List (List ℕ) → ℕ → Type 0
 AskFor words k = (word : List ℕ) × (first_of (codes "workers") (matches_of command_line words) ≡ Some word) × SaysNumber word k × (1 ≤ k) × (k ≤ MAX_WORKERS)
 
-abbrev pub flag_word : Bool → List ℕ
-flag_word true = codes "true"
-flag_word false = codes "false"
+abbrev pub switch_word : Bool → List ℕ
+switch_word true = codes "true"
+switch_word false = codes "false"
 
 -- whether the words ask for a desk, by the value of the flag
 abbrev pub AskForDesk : List (List ℕ) → Bool → Type 0
-AskForDesk words desk = one_of (codes "desk") (matches_of command_line words) ≡ Some (flag_word desk)
+AskForDesk words desk = one_of (codes "desk") (matches_of command_line words) ≡ Some (switch_word desk)
 
 abbrev pub refusal_line : WordsFault → List ℕ
 refusal_line (Usage text) = string_bytes text

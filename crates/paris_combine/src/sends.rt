@@ -5,7 +5,7 @@ ghost use Rattle.paris_model.specs.Combine.{combined};
 ghost use Rattle.paris_model.specs.Mail.{arrivals, first_cause};
 ghost use Rattle.paris_model.specs.Store.{everywhere};
 ghost use Rattle.paris_names.specs.declared.limits.TheConstants.{MAX_PROCESSORS};
-ghost use Rattle.paris_router.specs.Mail.{bad_sender_of, mail_in, receivers_of, refusal_in};
+ghost use Rattle.paris_router.specs.Mail.{bad_sender_of, mail_in, receivers_of, refusal_of};
 ghost use Rattle.paris_combine.specs.Combined.{combined_mail};
 
 use crate::operators::apply;
@@ -48,7 +48,7 @@ pub fn send_with(
     requires addresses { length addresses.now.numbers ≡ length x.now.numbers }
     requires old { length old.now.numbers ≡ length x.now.numbers }
     requires selected { length selected.now ≡ length x.now.numbers }
-    ensures refused { IfOk result (λ sent. refusal_in sent ≡ first_cause (bad_sender_of addresses.now selected.now) None) }
+    ensures refused { IfOk result (λ sent. refusal_of sent ≡ first_cause (bad_sender_of addresses.now selected.now) None) }
     ensures value { IfOk result (λ sent. IfOk sent (λ delivery. delivery.value ≡ combined_mail operator bits old.now (mail_in bits addresses.now x.now selected.now))) }
     ensures receivers { IfOk result (λ sent. IfOk sent (λ delivery. delivery.receivers ≡ receivers_of (length x.now.numbers) (mail_in bits addresses.now x.now selected.now))) }
 {

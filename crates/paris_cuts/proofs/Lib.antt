@@ -1,3 +1,4 @@
+pub mod ChosenProfiles
 pub mod Cuts
 pub mod Faults
 pub mod Lasts

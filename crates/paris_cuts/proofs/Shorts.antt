@@ -5,13 +5,13 @@ use Rattle.std.proofs.lemmas.List.Elements.{All-cons, All-head, All-nil, All-tai
 use Rattle.paris_session.specs.Transcript.{lines}
 use Rattle.paris_session.specs.Run.{most_reads}
 use Rattle.paris_session.proofs.WholeLemmas.{few_lines}
-use Rattle.paris_cuts.specs.Parts.{IsShort, cut, is_cut, parts}
+use Rattle.paris_cuts.specs.Parts.{IsShort, cut, is_cut_line, parts}
 
 -- where there are few lines, each part is short
 pub parts_short : (begun lines : List (List ℕ)) → length begun + length lines < 1125899906842624 → All IsShort (cut begun lines)
 parts_short begun [] few = All-cons IsShort begun [] (omega (arith, few)) (All-nil IsShort)
 parts_short begun (line ∷ rest) few =
-    elim (is_cut line) as (λ t. All IsShort (if t then begun ∷ cut [] rest else cut (begun ++ line ∷ []) rest)) [
+    elim (is_cut_line line) as (λ t. All IsShort (if t then begun ∷ cut [] rest else cut (begun ++ line ∷ []) rest)) [
       | true ↦ All-cons IsShort begun (cut [] rest) (omega (arith, few)) (parts_short [] rest (omega (arith, few)))
       | false ↦ parts_short (begun ++ line ∷ []) rest (let long = length-append begun (line ∷ []) in omega (arith, few, long))
     ]

@@ -3,13 +3,13 @@ use Rattle.std.specs.Prelude.{◌<◌, ℕ, Bool, List, [], ◌∷◌, ◌++◌,
 use Rattle.paris_session.specs.Transcript.{lines}
 
 -- whether a line cuts a script
-abbrev pub is_cut : List ℕ → Bool
-is_cut line = bytes_eq line (codes "session")
+abbrev pub is_cut_line : List ℕ → Bool
+is_cut_line line = bytes_eq line (codes "session")
 
 -- lines in parts, where `begun` stands before them in the first part
 abbrev pub cut : List (List ℕ) → List (List ℕ) → List (List (List ℕ))
 cut begun [] = begun ∷ []
-cut begun (line ∷ rest) = if is_cut line then begun ∷ cut [] rest else cut (begun ++ line ∷ []) rest
+cut begun (line ∷ rest) = if is_cut_line line then begun ∷ cut [] rest else cut (begun ++ line ∷ []) rest
 
 -- the lines of each part of a script
 unfoldable pub parts : List ℕ → List (List (List ℕ))

@@ -1,7 +1,7 @@
 //! What a command asks for, at a seat.
 
 use paris_machine::Event;
-use paris_names::{Fault, KeyName, Spot};
+use paris_names::{Fault, KeyName, Profile, Spot};
 
 /// What a command asks for.
 #[derive(Debug, Drop)]
@@ -12,6 +12,8 @@ pub enum Asked {
     Look(KeyName, Spot),
     /// The rows that are refused.
     Faults,
+    /// Nothing: it chooses the profile.
+    Chosen(Profile),
     /// Nothing: it is refused.
     Refused(Fault),
 }

@@ -1,7 +1,7 @@
 //! A script in parts.
 
 ghost use Rattle.std.specs.Prelude.{◌≡◌, ◌++◌, ◌∷◌, ℕ, List, [], map, nat_eq, IfOk, OnOk};
-ghost use Rattle.paris_cuts.specs.Parts.{is_cut, cut, parts};
+ghost use Rattle.paris_cuts.specs.Parts.{is_cut_line, cut, parts};
 
 use std::alloc::{AllocError, Global};
 use std::marker::Model;
@@ -55,7 +55,7 @@ fn is_line_feed(byte: u8) -> bool
 }
 
 fn is_cut(line: &[u8]) -> bool
-    ensures { result ≡ is_cut line.now }
+    ensures { result ≡ is_cut_line line.now }
 {
     line == b"session".as_slice()
 }

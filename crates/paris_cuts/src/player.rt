@@ -2,12 +2,11 @@
 
 ghost use Rattle.std.specs.Prelude.{◌≡◌, ◌^◌, ◌<◌, ◌≤◌, length, nat_lt, Some, IfOk, IfSome, OnErr, option_map};
 ghost use Rattle.paris_text.specs.CommandReading.{command_in};
-ghost use Rattle.paris_text.specs.declared.verbs.Setting.TheVariants.{SharedBook};
 ghost use Rattle.paris_session.specs.Transcript.{longest_line, order_at, shown_text};
 ghost use Rattle.paris_book.specs.Among.{look_shown};
-ghost use Rattle.paris_replies.specs.Replies.{faults_text};
+ghost use Rattle.paris_replies.specs.Replies.{faults_text, ok_text};
 ghost use Rattle.paris_machine.specs.declared.events.Reply.TheVariants as ReplyCase;
-ghost use Rattle.paris_cuts.specs.Hands.{IsCounted, asked_by, asked_by_line, asked_by_read, bring_asked, empty_hand, faults_among, is_skipped, read_by, refused, told, with_command};
+ghost use Rattle.paris_cuts.specs.Hands.{IsHandCounted, asked_by, asked_by_line, asked_by_read, bring_asked, empty_hand, faults_among, is_skipped, read_by, refused, setting_of, hand_told, hand_with_command};
 
 use crate::asked::Asked;
 use crate::texts::{faults_among, look_text, shown_text};
@@ -30,16 +29,17 @@ fn is_overlong(line: &[u8]) -> bool
 }
 
 /// Whether a line is skipped.
-fn is_skipped(line: &[u8]) -> bool
+pub(crate) fn is_skipped(line: &[u8]) -> bool
     ensures { result ≡ is_skipped line.now }
 {
     line.is_empty() || line[0] == b'#'
 }
 
-/// A session that has a seat, without it: the orders that it took, and how many commands it answered and refused. A clause sees the
-/// tasks of the orders.
+/// A session that has a seat, without it: whether its next command is the first of its script, the orders that it took, and how many
+/// commands it answered and refused. A clause sees the tasks of the orders.
 #[derive(Drop)]
 pub struct Player {
+    first: bool,
     tray: Vec<Order>,
     commands: u64,
     refusals: u64,
@@ -51,17 +51,18 @@ impl Model for Player {
 
     ghost Value = { Hand };
 
-    ghost view = { λ p. hand p.tray.items p.commands p.refusals };
+    ghost view = { λ p. hand p.first p.tray.items p.commands p.refusals };
 
     ghost invariant = { λ p. (p.refusals ≤ p.commands) × (length p.tray.items ≤ p.commands) };
 }
 
 impl Player {
-    /// A player that has taken no order, and answered no command.
-    pub fn new(alloc: Global) -> Player
-        ensures { result ≡ empty_hand }
+    /// A player that has taken no order, and answered no command. Its first command may be the first of its script.
+    pub fn new(alloc: Global, first: bool) -> Player
+        ensures { result ≡ empty_hand first }
     {
         Player {
+            first,
             tray: Vec::new(alloc),
             commands: 0,
             refusals: 0,
@@ -90,9 +91,10 @@ impl Player {
     /// Counts a command.
     fn count(&mut self)
         requires { self.old.commands < 2 ^ 62 }
-        ensures command { self.new ≡ with_command self.old }
-        ensures counted { IsCounted self.new }
+        ensures command { self.new ≡ hand_with_command self.old }
+        ensures counted { IsHandCounted self.new }
     {
+        self.first = false;
         self.commands += 1;
     }
 
@@ -132,16 +134,21 @@ impl Player {
             Command::Show { key, spot } => Ok(Asked::Look(key, spot)),
             Command::List => Ok(Asked::Call(Event::List)),
             Command::Faults => Ok(Asked::Faults),
-            // (no line of a book that is shared says so)
+            // (no line of a session that has a seat says so)
             Command::Settle => Ok(Asked::Refused(Fault::Syntax(1))),
+            Command::Paris(profile) => Ok(Asked::Chosen(profile)),
         }
     }
 
     /// What a line asks for that is no longer than a line may be.
     fn asked_by_read(&self, line: &[u8]) -> Result<Asked, AllocError>
-        ensures { IfOk result (λ asked. asked ≡ asked_by_read self.now.tray (command_in SharedBook line.now)) }
+        ensures { IfOk result (λ asked. asked ≡ asked_by_read self.now.tray (command_in (setting_of self.now) line.now)) }
     {
-        match read_command_in(self.alloc(), Setting::SharedBook, line) {
+        let setting = Setting {
+            is_shared: true,
+            is_first: self.first,
+        };
+        match read_command_in(self.alloc(), setting, line) {
             Ok(command) => self.asked_by(command),
             Err(fault) => {
                 if fault.is_no_memory() {
@@ -153,8 +160,8 @@ impl Player {
     }
 
     /// What a line asks for that is not skipped.
-    fn asked_by_line(&self, line: &[u8]) -> Result<Asked, AllocError>
-        ensures { IfOk result (λ asked. asked ≡ asked_by_line self.now.tray line.now) }
+    pub(crate) fn asked_by_line(&self, line: &[u8]) -> Result<Asked, AllocError>
+        ensures { IfOk result (λ asked. asked ≡ asked_by_line self.now line.now) }
     {
         if is_overlong(line) {
             return Ok(Asked::Refused(Fault::Syntax(MAX_LINE as u64 + 1)));
@@ -166,7 +173,7 @@ impl Player {
     pub fn asked(&mut self, line: &[u8]) -> Result<Option<Asked>, AllocError>
         requires { self.old.commands < 2 ^ 62 }
         ensures ok { IfOk result (λ asked. (self.new, asked) ≡ read_by self.old line.now) }
-        ensures counted { IfOk result (λ asked. IfSome asked (λ _. IsCounted self.new)) }
+        ensures counted { IfOk result (λ asked. IfSome asked (λ _. IsHandCounted self.new)) }
         ensures err { OnErr result (self.new ≡ self.old) }
     {
         if is_skipped(line) {
@@ -191,7 +198,7 @@ impl Player {
     /// Tells of an order, and keeps it.
     fn tell_order(&mut self, order: Order) -> Result<Vec<u8>, AllocError>
         requires { length self.old.tray < self.old.commands }
-        ensures ok { IfOk result (λ text. (self.new, text.items) ≡ told self.old (ReplyCase.Take (Some order))) }
+        ensures ok { IfOk result (λ text. (self.new, text.items) ≡ hand_told self.old (ReplyCase.Take (Some order))) }
         ensures err { OnErr result (self.new ≡ self.old) }
     {
         let room = Room::new(self.alloc())?;
@@ -209,6 +216,13 @@ impl Player {
         look_text(self.alloc(), look)
     }
 
+    /// Tells that a profile was chosen. The error says that memory was refused.
+    pub fn tell_chosen(&self) -> Result<Vec<u8>, AllocError>
+        ensures { IfOk result (λ text. text.items ≡ ok_text) }
+    {
+        Ok(Room::new(self.alloc())?.ok())
+    }
+
     /// Tells of those rows of a list that are refused. The error says that memory was refused.
     pub fn tell_faults(&self, looks: &[RowLook]) -> Result<Vec<u8>, AllocError>
         ensures { IfOk result (λ text. text.items ≡ faults_text (faults_among looks.now)) }
@@ -219,8 +233,8 @@ impl Player {
 
     /// Tells of a reply to a command that is counted. The error says that memory was refused.
     pub fn tell(&mut self, reply: Reply) -> Result<Vec<u8>, AllocError>
-        requires { IsCounted self.old }
-        ensures ok { IfOk result (λ text. (self.new, text.items) ≡ told self.old reply) }
+        requires { IsHandCounted self.old }
+        ensures ok { IfOk result (λ text. (self.new, text.items) ≡ hand_told self.old reply) }
         ensures err { OnErr result (self.new ≡ self.old) }
     {
         let alloc = self.alloc();

@@ -7,11 +7,11 @@ use Rattle.paris_depends.specs.Lists.{Lists}
 use Rattle.paris_depends.specs.declared.lists.Lists.TheInside.{Inside}
 
 -- the ids of a list, and how many more fit
-abbrev pub ids_in : Vec RowId → List ℕ
-ids_in v = map (λ id. id.0) v.items
+abbrev pub ids_held : Vec RowId → List ℕ
+ids_held v = map (λ id. id.0) v.items
 
 abbrev pub room_in : Vec RowId → ℕ
 room_in v = vec_capacity v - vec_len v
 
 abbrev pub listed : Inside → Lists
-listed i = record { ids = map ids_in i.lists.items; room = map room_in i.lists.items }
+listed i = record { ids = map ids_held i.lists.items; room = map room_in i.lists.items }

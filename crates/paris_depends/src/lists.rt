@@ -2,7 +2,7 @@
 
 ghost use Rattle.std.specs.Prelude.{◌≡◌, ℕ, ◌<◌, ◌≤◌, [], length, map, insert, remove, slice_get, slice_index_or, Some, IfOk, IsOk, OnOk, nat_eq, if◌then◌else◌};
 ghost use Rattle.paris_depends.specs.Lists.{list_at, room_at};
-ghost use Rattle.paris_depends.specs.ListsInside.{ids_in, room_in};
+ghost use Rattle.paris_depends.specs.ListsInside.{ids_held, room_in};
 
 use paris_names::RowId;
 use std::alloc::{AllocError, Global};
@@ -28,7 +28,7 @@ impl Model for Lists {
 
 /// Adds empty lists until there is one in a slot.
 fn widen(alloc: Global, lists: &mut Vec<Vec<RowId>>, slot: usize) -> Result<(), AllocError>
-    ensures ids { (s : ℕ) → slice_index_or (map ids_in lists.new.items) s [] ≡ slice_index_or (map ids_in lists.old.items) s [] }
+    ensures ids { (s : ℕ) → slice_index_or (map ids_held lists.new.items) s [] ≡ slice_index_or (map ids_held lists.old.items) s [] }
     ensures more { (s : ℕ) → slice_index_or (map room_in lists.old.items) s 0 ≤ slice_index_or (map room_in lists.new.items) s 0 }
     ensures ok { OnOk result (slot < length lists.new.items) }
     ensures succeeds { slot < length lists.old.items → IsOk result }

@@ -1,14 +1,13 @@
 -- The exchange that adds an entry keeps the rule.
 use Rattle.std.proofs.Common.{◌≡◌, ℕ, ◌+◌, ◌<◌, ◌==◌, Bool, true, false, List, [], ◌∷◌, ◌++◌, length, refl, ap, sym, subst, arith, inl, length-append, None}
+use Rattle.std.specs.Prelude.{MatchBool}
 use Rattle.std.proofs.lemmas.List.{append-nil}
 use Rattle.std.proofs.lemmas.Bool.Decides.{nat_tests}
 use mathlib.Core.List.{IsPrefix}
 use prog.Atomic.{either}
 use Rattle.logbook.specs.Pages.{Cell, cell, keeps, no_nib, step, Moves, Goes}
 use Rattle.paris_records.specs.declared.records.Entry.{Entry}
-use Rattle.paris_records.specs.History.{Legal}
-use Rattle.paris_desk.proofs.Histories.{legal_more}
-use Rattle.paris_desk.specs.Rules.{IsKept, MayFollow, Adds}
+use Rattle.paris_desk.specs.Rules.{IsKept, Adds}
 use Rattle.paris_desk.proofs.Prefixes.{prefix_whole}
 
 abbrev pub shown : List Entry → List Entry
@@ -17,38 +16,42 @@ shown log = []
 abbrev pub moved : List Entry → List Entry → ℕ → Type 0
 moved xs ys n = Unit {0}
 
-pub adds_goes : (log v : List Entry) (e : Entry) (old : ℕ) → length v ≡ old → MayFollow v e → Legal log → IsPrefix v log
+pub adds_goes : (log v : List Entry) (e : Entry) (old : ℕ) → length v ≡ old → IsPrefix v log
     → (b : Bool) → (length log == old) ≡ b
     → Goes IsKept shown moved 0 (v, (no_nib, None)) (λ n. either (n == old) (old + 1) n) (Adds (step 0 old (old + 1) e) (v, (no_nib, None))) ((length log, true) ∷ (0, true) ∷ []) log
-adds_goes log v e old len may legal pre true is =
+adds_goes log v e old len pre true is =
     let here : length log ≡ old = grind (arith, nat_tests) in
     let same : v ≡ log = prefix_whole v log pre (omega arith) in
-    let legal' : Legal (log ++ e ∷ []) = subst (λ (l : List Entry). Legal (l ++ e ∷ [])) same (legal_more v e (subst Legal (sym same) legal) may) in
     let n : either (length log == old) (old + 1) (length log) ≡ length (log ++ e ∷ []) = rw is (omega (arith, length-append log (e ∷ []))) in (
       keeps,
       e ∷ [],
       None,
       tt,
-      record { words = ap (λ (k : ℕ). (k, true) ∷ (0, true) ∷ []) n; legal = legal' },
+      record { words = ap (λ (k : ℕ). (k, true) ∷ (0, true) ∷ []) n },
       inl (refl, refl),
-      rw is (ap (λ w. w ++ e ∷ []) (sym same), legal'),
+      rw is (ap (λ w. w ++ e ∷ []) (sym same)),
     )
-adds_goes log v e old len may legal pre false is =
+adds_goes log v e old len pre false is =
     let all : log ++ [] ≡ log = append-nil log in
-    let legal' : Legal (log ++ []) = subst Legal (sym all) legal in
     let n : either (length log == old) (old + 1) (length log) ≡ length (log ++ []) = rw is (ap length (sym all)) in (
       keeps,
       [],
       None,
       tt,
-      record { words = ap (λ (k : ℕ). (k, true) ∷ (0, true) ∷ []) n; legal = legal' },
+      record { words = ap (λ (k : ℕ). (k, true) ∷ (0, true) ∷ []) n },
       inl (refl, refl),
-      rw is (ap length all, legal'),
+      rw is (ap length all),
     )
 
 -- whatever the book is, the exchange adds the entry to all that was seen, or finds that the history is longer
-pub adds_moves : (v : List Entry) (e : Entry) (old : ℕ) → length v ≡ old → MayFollow v e
+pub adds_moves : (v : List Entry) (e : Entry) (old : ℕ) → length v ≡ old
     → Moves IsKept shown moved 0 (v, (no_nib, None)) (λ n. either (n == old) (old + 1) n) (Adds (step 0 old (old + 1) e) (v, (no_nib, None)))
-adds_moves v e old len may cs log kept pre away =
+adds_moves v e old len cs log kept pre away =
     let P : List Cell → Type 0 = λ c. (0 < length c) × ((cell c 0).1 ≡ true) × Goes IsKept shown moved 0 (v, (no_nib, None)) (λ n. either (n == old) (old + 1) n) (Adds (step 0 old (old + 1) e) (v, (no_nib, None))) c log in
-    subst P (sym kept.words) (omega arith, refl, adds_goes log v e old len may kept.legal pre (length log == old) refl)
+    subst P (sym kept.words) (omega arith, refl, adds_goes log v e old len pre (length log == old) refl)
+
+-- what was found is what was seen, so the entry stands behind that
+pub added : (log log' : List Entry) (e : Entry) (found old : ℕ) → MatchBool (found == old) (log' ≡ log ++ e ∷ []) (length log' ≡ found) → found ≡ old → log' ≡ log ++ e ∷ []
+added log log' e found old is same =
+    let yes : (found == old) ≡ true = grind (arith, nat_tests) in
+    rw yes at is

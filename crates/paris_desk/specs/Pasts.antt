@@ -4,33 +4,34 @@ use mathlib.Core.List.{IsPrefix}
 use mathlib.Core.Option.{some}
 use lib.ListN.{get_elem?}
 use Rattle.logbook.specs.Pages.{Book}
+use Rattle.paris_names.specs.declared.profiles.Profile.{Profile}
 use Rattle.paris_records.specs.declared.records.Entry.{Entry}
 use Rattle.paris_records.specs.History.{Legal}
 use Rattle.paris_desk.specs.declared.published.Saw.{Saw}
-use Rattle.paris_desk.specs.Rules.{Posted}
-use Rattle.paris_desk.specs.Seats.{Sitting}
+use Rattle.paris_desk.specs.Rules.{IsSound, Posted}
+use Rattle.paris_desk.specs.Seats.{SeatState}
 
 abbrev pub saw : List Entry → Saw
 saw h = record { past = h }
 
--- what is published is of this log, and begins with what each reader saw
-abbrev pub Holds : Book → Posted → List Saw → Type 0
-Holds log x views = (x.log ≡ log) × ((reader : ℕ) (v : Saw) → get_elem? views reader ≡ some v → IsPrefix v.past x.history)
+-- what is published is of this log, is sound, and begins with what each reader saw
+abbrev pub Holds : Profile → Book → Posted → List Saw → Type 0
+Holds p log x views = (x.log ≡ log) × IsSound p x × ((reader : ℕ) (v : Saw) → get_elem? views reader ≡ some v → IsPrefix v.past x.history)
 
--- what is published then is of this log, begins with what the reader saw before, and is what it saw then
-abbrev pub Sees : Book → Saw → Posted → Posted → Saw → Type 0
-Sees log v x y w = (y.log ≡ log) × IsPrefix v.past y.history × (w ≡ saw y.history)
+-- what is published then is of this log and sound, begins with what the reader saw before, and is what it saw then
+abbrev pub Sees : Profile → Book → Saw → Posted → Posted → Saw → Type 0
+Sees p log v x y w = (y.log ≡ log) × IsSound p y × IsPrefix v.past y.history × (w ≡ saw y.history)
 
 -- a seat learns all that another one knows: its past begins with what both knew, and its front is no less than that is long
-pub record Learned (s other s' : Sitting) : Type 0 where
+pub record Learned (profile : Profile) (s other s' : SeatState) : Type 0 where
   pub own : IsPrefix s.past s'.past
   pub others : IsPrefix other.past s'.past
-  pub legal : Legal s'.past
+  pub legal : Legal profile s'.past
   pub front : (s.front ≤ s'.front) × (length s'.past ≤ s'.front)
   pub same : (s'.number ≡ s.number) × (s'.receipts ≡ s.receipts)
 
 -- a seat is put together from a past and the rest of a seat
-pub record Joined (past : List Entry) (rest s : Sitting) : Type 0 where
+pub record Joined (past : List Entry) (rest s : SeatState) : Type 0 where
   pub same : (s.number ≡ rest.number) × (s.receipts ≡ rest.receipts)
   pub keeps : IsPrefix rest.past past → s.past ≡ past
   pub begins : IsPrefix past s.past × IsPrefix rest.past s.past

@@ -8,7 +8,7 @@ use Rattle.paris_events.specs.declared.verdicts.Verdict.{Verdict}
 use Rattle.paris_machine.specs.declared.events.Event.TheVariants as EventCase
 use Rattle.paris_machine.specs.declared.events.Reply.TheVariants as ReplyCase
 use Rattle.paris_records.specs.declared.records.Receipt.{Receipt}
-use Rattle.paris_desk.specs.Seats.{Sitting}
+use Rattle.paris_desk.specs.Seats.{SeatState}
 use Rattle.paris_desk.specs.Calls.{Excused}
 
 -- a take that gave an order
@@ -31,19 +31,19 @@ Pairs (suc k) (taken ∷ []) = ⊥
 Pairs (suc k) (taken ∷ brought ∷ rs) = IsPair taken brought × Pairs k rs
 
 -- from a seat to the next there are these receipts more
-abbrev pub Gained : Sitting → Sitting → List Receipt → Type 0
+abbrev pub Gained : SeatState → SeatState → List Receipt → Type 0
 Gained s s' rs = (s'.number ≡ s.number) × (s'.receipts ≡ s.receipts ++ rs)
 
 -- from a seat to the next there are these receipts more, of entries behind those that it was told of. It was told of no fewer since, and
 -- its past has grown
-pub record Moves (s s' : Sitting) (rs : List Receipt) : Type 0 where
+pub record Moves (s s' : SeatState) (rs : List Receipt) : Type 0 where
   pub gained : Gained s s' rs
   pub begins : IsPrefix s.past s'.past
   pub front : s.front ≤ s'.front
   pub late : All (λ (r : Receipt). s.front < r.number) rs
 
 -- one turn of work: an order was run, or there was none
-abbrev pub Turn : Bool → Sitting → Sitting → Type 0
+abbrev pub Turn : Bool → SeatState → SeatState → Type 0
 Turn true s s' = (taken : Receipt) × (brought : Receipt) × IsPair taken brought × Moves s s' (taken ∷ brought ∷ [])
 Turn false s s' = (taken : Receipt) × GaveNone taken × Moves s s' (taken ∷ [])
 
@@ -56,7 +56,7 @@ abbrev pub Ends : ℕ → ℕ → List Receipt → Type 0
 Ends limit ran rs = ((ran ≡ limit) × (rs ≡ [])) ⊎ ((ran < limit) × ((taken : Receipt) × GaveNone taken × (rs ≡ taken ∷ [])))
 
 -- a seat has run so many orders, at most a limit, and fewer only where there was no more to run
-pub record Worked (limit ran : ℕ) (s s' : Sitting) : Type 0 where
+pub record Worked (limit ran : ℕ) (s s' : SeatState) : Type 0 where
   pub few : ran ≤ limit
   pub pairs : List Receipt
   pub last : List Receipt
@@ -65,7 +65,7 @@ pub record Worked (limit ran : ℕ) (s s' : Sitting) : Type 0 where
   pub moved : Moves s s' (pairs ++ last)
 
 -- a seat has run some orders, fewer than a limit, and then a call of it was not recorded, or memory for an execution was refused
-pub record Stopped (limit most : ℕ) (s s' : Sitting) (fault : Fault) : Type 0 where
+pub record Stopped (limit most : ℕ) (s s' : SeatState) (fault : Fault) : Type 0 where
   pub ran : ℕ
   pub few : ran < limit
   pub pairs : List Receipt

@@ -18,10 +18,10 @@ impl<L: Office> Desk<L> {
     /// Makes an edit. `StrangeSeat`, `HistoryFull` and `NoMemory` say that the call was not recorded, every other fault that the
     /// book refused the edit.
     pub fn edit<R: Wait>(&self, rt: &R, seat: &mut Seat<L>, edit: Edit) -> Result<EditReply, Fault>
-        ensures recorded { IfOk result (λ answer. Called seat.old seat.new (EventCase.Edit edit) (ReplyCase.Edit (Ok answer))) }
+        ensures recorded { IfOk result (λ answer. Called L.profile seat.old seat.new (EventCase.Edit edit) (ReplyCase.Edit (Ok answer))) }
         ensures refused { IfErr result (λ fault. MatchBool (is_unrecorded fault)
             (Unrecorded L.limit seat.old seat.new fault)
-            (Called seat.old seat.new (EventCase.Edit edit) (ReplyCase.Edit (Err fault)))) }
+            (Called L.profile seat.old seat.new (EventCase.Edit edit) (ReplyCase.Edit (Err fault)))) }
     {
         match self.call(rt, seat, Event::Edit(edit)) {
             Ok(Reply::Edit(answer)) => answer,
@@ -32,7 +32,7 @@ impl<L: Office> Desk<L> {
 
     /// Takes an order for the first row that is ready. `None` where no row is.
     pub fn take<R: Wait>(&self, rt: &R, seat: &mut Seat<L>) -> Result<Option<Order>, Fault>
-        ensures recorded { IfOk result (λ order. Called seat.old seat.new EventCase.Take (ReplyCase.Take order)) }
+        ensures recorded { IfOk result (λ order. Called L.profile seat.old seat.new EventCase.Take (ReplyCase.Take order)) }
         ensures unrecorded { IfErr result (λ fault. Unrecorded L.limit seat.old seat.new fault) }
     {
         match self.call(rt, seat, Event::Take) {
@@ -49,7 +49,7 @@ impl<L: Office> Desk<L> {
         seat: &mut Seat<L>,
         done: Done,
     ) -> Result<Verdict, (Done, Fault)>
-        ensures recorded { IfOk result (λ verdict. Called seat.old seat.new (EventCase.Bring done) (ReplyCase.Bring verdict)) }
+        ensures recorded { IfOk result (λ verdict. Called L.profile seat.old seat.new (EventCase.Bring done) (ReplyCase.Bring verdict)) }
         ensures unrecorded { IfErr result (λ e. (e.0 ≡ done) × Unrecorded L.limit seat.old seat.new e.1) }
     {
         match self.call(rt, seat, Event::Bring(done)) {
@@ -71,10 +71,10 @@ impl<L: Office> Desk<L> {
         name: KeyName,
         spot: Spot,
     ) -> Result<Shown, Fault>
-        ensures recorded { IfOk result (λ shown. Called seat.old seat.new (EventCase.Show name spot) (ReplyCase.Show (Ok shown))) }
+        ensures recorded { IfOk result (λ shown. Called L.profile seat.old seat.new (EventCase.Show name spot) (ReplyCase.Show (Ok shown))) }
         ensures refused { IfErr result (λ fault. MatchBool (is_unrecorded fault)
             (Unrecorded L.limit seat.old seat.new fault)
-            (Called seat.old seat.new (EventCase.Show name spot) (ReplyCase.Show (Err fault)))) }
+            (Called L.profile seat.old seat.new (EventCase.Show name spot) (ReplyCase.Show (Err fault)))) }
     {
         match self.call(rt, seat, Event::Show(name, spot)) {
             Ok(Reply::Show(answer)) => answer,
@@ -85,7 +85,7 @@ impl<L: Office> Desk<L> {
 
     /// Lists the rows of the program, in order.
     pub fn list<R: Wait>(&self, rt: &R, seat: &mut Seat<L>) -> Result<Items<RowLook>, Fault>
-        ensures recorded { IfOk result (λ looks. Called seat.old seat.new EventCase.List (ReplyCase.List looks)) }
+        ensures recorded { IfOk result (λ looks. Called L.profile seat.old seat.new EventCase.List (ReplyCase.List looks)) }
         ensures unrecorded { IfErr result (λ fault. Unrecorded L.limit seat.old seat.new fault) }
     {
         match self.call(rt, seat, Event::List) {
@@ -97,7 +97,7 @@ impl<L: Office> Desk<L> {
 
     /// Gives up the orders that are out.
     pub fn release<R: Wait>(&self, rt: &R, seat: &mut Seat<L>) -> Result<(), Fault>
-        ensures recorded { OnOk result (Called seat.old seat.new EventCase.Release ReplyCase.Release) }
+        ensures recorded { OnOk result (Called L.profile seat.old seat.new EventCase.Release ReplyCase.Release) }
         ensures unrecorded { IfErr result (λ fault. Unrecorded L.limit seat.old seat.new fault) }
     {
         match self.call(rt, seat, Event::Release) {

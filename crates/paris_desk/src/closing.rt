@@ -5,7 +5,7 @@ ghost use mathlib.Core.List.{IsPrefix};
 ghost use Rattle.std.specs.List.{sum_by};
 ghost use Rattle.std.specs.Arc.{arc_value};
 ghost use Rattle.paris_records.specs.History.{Legal, state_of};
-ghost use Rattle.paris_records.specs.Agreement.{Agree, list_of};
+ghost use Rattle.paris_records.specs.Agreement.{Agree, receipts_of_seat};
 ghost use Rattle.paris_records.specs.Receipts.{IsPart, receipts_in};
 ghost use Rattle.paris_desk.specs.Closing.{AreHere, AreWithin, Hinders, IsAhead, by_number, has_seat, is_unopened, past_of, receipts_of};
 
@@ -219,13 +219,13 @@ pub fn close<L: Office, R: Wait>(
     desk: Desk<L>,
     seats: Vec<Seat<L>>,
 ) -> Result<Closed, CloseFault<L>>
-    ensures legal { IfOk result (λ closed. Legal closed.history.items × (closed.book ≡ state_of closed.history.items)) }
+    ensures legal { IfOk result (λ closed. Legal L.profile closed.history.items × (closed.book ≡ state_of L.profile closed.history.items)) }
     ensures receipts { IfOk result (λ closed. map (λ r. r.items) closed.receipts.items ≡ by_number L.seats seats.items) }
     ensures count { IfOk result (λ closed. length closed.history.items ≡ sum_by length (by_number L.seats seats.items)) }
     ensures here { IfOk result (λ _. AreHere L.seats seats.items × (length seats.items ≡ L.seats)) }
     ensures begins { IfOk result (λ closed. (n : ℕ) → n < L.seats → IsPrefix (past_of n seats.items) closed.history.items) }
-    ensures each { IfOk result (λ closed. (n : ℕ) → list_of (map (λ r. r.items) closed.receipts.items) n ≡ receipts_in n 0 closed.history.items) }
-    ensures agree { IfOk result (λ closed. Agree closed.history.items (map (λ r. r.items) closed.receipts.items)) }
+    ensures each { IfOk result (λ closed. (n : ℕ) → receipts_of_seat (map (λ r. r.items) closed.receipts.items) n ≡ receipts_in n 0 closed.history.items) }
+    ensures agree { IfOk result (λ closed. Agree L.profile closed.history.items (map (λ r. r.items) closed.receipts.items)) }
     ensures cause { IfErr result (λ fault. Hinders L.seats seats.items fault.cause) }
     ensures back { IfErr result (λ fault. fault.seats ≡ seats) }
     ensures unopened { IfErr result (λ fault. is_unopened fault.cause ≡ true → fault.desk ≡ desk) }

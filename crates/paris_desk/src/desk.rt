@@ -2,6 +2,7 @@
 
 ghost use Rattle.std.specs.Prelude.{◌≡◌, ◌≤◌, [], drop, IfOk, IfErr};
 ghost use Rattle.std.specs.Arc.{arc_value};
+ghost use Rattle.paris_names.specs.declared.profiles.Profile.TheVariants.{One};
 ghost use Rattle.paris_records.specs.History.{state_of};
 ghost use Rattle.paris_records.specs.declared.limits.TheConstants.{MAX_HISTORY, MAX_SEATS};
 ghost use Rattle.paris_desk.specs.Rules.{posted};
@@ -16,7 +17,7 @@ use crate::publishing::{end, opened};
 use crate::seat::Seat;
 use paris_book::Book;
 use paris_machine::{Event, Reply};
-use paris_names::Fault;
+use paris_names::{Fault, Profile};
 use std::alloc::{AllocError, Global};
 use std::marker::PhantomData;
 use std::sync::ledger::Share;
@@ -63,8 +64,8 @@ fn seated<L: Office>(
 }
 
 impl<L: Office> Desk<L> {
-    /// A desk with an empty book, and its seats, numbered from 0 on. Its history has room for so many entries. The error says that
-    /// memory for the seats was refused.
+    /// A desk with an empty book of profile 1, and its seats, numbered from 0 on. Its history has room for so many entries. The error
+    /// says that memory for the seats was refused.
     pub fn new<R: Wait>(
         rt: &R,
         alloc: Global,
@@ -73,6 +74,26 @@ impl<L: Office> Desk<L> {
         limit: u64,
     ) -> Result<(Desk<L>, Vec<Seat<L>>), AllocError>
         requires opening { (opening.blank.name ≡ L.name) × (opening.blank.parts ≡ L.parts) × (opening.seen.book ≡ L.log) }
+        requires profile { One ≡ L.profile }
+        requires seats { (seats ≡ L.parts) × (seats ≡ L.seats) }
+        requires few { (1 ≤ seats) × (seats ≤ MAX_SEATS) }
+        requires limit { (limit ≡ L.limit) × (limit ≤ MAX_HISTORY) }
+        ensures { IfOk result (λ opened. opened.1.items ≡ fresh seats) }
+    {
+        Desk::with_profile(rt, alloc, opening, Profile::One, seats, limit)
+    }
+
+    /// The same with an empty book of a profile.
+    pub fn with_profile<R: Wait>(
+        rt: &R,
+        alloc: Global,
+        opening: Opening,
+        profile: Profile,
+        seats: u64,
+        limit: u64,
+    ) -> Result<(Desk<L>, Vec<Seat<L>>), AllocError>
+        requires opening { (opening.blank.name ≡ L.name) × (opening.blank.parts ≡ L.parts) × (opening.seen.book ≡ L.log) }
+        requires profile { profile ≡ L.profile }
         requires seats { (seats ≡ L.parts) × (seats ≡ L.seats) }
         requires few { (1 ≤ seats) × (seats ≤ MAX_SEATS) }
         requires limit { (limit ≡ L.limit) × (limit ≤ MAX_HISTORY) }
@@ -80,7 +101,7 @@ impl<L: Office> Desk<L> {
     {
         let (blank, head, known) = opening.named::<L>();
         let (tally, mut rest) = blank.open::<L>();
-        let book = Arc::new(alloc, Book::new(alloc))?;
+        let book = Arc::new(alloc, Book::with_profile(alloc, profile))?;
         let writer = opened(rt, alloc, &book, &known, seats)?;
         let all = match seated(alloc, seats, &mut rest, &known, &writer) {
             Ok(all) => all,
@@ -106,7 +127,7 @@ impl<L: Office> Desk<L> {
         seat: &mut Seat<L>,
         event: Event,
     ) -> Result<Reply, (Event, Fault)>
-        ensures recorded { IfOk result (λ reply. Called seat.old seat.new event reply) }
+        ensures recorded { IfOk result (λ reply. Called L.profile seat.old seat.new event reply) }
         ensures unrecorded { IfErr result (λ e. (e.0 ≡ event) × Unrecorded L.limit seat.old seat.new e.1) }
     {
         let mut guard = self.lock.lock(rt);

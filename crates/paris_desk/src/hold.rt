@@ -49,15 +49,15 @@ impl<L: Office> Model for Locked<L> {
 
     ghost view = { λ k. k.history.items };
 
-    ghost invariant = { λ k. Legal k.history.items
-        × (arc_value k.book ≡ state_of k.history.items)
+    ghost invariant = { λ k. Legal L.profile k.history.items
+        × (arc_value k.book ≡ state_of L.profile k.history.items)
         × (k.tally.total ≡ length k.history.items)
         × (length k.history.items ≤ L.limit)
         × (k.limit ≡ L.limit)
         × (k.rest.parts ≡ 0)
         × (k.rest.amount ≡ 0)
         × (k.known ≡ k.history.items)
-        × IsSomeAnd k.writer (λ w. (w.desk.shown.value ≡ posted L.log k.history.items) × (drop w.behind w.log.items ≡ [])) };
+        × IsSomeAnd k.writer (λ w. (w.desk.shown.value ≡ posted L.profile L.log k.history.items) × (drop w.behind w.log.items ≡ [])) };
 }
 
 impl<L: Office> Locked<L> {
@@ -71,10 +71,10 @@ impl<L: Office> Locked<L> {
         writer: DeskWriter<L>,
     ) -> Locked<L>
         requires limit { limit ≡ L.limit }
-        requires empty { (arc_value book ≡ state_of []) × (history.items ≡ []) }
+        requires empty { (arc_value book ≡ state_of L.profile []) × (history.items ≡ []) }
         requires ledger { (ledger.0.total ≡ 0) × (ledger.1.parts ≡ 0) × (ledger.1.amount ≡ 0) }
         requires known { log.1 ≡ [] }
-        requires shown { (writer.desk.shown.value ≡ posted L.log []) × (drop writer.behind writer.log.items ≡ []) }
+        requires shown { (writer.desk.shown.value ≡ posted L.profile L.log []) × (drop writer.behind writer.log.items ≡ []) }
         ensures { result ≡ [] }
     {
         let (tally, rest) = ledger;
@@ -116,7 +116,7 @@ impl<L: Office> Locked<L> {
         seat: &mut Seat<L>,
         event: Event,
     ) -> Result<Reply, (Event, Fault)>
-        ensures recorded { IfOk result (λ reply. Recorded L.limit self.old self.new seat.old seat.new event reply) }
+        ensures recorded { IfOk result (λ reply. Recorded L.profile L.limit self.old self.new seat.old seat.new event reply) }
         ensures refused { IfErr result (λ e. IsFaultOf (hold_fault L.limit (length self.old) seat.old.front) e.1) }
         ensures event { IfErr result (λ e. e.0 ≡ event) }
         ensures same { IfErr result (λ e. (self.new ≡ self.old) × (seat.new ≡ seat.old)) }

@@ -11,7 +11,7 @@ use logbook::{Gain, Offer, Plain, Play, Rule, Seen, Word};
 use paris_records::Entry;
 use std::marker::{Model, PhantomData};
 
-/// The rule of the log: its first word is the number of its entries, and they are a legal history.
+/// The rule of the log: its first word is the number of its entries, of which it says no more.
 pub struct Law;
 
 impl Rule<Entry, u64> for Law {
@@ -83,14 +83,14 @@ impl<L: Office> Model for Known<L> {
 
     ghost view = { λ k. k.seen.log };
 
-    ghost invariant = { λ k. (k.count ≡ length k.seen.log) × (k.seen.book ≡ L.log) × Legal k.seen.log };
+    ghost invariant = { λ k. (k.count ≡ length k.seen.log) × (k.seen.book ≡ L.log) × Legal L.profile k.seen.log };
 }
 
 impl<L: Office> Known<L> {
     /// How many entries it has.
     pub fn len(&self) -> u64
         ensures count { result ≡ length self.now }
-        ensures legal { Legal self.now }
+        ensures legal { Legal L.profile self.now }
     {
         self.count
     }
@@ -118,7 +118,7 @@ impl<L: Office> Known<L> {
     /// Adds an entry behind all that is known, where that is the whole history. `None` where it isn't.
     pub(crate) fn add(&self, head: &Head<L>, entry: &Entry) -> Option<Known<L>>
         requires room { length self.now < 2 ^ 62 }
-        requires legal { MayFollow self.now entry.now }
+        requires legal { MayFollow L.profile self.now entry.now }
         ensures { IfSome result (λ known. known ≡ self.now ++ entry.now ∷ []) }
     {
         let mut seen = self.seen.again();

@@ -9,7 +9,7 @@ use paris_events::Edit;
 use paris_machine::{Event, Reply};
 use paris_names::{KeyName, Spot};
 use paris_records::copy_of_reply;
-use std::alloc::{AllocError, Global};
+use std::alloc::AllocError;
 
 /// A reply for the caller, for the entry and for the receipt.
 #[derive(Drop)]
@@ -20,12 +20,12 @@ pub(crate) struct Replies {
 }
 
 /// A reply three times.
-fn thrice(alloc: Global, reply: Reply) -> Result<Replies, AllocError>
+fn thrice(reply: Reply) -> Result<Replies, AllocError>
     ensures given { IfOk result (λ replies. replies.given ≡ reply) }
     ensures kept { IfOk result (λ replies. (replies.entry ≡ reply) × (replies.receipt ≡ reply)) }
 {
-    let entry = copy_of_reply(alloc, &reply)?;
-    let receipt = copy_of_reply(alloc, &reply)?;
+    let entry = copy_of_reply(&reply)?;
+    let receipt = copy_of_reply(&reply)?;
     Ok(Replies {
         given: reply,
         entry,
@@ -54,14 +54,14 @@ fn make_edit(book: &mut Book, edit: Edit) -> Result<Replies, (Event, AllocError)
 }
 
 /// Takes an order. It is copied first, and the book is changed where there is memory for all.
-fn make_take(alloc: Global, book: &mut Book) -> Result<Replies, AllocError>
+fn make_take(book: &mut Book) -> Result<Replies, AllocError>
     ensures given { IfOk result (λ replies. replies.given ≡ reply_to book.old EventCase.Take) }
     ensures kept { IfOk result (λ replies. (replies.entry ≡ replies.given) × (replies.receipt ≡ replies.given)) }
     ensures state { OnOk result (book.new ≡ after book.old EventCase.Take) }
     ensures err { OnErr result (book.new ≡ book.old) }
 {
     let entry = Reply::Take(book.peek()?);
-    let receipt = copy_of_reply(alloc, &entry)?;
+    let receipt = copy_of_reply(&entry)?;
     let given = Reply::Take(book.take()?);
     Ok(Replies {
         given,
@@ -71,37 +71,28 @@ fn make_take(alloc: Global, book: &mut Book) -> Result<Replies, AllocError>
 }
 
 /// Looks at a key.
-fn make_show(
-    alloc: Global,
-    book: &mut Book,
-    name: &KeyName,
-    spot: &Spot,
-) -> Result<Replies, AllocError>
+fn make_show(book: &mut Book, name: &KeyName, spot: &Spot) -> Result<Replies, AllocError>
     ensures given { IfOk result (λ replies. replies.given ≡ reply_to book.old (EventCase.Show name.now spot.now)) }
     ensures kept { IfOk result (λ replies. (replies.entry ≡ replies.given) × (replies.receipt ≡ replies.given)) }
     ensures state { book.new ≡ book.old }
 {
     match book.step(Event::Show(*name, *spot)) {
-        Ok(reply) => thrice(alloc, reply),
+        Ok(reply) => thrice(reply),
         Err((_, refused)) => Err(refused),
     }
 }
 
 /// Looks at the rows.
-fn make_list(alloc: Global, book: &Book) -> Result<Replies, AllocError>
+fn make_list(book: &Book) -> Result<Replies, AllocError>
     ensures given { IfOk result (λ replies. replies.given ≡ reply_to book.now EventCase.List) }
     ensures kept { IfOk result (λ replies. (replies.entry ≡ replies.given) × (replies.receipt ≡ replies.given)) }
 {
     let looks = book.list()?;
-    thrice(alloc, Reply::List(looks))
+    thrice(Reply::List(looks))
 }
 
 /// Makes an event. At an error the event comes back, and the book is as it was.
-pub(crate) fn make(
-    alloc: Global,
-    book: &mut Book,
-    event: Event,
-) -> Result<Replies, (Event, AllocError)>
+pub(crate) fn make(book: &mut Book, event: Event) -> Result<Replies, (Event, AllocError)>
     ensures given { IfOk result (λ replies. replies.given ≡ reply_to book.old event) }
     ensures kept { IfOk result (λ replies. (replies.entry ≡ replies.given) × (replies.receipt ≡ replies.given)) }
     ensures state { OnOk result (book.new ≡ after book.old event) }
@@ -109,7 +100,7 @@ pub(crate) fn make(
 {
     match event {
         Event::Edit(edit) => make_edit(book, edit),
-        Event::Take => match make_take(alloc, book) {
+        Event::Take => match make_take(book) {
             Ok(replies) => Ok(replies),
             Err(refused) => Err((Event::Take, refused)),
         },
@@ -129,11 +120,11 @@ pub(crate) fn make(
                 receipt: Reply::Release,
             })
         }
-        Event::Show(name, spot) => match make_show(alloc, book, &name, &spot) {
+        Event::Show(name, spot) => match make_show(book, &name, &spot) {
             Ok(replies) => Ok(replies),
             Err(refused) => Err((Event::Show(name, spot), refused)),
         },
-        Event::List => match make_list(alloc, book) {
+        Event::List => match make_list(book) {
             Ok(replies) => Ok(replies),
             Err(refused) => Err((Event::List, refused)),
         },

@@ -13,6 +13,7 @@ use std::sync::ledger::{Blank, Ledger};
 pub trait Office: Ledger {
     ghost use Rattle.std.specs.Prelude.{ℕ};
     ghost use Rattle.logbook.specs.Pages.{Book};
+    ghost use Rattle.paris_names.specs.declared.profiles.Profile.{Profile};
 
     /// How many seats there are.
     ghost seats: { ℕ };
@@ -20,14 +21,21 @@ pub trait Office: Ledger {
     /// The most entries of the history.
     ghost limit: { ℕ };
 
+    /// The profile of the book.
+    ghost profile: { Profile };
+
     /// The log of which the history is.
     ghost log: { Book };
 }
 
 impl Office for Brand {
+    ghost use Rattle.paris_names.specs.declared.profiles.Profile.TheVariants.{One};
+
     ghost seats = { 0 };
 
     ghost limit = { 0 };
+
+    ghost profile = { One };
 
     ghost log = { record { number = 0; log_name = 0; cells_name = 0 } };
 }

@@ -2,7 +2,7 @@
 
 ghost use Rattle.std.specs.Prelude.{◌≡◌, ◌≤◌, max, length};
 ghost use Rattle.paris_desk.specs.Pasts.{Joined};
-ghost use Rattle.paris_desk.specs.Seats.{Sitting, sitting};
+ghost use Rattle.paris_desk.specs.Seats.{SeatState, sitting};
 
 use crate::log::Known;
 use crate::office::Office;
@@ -33,9 +33,9 @@ pub struct Rest<L: Office> {
 impl<L: Office> Model for Rest<L> {
     ghost use Rattle.std.specs.Prelude.{◌≡◌, ◌≤◌, length};
     ghost use Rattle.paris_records.specs.Receipts.{IsPart};
-    ghost use Rattle.paris_desk.specs.Seats.{Sitting, sitting};
+    ghost use Rattle.paris_desk.specs.Seats.{SeatState, sitting};
 
-    ghost Value = { Sitting };
+    ghost Value = { SeatState };
 
     ghost view = { λ s. sitting s.number s.receipts.items s.front s.known };
 

@@ -45,11 +45,11 @@ impl Prepared {
 }
 
 /// Two copies of an event.
-fn two_copies(alloc: Global, event: &Event) -> Result<(Event, Event), AllocError>
+fn two_copies(event: &Event) -> Result<(Event, Event), AllocError>
     ensures { IfOk result (λ copies. (copies.0 ≡ event.now) × (copies.1 ≡ event.now)) }
 {
-    let first = copy_of_event(alloc, event)?;
-    let second = copy_of_event(alloc, event)?;
+    let first = copy_of_event(event)?;
+    let second = copy_of_event(event)?;
     Ok((first, second))
 }
 
@@ -93,13 +93,13 @@ pub(crate) fn prepare(
     ensures receipt { IfOk result (λ made. made.receipt ≡ receipt seat number event (reply_to book.now event)) }
     ensures back { IfErr result (λ back. back ≡ event) }
 {
-    let Ok((first, second)) = two_copies(alloc, &event) else {
+    let Ok((first, second)) = two_copies(&event) else {
         return Err(event);
     };
     let Ok(mut next) = book.snapshot() else {
         return Err(event);
     };
-    let replies = match make(alloc, &mut next, event) {
+    let replies = match make(&mut next, event) {
         Ok(replies) => replies,
         Err((event, _)) => return Err(event),
     };

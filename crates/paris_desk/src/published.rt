@@ -2,7 +2,7 @@
 
 ghost use Rattle.std.specs.Prelude.{◌≡◌, IfOk};
 ghost use Rattle.std.specs.Arc.{arc_value};
-ghost use Rattle.paris_records.specs.History.{state_of};
+ghost use Rattle.paris_records.specs.History.{Legal, state_of};
 ghost use Rattle.paris_desk.specs.Rules.{posted};
 
 use crate::log::{Known, Law};
@@ -19,7 +19,8 @@ use std::collections::LinkedList;
 use std::marker::{Model, PhantomData};
 use std::sync::Arc;
 
-/// A book, and the beginning of a log that led to it. Its type doesn't name the desk; a clause sees the log and its entries.
+/// A book, and the beginning of a log that led to it. Its type doesn't name the desk; a clause sees the log, its entries, and the
+/// book's state.
 #[derive(Drop)]
 pub struct Published {
     book: Arc<Book, Global>,
@@ -30,21 +31,21 @@ pub struct Published {
 impl Model for Published {
     ghost use Rattle.std.specs.Prelude.{◌≡◌, length};
     ghost use Rattle.std.specs.Arc.{arc_value};
-    ghost use Rattle.paris_records.specs.History.{Legal, state_of};
-    ghost use Rattle.paris_desk.specs.Rules.{Posted, posted};
+    ghost use Rattle.paris_desk.specs.Rules.{Posted};
 
     ghost Value = { Posted };
 
-    ghost view = { λ p. posted p.seen.book p.seen.log };
+    ghost view = { λ p. record { log = p.seen.book; history = p.seen.log; state = arc_value p.book } };
 
-    ghost invariant = { λ p. (arc_value p.book ≡ state_of p.seen.log) × (p.count ≡ length p.seen.log) × Legal p.seen.log };
+    ghost invariant = { λ p. p.count ≡ length p.seen.log };
 }
 
 impl Published {
     /// A book with the history that led to it.
     pub(crate) fn new<L: Office>(book: Arc<Book, Global>, known: Known<L>) -> Published
-        requires { arc_value book ≡ state_of known }
-        ensures { result ≡ posted L.log known }
+        requires { arc_value book ≡ state_of L.profile known }
+        ensures shown { result ≡ posted L.profile L.log known }
+        ensures legal { Legal L.profile known }
     {
         let Known { count, seen, of: _ } = known;
         Published { book, count, seen }
@@ -63,7 +64,8 @@ impl Published {
 
     /// The history that led to the book.
     pub fn past<L: Office>(&self) -> Known<L>
-        requires { self.now.log ≡ L.log }
+        requires log { self.now.log ≡ L.log }
+        requires legal { Legal L.profile self.now.history }
         ensures { result ≡ self.now.history }
     {
         Known {
@@ -75,7 +77,7 @@ impl Published {
 
     /// The book.
     pub fn book(&self) -> &Book
-        ensures { result.now ≡ state_of self.now.history }
+        ensures { result.now ≡ self.now.state }
     {
         &self.book
     }
@@ -104,7 +106,8 @@ pub struct Saw {
     pub past: LinkedList<Entry>,
 }
 
-/// The rule of what is published: it is of the desk's log, and begins with what each reader saw.
+/// The rule of what is published: it is of the desk's log, its history is legal in the desk's profile and leads to the book, and it
+/// begins with what each reader saw.
 pub struct OneLog<L> {
     of: PhantomData<L>,
 }
@@ -113,7 +116,7 @@ impl<L: Office> Protocol<Published, Saw> for OneLog<L> {
     ghost use Rattle.paris_desk.specs.Pasts.{Holds, saw};
     ghost use Rattle.std.specs.Prelude.{[]};
 
-    ghost holds = { Holds L.log };
+    ghost holds = { Holds L.profile L.log };
 
     ghost first = { saw [] };
 }
@@ -121,7 +124,7 @@ impl<L: Office> Protocol<Published, Saw> for OneLog<L> {
 impl<L: Office> Outcome<Published, Saw> for OneLog<L> {
     ghost use Rattle.paris_desk.specs.Pasts.{Sees};
 
-    ghost then = { Sees L.log };
+    ghost then = { Sees L.profile L.log };
 }
 
 /// Who looks.

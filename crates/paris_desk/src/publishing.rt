@@ -4,7 +4,7 @@ ghost use Rattle.std.specs.Prelude.{◌≡◌, ◌≤◌, ◌++◌, [], ◌∷�
 ghost use mathlib.Core.List.{IsPrefix};
 ghost use Rattle.std.specs.Arc.{arc_value};
 ghost use Rattle.paris_records.specs.History.{state_of};
-ghost use Rattle.paris_desk.specs.Rules.{Posted, posted};
+ghost use Rattle.paris_desk.specs.Rules.{IsSound, Posted, posted};
 
 use crate::log::Known;
 use crate::office::Office;
@@ -15,7 +15,7 @@ use std::sync::{Arc, Wait};
 
 /// Publishes what was appended. It goes on until that is done; only a book with too many owners could refuse it.
 fn publish_pending<L: Office, R: Wait>(rt: &R, start: DeskWriter<L>) -> DeskWriter<L>
-    requires { let next : Posted = fold (λ _ o. o) start.desk.shown.value (drop start.behind start.log.items) in (next.log ≡ L.log) × IsPrefix start.desk.shown.value.history next.history }
+    requires { let next : Posted = fold (λ _ o. o) start.desk.shown.value (drop start.behind start.log.items) in (next.log ≡ L.log) × IsPrefix start.desk.shown.value.history next.history × IsSound L.profile next }
     ensures shown { result.desk.shown.value ≡ fold (λ _ o. o) start.desk.shown.value (drop start.behind start.log.items) }
     ensures pending { drop result.behind result.log.items ≡ [] }
 {
@@ -37,7 +37,7 @@ pub(crate) fn publish<L: Office, R: Wait>(
     next: Published,
 ) -> DeskWriter<L>
     requires writer { drop start.behind start.log.items ≡ [] }
-    requires shown { (next.log ≡ L.log) × IsPrefix start.desk.shown.value.history next.history }
+    requires shown { (next.log ≡ L.log) × IsPrefix start.desk.shown.value.history next.history × IsSound L.profile next }
     ensures { (result.desk.shown.value ≡ next) × (drop result.behind result.log.items ≡ []) }
 {
     let (mut writer, mut shown) = (start, next);
@@ -67,7 +67,7 @@ fn publish_again<L: Office, R: Wait>(
     rt: &R,
     start: DeskWriter<L>,
 ) -> Result<DeskWriter<L>, AllocError>
-    requires log { start.desk.shown.value.log ≡ L.log }
+    requires shown { (start.desk.shown.value.log ≡ L.log) × IsSound L.profile start.desk.shown.value }
     requires writer { drop start.behind start.log.items ≡ [] }
     ensures { IfOk result (λ w. (w.desk.shown.value ≡ start.desk.shown.value) × (drop w.behind w.log.items ≡ [])) }
 {
@@ -90,9 +90,9 @@ pub(crate) fn opened<L: Office, R: Wait>(
     known: &Known<L>,
     readers: u64,
 ) -> Result<DeskWriter<L>, AllocError>
-    requires empty { (known.now ≡ []) × (arc_value book.now ≡ state_of []) }
+    requires empty { (known.now ≡ []) × (arc_value book.now ≡ state_of L.profile []) }
     requires few { (1 ≤ readers) × (readers ≤ 16) }
-    ensures { IfOk result (λ w. (w.desk.shown.value ≡ posted L.log []) × (drop w.behind w.log.items ≡ [])) }
+    ensures { IfOk result (λ w. (w.desk.shown.value ≡ posted L.profile L.log []) × (drop w.behind w.log.items ≡ [])) }
 {
     let first = Published::new::<L>(Arc::try_clone(book)?, known.again());
     let second = first.again()?;

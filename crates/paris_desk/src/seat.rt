@@ -1,7 +1,7 @@
 //! Seats: who calls a desk, and what each keeps of its calls.
 
 ghost use Rattle.std.specs.Prelude.{◌≡◌, ◌≤◌, max, [], length};
-ghost use Rattle.paris_desk.specs.Seats.{Sitting, sitting};
+ghost use Rattle.paris_desk.specs.Seats.{SeatState, sitting};
 ghost use Rattle.paris_desk.specs.Pasts.{Learned};
 
 use crate::log::Known;
@@ -26,9 +26,9 @@ pub struct Seat<L: Office> {
 impl<L: Office> Model for Seat<L> {
     ghost use Rattle.std.specs.Prelude.{◌≡◌, ◌≤◌, length};
     ghost use Rattle.paris_records.specs.Receipts.{IsPart};
-    ghost use Rattle.paris_desk.specs.Seats.{Sitting, sitting};
+    ghost use Rattle.paris_desk.specs.Seats.{SeatState, sitting};
 
-    ghost Value = { Sitting };
+    ghost Value = { SeatState };
 
     ghost view = { λ s. sitting s.number s.receipts.items s.front s.known };
 
@@ -93,7 +93,7 @@ impl<L: Office> Seat<L> {
     /// Tells the seat of all that another one knows of the history. Its calls are recorded behind that, or not at all, and what it
     /// looks at has it.
     pub fn learn_from(&mut self, other: &Seat<L>)
-        ensures { Learned self.old other.now self.new }
+        ensures { Learned L.profile self.old other.now self.new }
     {
         self.known.compare(&other.known);
         other.known.compare(&self.known);

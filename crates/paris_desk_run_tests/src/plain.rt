@@ -8,6 +8,7 @@ use paris_geometry::Geometry;
 use paris_instr::{Plan, resolve};
 use paris_model::{Instr, Refusal};
 use paris_names::FlagName::{Carry, Context, Overflow, Test};
+use paris_names::limits::MAX_WIDTH_OF_ONE;
 use paris_names::{Fault, Items, Key, KeyName, Name, RowId, Spot};
 use paris_plain::{Inputs, flags_are_bits, outcome};
 use std::alloc::{AllocError, Global};
@@ -98,6 +99,7 @@ fn left_by(
 ) -> Result<Result<Items<Items<u128>>, Refusal>, AllocError> {
     let inputs = inputs_of(rt, alloc, keys, world, plan)?;
     let action = plan.action();
+    assert!(rt; plan.is_within(MAX_WIDTH_OF_ONE));
     outcome(alloc, &inputs, &action, plan.writes())
 }
 
@@ -149,10 +151,18 @@ fn list_at<'a>(keys: &[Key], lists: &'a [Items<u128>], key: Key) -> Option<&'a [
     }
 }
 
-/// Where the first number stands that isn't below a bound.
-fn first_wide(values: &[u128], bound: u128) -> Option<u64> {
+/// Whether a number has a bit above so many.
+fn is_wide(value: u128, bits: u32) -> bool {
+    match value.checked_shr(bits) {
+        Some(above) => above != 0,
+        None => false,
+    }
+}
+
+/// Where the first number stands that has a bit above so many.
+fn first_wide(values: &[u128], bits: u32) -> Option<u64> {
     for (place, value) in values.iter().enumerate() {
-        if *value >= bound {
+        if is_wide(*value, bits) {
             return Some(place as u64);
         }
     }
@@ -215,7 +225,7 @@ impl Plain {
         if values.is_empty() || end > list.len() as u64 {
             return Err(Fault::WrongCount);
         }
-        if let Some(wide) = first_wide(values, 1u128 << width) {
+        if let Some(wide) = first_wide(values, width as u32) {
             return Err(Fault::TooWide(from.saturating_add(wide)));
         }
         let new = overwritten(self.alloc, list, from, values)?;

@@ -1,6 +1,7 @@
 //! Runs of random sessions in threads: at the end of each the desk is closed and audited, and its history is told again.
 
 ghost use Rattle.std.specs.Prelude.{◌≡◌, ◌≤◌};
+ghost use Rattle.paris_names.specs.declared.profiles.Profile.TheVariants.{One};
 ghost use Rattle.paris_records.specs.declared.limits.TheConstants.{MAX_HISTORY, MAX_SEATS};
 
 use crate::dice::Dice;
@@ -317,6 +318,7 @@ fn opens<L: Office + Send + Sync, R: Abort + Threads + Wait + Clock + Sync>(
     run: Run,
 ) -> Result<(Closed, Vec<Entry>), AllocError>
     requires opening { (opening.blank.name ≡ L.name) × (opening.blank.parts ≡ L.parts) × (opening.seen.book ≡ L.log) }
+    requires profile { One ≡ L.profile }
     requires seats { (run.seats ≡ L.parts) × (run.seats ≡ L.seats) }
     requires few { (1 ≤ run.seats) × (run.seats ≤ MAX_SEATS) }
     requires limit { (limit ≡ L.limit) × (limit ≤ MAX_HISTORY) }

@@ -3,17 +3,17 @@
 ghost use Rattle.std.specs.Prelude.{◌≡◌, ◌≤◌};
 ghost use Rattle.paris_records.specs.declared.limits.TheConstants.{MAX_HISTORY, MAX_SEATS};
 
-use crate::endings::Ending::{Closes, IsDiscarded, IsSpoilt, Misses};
+use crate::endings::Ending::{Closes, ClosesInTwo, IsDiscarded, IsSpoilt, Misses};
 use crate::endings::Spoil::*;
 use crate::endings::{Ending, ends};
 use crate::spellings::Text;
-use crate::steps::Change::{Delete, Field, Input, Set};
+use crate::steps::Change::{Delete, Field, FieldOf, Input, Set};
 use crate::steps::Step::*;
 use crate::steps::{Step, plays};
 use paris_desk::{Desk, Office, Opening, Seat};
 use paris_events::Verdict::{Kept, Stale};
 use paris_names::Spot::{After, End};
-use paris_names::{Edition, Fault, RowId};
+use paris_names::{Edition, Fault, Profile, RowId};
 use std::alloc::Global;
 use std::marker::Brand;
 use std::process::Abort;
@@ -21,6 +21,14 @@ use std::sync::Wait;
 use std::thread::{Threads, join};
 
 const SUM: Text = b"u-add-3-1L c a b 8";
+
+/// 2 to the power of 64.
+const LOW: u128 = 18_446_744_073_709_551_616;
+
+/// 2 to the power of 127.
+const HIGH: u128 = 170_141_183_460_469_231_731_687_303_715_884_105_728;
+
+const LOW_AND_HIGH: u128 = 170_141_183_460_469_231_750_134_047_789_593_657_344;
 
 /// What the seats of a desk do.
 #[derive(Clone, Copy)]
@@ -94,16 +102,18 @@ fn opens<L: Office + Send + Sync, R: Abort + Threads + Wait + Sync>(
     rt: &R,
     alloc: Global,
     opening: Opening,
+    profile: Profile,
     size: (u64, u64),
     script: Script,
     ending: Ending,
 ) -> Result<bool, Fault>
     requires opening { (opening.blank.name ≡ L.name) × (opening.blank.parts ≡ L.parts) × (opening.seen.book ≡ L.log) }
+    requires profile { profile ≡ L.profile }
     requires seats { (size.0 ≡ L.parts) × (size.0 ≡ L.seats) }
     requires few { (1 ≤ size.0) × (size.0 ≤ MAX_SEATS) }
     requires limit { (size.1 ≡ L.limit) × (size.1 ≤ MAX_HISTORY) }
 {
-    let (desk, mut seats) = Desk::<L>::new(rt, alloc, opening, size.0, size.1)?;
+    let (desk, mut seats) = Desk::<L>::with_profile(rt, alloc, opening, profile, size.0, size.1)?;
     match follows(rt, alloc, &desk, &mut seats, script) {
         Ok(()) => ends(rt, alloc, desk, seats, ending),
         Err(fault) => {
@@ -113,7 +123,26 @@ fn opens<L: Office + Send + Sync, R: Abort + Threads + Wait + Sync>(
     }
 }
 
-/// At a desk of so many seats, whose history has room for so many entries, a script is followed, and then the desk is ended.
+/// At a desk of a profile with so many seats, whose history has room for so many entries, a script is followed, and then the desk is
+/// ended.
+fn tries_in<R: Abort + Threads + Wait + Sync>(
+    rt: &R,
+    alloc: Global,
+    profile: Profile,
+    size: (u64, u64),
+    script: Script,
+    ending: Ending,
+) -> Result<(), Fault>
+    requires few { (1 ≤ size.0) × (size.0 ≤ MAX_SEATS) }
+    requires limit { size.1 ≤ MAX_HISTORY }
+{
+    let opening = Opening::new(size.0);
+    let is_ended = opens::<Brand, R>(rt, alloc, opening, profile, size, script, ending)?;
+    assert!(rt; is_ended);
+    Ok(())
+}
+
+/// The same at a desk of profile 1.
 fn tries<R: Abort + Threads + Wait + Sync>(
     rt: &R,
     alloc: Global,
@@ -124,10 +153,7 @@ fn tries<R: Abort + Threads + Wait + Sync>(
     requires few { (1 ≤ size.0) × (size.0 ≤ MAX_SEATS) }
     requires limit { size.1 ≤ MAX_HISTORY }
 {
-    let opening = Opening::new(size.0);
-    let is_ended = opens::<Brand, R>(rt, alloc, opening, size, script, ending)?;
-    assert!(rt; is_ended);
-    Ok(())
+    tries_in(rt, alloc, Profile::One, size, script, ending)
 }
 
 #[test]
@@ -181,6 +207,41 @@ fn a_desk_is_closed_with_its_last_seat(rt: HostRuntime) -> Result<(), Fault> {
 fn the_least_missing_seat_is_told(rt: HostRuntime) -> Result<(), Fault> {
     let script = Script::Plays(TWO_SEATS);
     tries(&rt, rt.alloc(), (2, 100), script, Misses(0, &[9, 3]))
+}
+
+#[test]
+fn two_seats_in_profile_two(rt: HostRuntime) -> Result<(), Fault> {
+    const STEPS: &[(usize, Step)] = &[
+        (0, Accepts(Set(&[4]))),
+        (0, Refuses(FieldOf(b"a", 129), Fault::BadWidth)),
+        (0, Accepts(FieldOf(b"a", 128))),
+        (0, Accepts(FieldOf(b"b", 128))),
+        (0, Accepts(FieldOf(b"c", 128))),
+        (0, Accepts(Input(b"a", &[10, LOW, 30, u128::MAX]))),
+        (0, Accepts(Input(b"b", &[1, HIGH, 3, 5]))),
+        (0, Inserts(b"u-add-3-1L c a b 128", 1)),
+        (0, Inserts(SUM, 2)),
+        (0, Lists(&[1, 2])),
+        (1, Takes(1, 7)),
+        (1, Brings(0, Kept)),
+        (1, Shows(b"c", After(RowId(1)), &[11, LOW_AND_HIGH, 33, 4])),
+        (0, Has(10, 10)),
+        (1, Has(3, 13)),
+    ];
+    let script = Script::Plays(STEPS);
+    let ending = ClosesInTwo(&[10, 3]);
+    tries_in(&rt, rt.alloc(), Profile::Two, (2, 100), script, ending)
+}
+
+#[test]
+fn a_wide_field_is_refused_in_profile_one(rt: HostRuntime) -> Result<(), Fault> {
+    const STEPS: &[(usize, Step)] = &[
+        (0, Accepts(Set(&[4]))),
+        (0, Refuses(FieldOf(b"a", 65), Fault::BadWidth)),
+        (0, Accepts(FieldOf(b"a", 64))),
+    ];
+    let script = Script::Plays(STEPS);
+    tries(&rt, rt.alloc(), (1, 100), script, Closes(&[3]))
 }
 
 #[test]

@@ -1,9 +1,9 @@
 //! How desks are ended, and what is left of them.
 
-use paris_audit::audit;
+use paris_audit::{audit, audit_with};
 use paris_desk::{Cause, CloseFault, Closed, Desk, Office, Receipt, Seat, close};
 use paris_machine::{Event, Reply};
-use paris_names::Fault;
+use paris_names::{Fault, Profile};
 use std::alloc::Global;
 use std::process::Abort;
 use std::sync::Wait;
@@ -40,6 +40,8 @@ pub(crate) enum Ending {
     IsDiscarded,
     /// It is closed. The seats have so many receipts, by number, and history and receipts agree.
     Closes(&'static [usize]),
+    /// It is closed, and so it is with its history and receipts in profile 2, in which they agree. In profile 1 they don't.
+    ClosesInTwo(&'static [usize]),
     /// It isn't closed without the seat at this place, which has this number, and then it is.
     Misses(usize, &'static [usize]),
     /// It is closed, and what is left is changed.
@@ -115,6 +117,13 @@ fn agrees(alloc: Global, closed: &Closed, counts: &[usize]) -> Result<bool, Faul
     Ok(is_agreed(alloc, closed)? && has_counts(closed, counts))
 }
 
+/// Whether the lists have so many receipts, and agree with the history in profile 2 and not in profile 1.
+fn agrees_in_two(alloc: Global, closed: &Closed, counts: &[usize]) -> Result<bool, Fault> {
+    let is_so = audit_with(alloc, Profile::Two, &closed.history, &closed.receipts)?;
+    let is_so_in_one = audit_with(alloc, Profile::One, &closed.history, &closed.receipts)?;
+    Ok(is_so && !is_so_in_one && !is_agreed(alloc, closed)? && has_counts(closed, counts))
+}
+
 /// The last seat's last receipt.
 fn last_receipt<'a>(rt: &impl Abort, closed: &'a mut Closed) -> &'a mut Receipt {
     let list = closed.receipts.last_mut().expect(rt, "there is a list");
@@ -184,6 +193,7 @@ pub(crate) fn ends<L: Office>(
             Ok(true)
         }
         Ending::Closes(counts) => agrees(alloc, &left_of(rt, desk, seats), counts),
+        Ending::ClosesInTwo(counts) => agrees_in_two(alloc, &left_of(rt, desk, seats), counts),
         Ending::Misses(place, counts) => {
             agrees(alloc, &left_at_last(rt, desk, seats, place), counts)
         }

@@ -10,13 +10,15 @@ use std::alloc::{AllocError, Global};
 use std::process::Abort;
 use std::sync::Wait;
 
-/// An edit, as a table has it. Its set is `S`, and its fields have width 8.
+/// An edit, as a table has it. Its set is `S`, and where it has no width its fields have width 8.
 #[derive(Clone, Copy)]
 pub(crate) enum Change {
     /// The set is declared, with axes of these lengths.
     Set(&'static [u64]),
     /// A field of this name is declared.
     Field(Text),
+    /// A field of this name is declared that has this width.
+    FieldOf(Text, u64),
     /// A field is given these numbers, from the first processor on.
     Input(Text, &'static [u128]),
     /// An instruction is put in at the end.
@@ -54,6 +56,14 @@ pub(crate) enum Step {
     Has(usize, u64),
 }
 
+fn field_of(rt: &impl Abort, field: Text, width: u64) -> Edit {
+    Edit::AddField {
+        name: name(rt, field),
+        set: name(rt, b"S"),
+        width,
+    }
+}
+
 fn edit_of(rt: &impl Abort, alloc: Global, change: Change) -> Result<Edit, AllocError> {
     match change {
         Change::Set(axes) => {
@@ -62,13 +72,8 @@ fn edit_of(rt: &impl Abort, alloc: Global, change: Change) -> Result<Edit, Alloc
                 axes: Items::new(Vec::from_slice(alloc, axes)?),
             })
         }
-        Change::Field(field) => {
-            Ok(Edit::AddField {
-                name: name(rt, field),
-                set: name(rt, b"S"),
-                width: 8,
-            })
-        }
+        Change::Field(field) => Ok(field_of(rt, field, 8)),
+        Change::FieldOf(field, width) => Ok(field_of(rt, field, width)),
         Change::Input(field, numbers) => {
             Ok(Edit::Input {
                 key: key(rt, field),

@@ -1,6 +1,7 @@
 //! Tests of work: seats that take, execute and bring, by themselves and in threads.
 
 ghost use Rattle.std.specs.Prelude.{◌≡◌, ◌≤◌};
+ghost use Rattle.paris_names.specs.declared.profiles.Profile.TheVariants.{One};
 ghost use Rattle.paris_records.specs.declared.limits.TheConstants.{MAX_HISTORY, MAX_SEATS};
 
 use crate::endings::Ending::Closes;
@@ -176,6 +177,7 @@ fn opens<L: Office + Send + Sync, R: Abort + Threads + Wait + Sync, C: Clock + S
     ending: Ending,
 ) -> Result<bool, Fault>
     requires opening { (opening.blank.name ≡ L.name) × (opening.blank.parts ≡ L.parts) × (opening.seen.book ≡ L.log) }
+    requires profile { One ≡ L.profile }
     requires seats { (seats ≡ L.parts) × (seats ≡ L.seats) }
     requires few { (1 ≤ seats) × (seats ≤ MAX_SEATS) }
     requires limit { (limit ≡ L.limit) × (limit ≤ MAX_HISTORY) }

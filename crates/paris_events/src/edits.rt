@@ -4,7 +4,7 @@ use paris_model::Instr;
 use paris_names::{Items, KeyName, Name, RowId, Spot};
 
 /// An edit of the declarations, the input data or the program.
-#[derive(Debug, Drop)]
+#[derive(Clone, PartialEq, Eq, Debug, Drop)]
 pub enum Edit {
     /// Declares a set of this name, with axes of these lengths.
     AddSet {

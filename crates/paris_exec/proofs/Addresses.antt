@@ -86,5 +86,8 @@ coordinates_are axes a from m bits n below own count =
     ∙ ap (λ s. v / s % 2 ^ m % 2 ^ bits) (sym below)
     ∙ ap (λ l. v / stride axes a % l % 2 ^ bits) (sym own))
 
-pub addresses_are : (n bits : ℕ) → everywhere n (λ v. v / 2 ^ 0 % 2 ^ bits) ≡ everywhere n (low bits)
-addresses_are n bits = everywhere-same n (λ v. v / 2 ^ 0 % 2 ^ bits) (low bits) (λ v h. ap (low bits) (div-one v))
+-- no address has more than 16 bits
+pub addresses_are : (n bits : ℕ) → n ≤ 65536 → everywhere n (λ v. v / 2 ^ 0 % 2 ^ min 16 bits) ≡ everywhere n (low bits)
+addresses_are n bits few = everywhere-same n (λ v. v / 2 ^ 0 % 2 ^ min 16 bits) (low bits) (λ v h.
+    let small : v < 2 ^ 16 = omega arith in
+    low_of_low (v / 2 ^ 0) 16 bits ∙ ap (low bits) (ap (λ x. x % 2 ^ 16) (div-one v) ∙ mod-eq_of_lt small))

@@ -42,6 +42,7 @@ use Rattle.paris_exec.specs.Tasks.{Task, field_of, fields_of, frame_at, seen_at,
 use Rattle.paris_exec.proofs.Left.{first_key, flag_numbers, put_numbers_where}
 use Rattle.paris_exec.proofs.Operands.{AllWide, among, bits_count, good_length, has_field, narrow_length, same_field}
 use Rattle.paris_exec.proofs.Puts.{fit_at, mask_selects}
+use Rattle.paris_names.specs.declared.limits.TheConstants.{MAX_WIDTH}
 
 -- a sum's flags
 pub sum_flags : {X : Type 0} (op : Combiner) (o : Option X) → is_some o ≡ is_sum op → combiner_flags op ≡ overflow_flags o
@@ -61,9 +62,9 @@ sum_flags Minimum (Some x) e = absurd (let f : true ≡ false = e in cc)
 -- what is read
 
 -- operands of plans have a bit at least
-pub all_some : (os : List Operand) → list_all (λ (o : Operand). nat_lt 0 o.width && nat_le o.width 64) os ≡ true → AllWide 1 os
+pub all_some : (os : List Operand) → list_all (λ (o : Operand). nat_lt 0 o.width && nat_le o.width MAX_WIDTH) os ≡ true → AllWide 1 os
 all_some [] h = tt
-all_some (o ∷ os) h = (some_width o os h, all_some os (and_parts (nat_lt 0 o.width && nat_le o.width 64) (list_all (λ (o : Operand). nat_lt 0 o.width && nat_le o.width 64) os) h).1)
+all_some (o ∷ os) h = (some_width o os h, all_some os (and_parts (nat_lt 0 o.width && nat_le o.width MAX_WIDTH) (list_all (λ (o : Operand). nat_lt 0 o.width && nat_le o.width MAX_WIDTH) os) h).1)
 
 -- the first two operands are as wide as a length that fits both
 pub first_two_wide : (D A : Operand) (os : List Operand) (f L : ℕ) → L ≤ D.width → L ≤ A.width → has_field (D ∷ A ∷ []) f ≡ true → L ≤ width_among (D ∷ A ∷ os) f

@@ -14,7 +14,7 @@ use Rattle.paris_model.proofs.Counts.{after_count}
 use Rattle.paris_model.specs.Instructions.{Plan, reads, writes, key_width, value_at, after_plan, outcome, outcome_in, refusal, given, held}
 use Rattle.paris_model.proofs.Worlds.{refused_reads, value_at-map}
 use Rattle.paris_field.specs.Fields.{FieldNumbers}
-use Rattle.paris_exec.specs.Tasks.{Task, numbers_of, field_of, fits_key, fits_keys, fits, fields_of, told, task_outcome, task_value, beside}
+use Rattle.paris_exec.specs.Tasks.{Task, numbers_of, field_of, fits_key, fits_keys, fits, fields_of, result_told, task_outcome, task_value, beside}
 use Rattle.paris_exec.specs.declared.orders.Outcome.{Outcome}
 use Rattle.paris_exec.specs.declared.orders.Outcome.TheVariants.{Values, Refused}
 
@@ -97,7 +97,7 @@ pub outcome_holds : (t : Task) (k : Key) → has_key (writes t.plan) k ≡ true 
 unfolding outcome
 outcome_holds t k h = by_refusal (refusal t.plan (value_at (reads t.plan) (numbers_of t.inputs))) refl
   where
-    by_refusal : (o : Option Refusal) → refusal t.plan (value_at (reads t.plan) (numbers_of t.inputs)) ≡ o → HoldsAt t k (told t.plan (outcome_in t.plan (value_at (reads t.plan) (numbers_of t.inputs)) o))
+    by_refusal : (o : Option Refusal) → refusal t.plan (value_at (reads t.plan) (numbers_of t.inputs)) ≡ o → HoldsAt t k (result_told t.plan (outcome_in t.plan (value_at (reads t.plan) (numbers_of t.inputs)) o))
     by_refusal None e =
         let w : World = value_at (reads t.plan) (numbers_of t.inputs) in (
           field_of t.plan k (after_plan t.plan w k),

@@ -5,7 +5,7 @@ use Rattle.paris_model.specs.Frame.{World}
 use Rattle.paris_model.specs.Instructions.{Plan, reads, value_at, outcome, outcome_in, refusal, given}
 use Rattle.paris_model.proofs.Worlds.{one_is, value_at-map}
 use Rattle.paris_model.proofs.Direct.{refusal_depends}
-use Rattle.paris_exec.specs.Tasks.{Task, told, numbers_of}
+use Rattle.paris_exec.specs.Tasks.{Task, result_told, numbers_of}
 use Rattle.paris_exec.specs.Frames.{GivesInAnyWorld, RefusedInAnyWorld, refusal_told}
 
 pub gives : (t : Task) → GivesInAnyWorld t
@@ -15,11 +15,11 @@ gives t w same k = (
 )
 
 -- what is told of an outcome is the refusal that it was made of
-told_refusal : (p : Plan) (w : World) (o : Option Refusal) → refusal_told (told p (outcome_in p w o)) ≡ o
+told_refusal : (p : Plan) (w : World) (o : Option Refusal) → refusal_told (result_told p (outcome_in p w o)) ≡ o
 told_refusal p w None = refl
 told_refusal p w (Some cause) = refl
 
-outcome_told : (p : Plan) (inputs : List (List ℕ)) → refusal_told (told p (outcome p inputs)) ≡ refusal p (value_at (reads p) inputs)
+outcome_told : (p : Plan) (inputs : List (List ℕ)) → refusal_told (result_told p (outcome p inputs)) ≡ refusal p (value_at (reads p) inputs)
 unfolding outcome
 outcome_told p inputs = told_refusal p (value_at (reads p) inputs) (refusal p (value_at (reads p) inputs))
 

@@ -39,6 +39,7 @@ use Rattle.paris_model.proofs.Stores.{everywhere-same}
 use Rattle.paris_field.specs.Fields.{FieldNumbers}
 use Rattle.paris_exec.specs.Planes.{flag_value}
 use Rattle.paris_exec.specs.Tasks.{Task, field_of, fields_of, frame_at, seen_at, left_values, numbers_of}
+use Rattle.paris_names.specs.declared.limits.TheConstants.{MAX_WIDTH}
 
 -- a list of n numbers, by processor
 everywhere_is : (n : ℕ) (xs : List ℕ) (f : ℕ → ℕ) → length xs ≡ n → ((v : ℕ) → v < n → slice_index xs v ≡ f v) → xs ≡ everywhere n f
@@ -139,7 +140,7 @@ module _ (t : Task) (i : Unconditional Operand ℕ) (acts : t.plan.action ≡ On
   -- a field of one bit, the one operand, is one bit wide
   pub one_bit_alone : (F : Operand) → operands (OnAll i) ≡ F ∷ [] → IsFit t.plan.axes t.plan.action → is_wide F ≡ false → key_width t.plan (Field F.field) ≡ 1
   one_bit_alone F alone fit narrow =
-      let fits : list_all (λ (o : Operand). nat_lt 0 o.width && nat_le o.width 64) (F ∷ []) ≡ true = sym (ap (list_all (λ (o : Operand). nat_lt 0 o.width && nat_le o.width 64)) alone) ∙ sym (ap have_field_widths acts) ∙ fit.widths in
+      let fits : list_all (λ (o : Operand). nat_lt 0 o.width && nat_le o.width MAX_WIDTH) (F ∷ []) ≡ true = sym (ap (list_all (λ (o : Operand). nat_lt 0 o.width && nat_le o.width MAX_WIDTH)) alone) ∙ sym (ap have_field_widths acts) ∙ fit.widths in
       let some : 1 ≤ F.width = some_width F [] fits in
       let most : F.width ≤ 1 = ltb-false 1 F.width narrow in
       key_width-is t.plan (Field F.field)

@@ -32,6 +32,7 @@ use Rattle.paris_exec.specs.Planes.{AreRead}
 use Rattle.paris_exec.specs.Tasks.{Task, field_of, seen_at}
 use Rattle.paris_exec.proofs.Executed.{key_narrow}
 use Rattle.paris_exec.proofs.Left.{first_key, or_true_first, read_source, read_target, read_context}
+use Rattle.paris_names.specs.declared.limits.TheConstants.{MAX_WIDTH}
 
 -- what holds of a value that is there
 pub if_ok : {X E : Type 0} {r : Result X E} {x : X} (P : X → Type 0) → r ≡ Ok x → IfOk r P → P x
@@ -170,14 +171,14 @@ module _ (t : Task) (op : BinaryOperator) (D A B : Operand) (L : ℕ) (acts : t.
     binary_right = key_wide t (Binary op D A B L) acts B.field L (among (D ∷ A ∷ B ∷ []) B.field L wide (or_true_second (D.field == B.field) (has_field (A ∷ B ∷ []) B.field) (or_true_second (A.field == B.field) (has_field (B ∷ []) B.field) (same_field B false))))
 
     pub binary_narrow : L ≤ 128
-    binary_narrow = (let to : L ≤ key_width t.plan (Field D.field) = binary_to in let most : key_width t.plan (Field D.field) ≤ 64 = key_narrow t.plan (Field D.field) fit in omega (arith, to, most))
+    binary_narrow = (let to : L ≤ key_width t.plan (Field D.field) = binary_to in let most : key_width t.plan (Field D.field) ≤ 128 = key_narrow t.plan (Field D.field) fit in omega (arith, to, most))
 
 first_wide : (D : Operand) (os : List Operand) (L : ℕ) → L ≤ D.width → L ≤ width_among (D ∷ os) D.field
 first_wide D os L h = subst (λ n. L ≤ n) (sym (width_first D os D.field (eq-eqb D.field D.field refl))) h
 
 -- a length that the target has is below that of any field
 pub narrow_length : (t : Task) (f L : ℕ) → IsFit t.plan.axes t.plan.action → L ≤ key_width t.plan (Field f) → L ≤ 128
-narrow_length t f L fit within = (let most : key_width t.plan (Field f) ≤ 64 = key_narrow t.plan (Field f) fit in omega (arith, within, most))
+narrow_length t f L fit within = (let most : key_width t.plan (Field f) ≤ 128 = key_narrow t.plan (Field f) fit in omega (arith, within, most))
 
 module _ (t : Task) (op : UnaryOperator) (D A : Operand) (L : ℕ) (acts : t.plan.action ≡ OnSelected (Unary op D A L)) where
   pub unary_source : has_key (reads t.plan) (Field A.field) ≡ true
@@ -202,11 +203,11 @@ module _ (t : Task) (op : UnaryOperator) (D A : Operand) (L : ℕ) (acts : t.pla
         let from = (good_length L A (or_false_second (is_bad_length L D) (is_bad_length L A) unary_bad)).1 in
         key_wide t (Unary op D A L) acts A.field L (among (D ∷ A ∷ []) A.field L (to, (from, tt)) (or_true_second (D.field == A.field) (has_field (A ∷ []) A.field) (same_field A false)))
 
-narrow_second : (D A : Operand) → list_all (λ (o : Operand). nat_lt 0 o.width && nat_le o.width 64) (D ∷ A ∷ []) ≡ true → A.width ≤ 64
+narrow_second : (D A : Operand) → list_all (λ (o : Operand). nat_lt 0 o.width && nat_le o.width MAX_WIDTH) (D ∷ A ∷ []) ≡ true → A.width ≤ MAX_WIDTH
 narrow_second D A h =
-    let second = (and_parts (nat_lt 0 D.width && nat_le D.width 64) (list_all (λ (o : Operand). nat_lt 0 o.width && nat_le o.width 64) (A ∷ [])) h).1 in
-    let own = (and_parts (nat_lt 0 A.width && nat_le A.width 64) true second).0 in
-    let most : nat_le A.width 64 ≡ true = (and_parts (nat_lt 0 A.width) (nat_le A.width 64) own).1 in
+    let second = (and_parts (nat_lt 0 D.width && nat_le D.width MAX_WIDTH) (list_all (λ (o : Operand). nat_lt 0 o.width && nat_le o.width MAX_WIDTH) (A ∷ [])) h).1 in
+    let own = (and_parts (nat_lt 0 A.width && nat_le A.width MAX_WIDTH) true second).0 in
+    let most : nat_le A.width MAX_WIDTH ≡ true = (and_parts (nat_lt 0 A.width) (nat_le A.width MAX_WIDTH) own).1 in
     grind (arith, nat_tests)
 
 module _ (t : Task) (sign : Sign) (D A : Operand) (L M : ℕ) (acts : t.plan.action ≡ OnSelected (Resize sign D A L M)) where
@@ -226,8 +227,8 @@ module _ (t : Task) (sign : Sign) (D A : Operand) (L M : ℕ) (acts : t.plan.act
   resize_lengths fit =
       let bad : (is_bad_length L D || is_bad_length M A) ≡ false = lengths_fit t (Resize sign D A L M) acts fit in
       let from = good_length M A (or_false_second (is_bad_length L D) (is_bad_length M A) bad) in
-      let widths : list_all (λ (o : Operand). nat_lt 0 o.width && nat_le o.width 64) (D ∷ A ∷ []) ≡ true = sym (ap have_field_widths acts) ∙ fit.widths in
-      let most : A.width ≤ 64 = narrow_second D A widths in
+      let widths : list_all (λ (o : Operand). nat_lt 0 o.width && nat_le o.width MAX_WIDTH) (D ∷ A ∷ []) ≡ true = sym (ap have_field_widths acts) ∙ fit.widths in
+      let most : A.width ≤ 128 = narrow_second D A widths in
       let longest : M ≤ A.width = from.1 in
       ((good_length L D (or_false_first (is_bad_length L D) (is_bad_length M A) bad)).0, from.0, (let m : M ≤ 128 = omega (arith, longest, most) in m))
 
@@ -259,8 +260,8 @@ module _ (t : Task) (i : Conditional Operand ℕ) (acts : t.plan.action ≡ OnSe
   pub alone_to : (L : ℕ) → is_bad_length L D ≡ false → L ≤ key_width t.plan (Field D.field)
   alone_to L good = key_wide t i acts D.field L (subst (λ os. L ≤ width_among os D.field) (sym alone) (first_wide D [] L (good_length L D good).1))
 
-  alone_fits : list_all (λ (o : Operand). nat_lt 0 o.width && nat_le o.width 64) (D ∷ []) ≡ true
-  alone_fits = sym (ap (list_all (λ (o : Operand). nat_lt 0 o.width && nat_le o.width 64)) alone) ∙ sym (ap have_field_widths acts) ∙ fit.widths
+  alone_fits : list_all (λ (o : Operand). nat_lt 0 o.width && nat_le o.width MAX_WIDTH) (D ∷ []) ≡ true
+  alone_fits = sym (ap (list_all (λ (o : Operand). nat_lt 0 o.width && nat_le o.width MAX_WIDTH)) alone) ∙ sym (ap have_field_widths acts) ∙ fit.widths
 
   pub one_bit_to : 1 ≤ key_width t.plan (Field D.field)
   one_bit_to = key_wide t i acts D.field 1 (subst (λ os. 1 ≤ width_among os D.field) (sym alone) (first_wide D [] 1 (some_width D [] alone_fits)))

@@ -48,12 +48,12 @@ fields_of p (k ∷ ks) [] = []
 fields_of p (k ∷ ks) (v ∷ vs) = field_of p k v ∷ fields_of p ks vs
 
 -- what a result holds, by the definitions' outcome
-abbrev pub told : Plan → Result (List (List ℕ)) Refusal → Outcome
-told p (Ok values) = Values (fields_of p (writes p) values)
-told p (Err cause) = Refused cause
+abbrev pub result_told : Plan → Result (List (List ℕ)) Refusal → Outcome
+result_told p (Ok values) = Values (fields_of p (writes p) values)
+result_told p (Err cause) = Refused cause
 
 abbrev pub task_outcome : Task → Outcome
-task_outcome t = told t.plan (outcome t.plan (numbers_of t.inputs))
+task_outcome t = result_told t.plan (outcome t.plan (numbers_of t.inputs))
 
 -- what a result leaves at a key that its plan writes
 abbrev pub task_value : Task → Key → FieldNumbers

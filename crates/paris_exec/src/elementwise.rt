@@ -104,6 +104,9 @@ fn first_bit(geometry: Geometry, axis: u64) -> u64
     from
 }
 
+/// How many bits the greatest address has.
+const ADDRESS_BITS: u64 = 16;
+
 /// The low bits of the coordinates of all processors on an axis: of their addresses' bits those that hold the coordinate.
 fn coordinates(
     alloc: Global,
@@ -188,7 +191,8 @@ fn address_values(
     ensures { IfOk result (λ values. values.items ≡ left_values order.now) }
 {
     let vps = order.plan().geometry().vps();
-    let new = FieldValue::address_bits(alloc, bits, 0, bits, vps)?;
+    let count = ADDRESS_BITS.min(bits);
+    let new = FieldValue::address_bits(alloc, bits, 0, count, vps)?;
     put_field(alloc, order, to, new)
 }
 

@@ -2,7 +2,7 @@
 
 ghost use Rattle.std.specs.Prelude.{◌≡◌, IfOk, IfErr};
 ghost use Rattle.paris_model.specs.Instructions.{refusal};
-ghost use Rattle.paris_router.specs.Mail.{refusal_in};
+ghost use Rattle.paris_router.specs.Mail.{refusal_of};
 ghost use Rattle.paris_exec.specs.Tasks.{left_values, seen_at, task_outcome};
 ghost use Rattle.paris_exec.specs.Frames.{GivesInAnyWorld, RefusedInAnyWorld};
 
@@ -19,7 +19,7 @@ use std::alloc::{AllocError, Global};
 
 /// The values that an order's instruction leaves at the keys that its plan writes, in their order, or why it is refused.
 fn answer(alloc: Global, order: &Order) -> Result<Result<Vec<FieldValue>, Refusal>, AllocError>
-    ensures refused { IfOk result (λ answer. refusal_in answer ≡ refusal order.now.plan (seen_at order.now)) }
+    ensures refused { IfOk result (λ answer. refusal_of answer ≡ refusal order.now.plan (seen_at order.now)) }
     ensures values { IfOk result (λ answer. IfOk answer (λ values. values.items ≡ left_values order.now)) }
 {
     match &order.plan().action() {

@@ -7,7 +7,7 @@ ghost use Rattle.paris_names.specs.declared.keys.Key.TheVariants.{Field};
 ghost use Rattle.paris_geometry.specs.Geometry.{processor_count};
 ghost use Rattle.paris_model.specs.Fits.{IsFit};
 ghost use Rattle.paris_model.specs.Instructions.{reads, key_width, refusal};
-ghost use Rattle.paris_router.specs.Mail.{refusal_in};
+ghost use Rattle.paris_router.specs.Mail.{refusal_of};
 ghost use Rattle.paris_exec.specs.Combined.{by_field, delivered_values, mail_length, mail_source};
 ghost use Rattle.paris_exec.specs.Tasks.{left_values, seen_at};
 
@@ -86,7 +86,7 @@ fn get_answer(
     requires x_count { length x.now.numbers ≡ processor_count order.now.plan.axes }
     requires x_numbers { x.now.numbers ≡ seen_at order.now (Field from.now.field) }
     requires x_width { bits ≤ x.now.width }
-    ensures refused { IfOk result (λ answer. refusal_in answer ≡ refusal order.now.plan (seen_at order.now)) }
+    ensures refused { IfOk result (λ answer. refusal_of answer ≡ refusal order.now.plan (seen_at order.now)) }
     ensures values { IfOk result (λ answer. IfOk answer (λ values. values.items ≡ left_values order.now)) }
 {
     let places = order.input(&Key::Field(addresses.field));
@@ -114,7 +114,7 @@ fn send_answer(
     requires x_count { length x.now.numbers ≡ processor_count order.now.plan.axes }
     requires x_numbers { x.now.numbers ≡ seen_at order.now (Field from.now.field) }
     requires x_width { bits ≤ x.now.width }
-    ensures refused { IfOk result (λ answer. refusal_in answer ≡ refusal order.now.plan (seen_at order.now)) }
+    ensures refused { IfOk result (λ answer. refusal_of answer ≡ refusal order.now.plan (seen_at order.now)) }
     ensures values { IfOk result (λ answer. IfOk answer (λ values. values.items ≡ left_values order.now)) }
 {
     let places = order.input(&Key::Field(addresses.field));
@@ -143,7 +143,7 @@ fn combining_answer(
     requires x_count { length x.now.numbers ≡ processor_count order.now.plan.axes }
     requires x_numbers { x.now.numbers ≡ seen_at order.now (Field from.now.field) }
     requires x_width { bits ≤ x.now.width }
-    ensures refused { IfOk result (λ answer. refusal_in answer ≡ refusal order.now.plan (seen_at order.now)) }
+    ensures refused { IfOk result (λ answer. refusal_of answer ≡ refusal order.now.plan (seen_at order.now)) }
     ensures values { IfOk result (λ answer. IfOk answer (λ values. values.items ≡ left_values order.now)) }
 {
     let places = order.input(&Key::Field(addresses.field));
@@ -168,7 +168,7 @@ fn answer_from(
     requires x_count { length x.now.numbers ≡ processor_count order.now.plan.axes }
     requires x_numbers { x.now.numbers ≡ seen_at order.now (Field (mail_source i.now).field) }
     requires x_width { mail_length i.now ≤ x.now.width }
-    ensures refused { IfOk result (λ answer. refusal_in answer ≡ refusal order.now.plan (seen_at order.now)) }
+    ensures refused { IfOk result (λ answer. refusal_of answer ≡ refusal order.now.plan (seen_at order.now)) }
     ensures values { IfOk result (λ answer. IfOk answer (λ values. values.items ≡ left_values order.now)) }
 {
     match i {
@@ -228,7 +228,7 @@ pub(crate) fn mail_answer(
 ) -> Result<Result<Vec<FieldValue>, Refusal>, AllocError>
     requires acts { order.now.plan.action ≡ Action.ByMail i.now }
     requires fit { IsFit order.now.plan.axes order.now.plan.action }
-    ensures refused { IfOk result (λ answer. refusal_in answer ≡ refusal order.now.plan (seen_at order.now)) }
+    ensures refused { IfOk result (λ answer. refusal_of answer ≡ refusal order.now.plan (seen_at order.now)) }
     ensures values { IfOk result (λ answer. IfOk answer (λ values. values.items ≡ left_values order.now)) }
 {
     let bits = length_of(i);

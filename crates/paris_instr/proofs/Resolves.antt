@@ -17,6 +17,7 @@ use Rattle.paris_model.specs.declared.actions.Action.{Action}
 use Rattle.paris_model.specs.Instructions.{Plan, operands, read_keys, source_keys, target_keys, field_keys, flag_keys, target_fields, target_flags, source_fields, source_flags, stores_all_bits, key_width, width_among}
 use Rattle.paris_model.proofs.Worlds.{has_key-append, reads_keys, writes_targets}
 use Rattle.paris_instr.specs.Resolve.{set_of_operand, set_of_action, is_in_one_set, IsOperandOf, AreOperandsOf, IsFittedTo}
+use Rattle.paris_names.specs.declared.limits.TheConstants.{MAX_WIDTH}
 
 -- no number of 128 bits needs more than 128 bits
 pub not_too_great : (L K : ℕ) → 128 ≤ L → K < 2 ^ 128 → nat_le (2 ^ L) K ≡ false
@@ -25,11 +26,11 @@ not_too_great L K long small =
     grind arith
 
 -- each operand is as wide as a field may be
-pub have_widths : (b : Board) (os : List Operand) → AreOperandsOf b os → list_all (λ (o : Operand). nat_lt 0 o.width && nat_le o.width 64) os ≡ true
+pub have_widths : (b : Board) (os : List Operand) → AreOperandsOf b os → list_all (λ (o : Operand). nat_lt 0 o.width && nat_le o.width MAX_WIDTH) os ≡ true
 have_widths b [] known = refl
 have_widths b (o ∷ os) known =
-    let own : (nat_lt 0 o.width && nat_le o.width 64) ≡ true = and_from (nat_lt 0 o.width) (nat_le o.width 64) (lt-ltb 0 o.width known.0.2) (le-leb o.width 64 known.0.3) in
-    and_from (nat_lt 0 o.width && nat_le o.width 64) (list_all (λ (o : Operand). nat_lt 0 o.width && nat_le o.width 64) os) own (have_widths b os known.1)
+    let own : (nat_lt 0 o.width && nat_le o.width MAX_WIDTH) ≡ true = and_from (nat_lt 0 o.width) (nat_le o.width MAX_WIDTH) (lt-ltb 0 o.width known.0.2) (le-leb o.width MAX_WIDTH known.0.3) in
+    and_from (nat_lt 0 o.width && nat_le o.width MAX_WIDTH) (list_all (λ (o : Operand). nat_lt 0 o.width && nat_le o.width MAX_WIDTH) os) own (have_widths b os known.1)
 
 -- a field among the operands of one set
 record IsFieldAmong (b : Board) (s : ℕ) (os : List Operand) (f : ℕ) : Type 0 where

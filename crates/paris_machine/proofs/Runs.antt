@@ -123,28 +123,31 @@ out_row r = record r { status = Out }
 pub firm_before : (s : State) (k : ℕ) (r : Row) → are_settled (take k s.rows) ≡ true → list_all (λ j. is_firm (origin_at s k j)) (reads r.plan) ≡ true
 firm_before s k r before = all_pass (λ j. is_firm (origin row_plan j (take k s.rows))) (λ j. firm_settled (take k s.rows) j before) (reads r.plan)
 
--- the order that an unsettled row would give is kept, where all rows before it are settled
-pub present_kept : (s : State) (k : ℕ) (r : Row) → is_settled r.status ≡ false → are_settled (take k s.rows) ≡ true → verdict_at s (k, r) (order_of s (k, r)) ≡ Kept
-present_kept s k r unsettled before =
-    let firm : list_all (λ j. is_firm (origin row_plan j (take k s.rows))) (reads r.plan) ≡ true = firm_before s k r before in
+-- the order that an unsettled row would give is kept, where the origins of what it reads are settled
+present_kept : (s : State) (k : ℕ) (r : Row) → is_settled r.status ≡ false → list_all (λ j. is_firm (origin_at s k j)) (reads r.plan) ≡ true → verdict_at s (k, r) (order_of s (k, r)) ≡ Kept
+present_kept s k r unsettled firm =
     let values : pointwise field_eq (inputs_now s k r.plan) (inputs_now s k r.plan) ≡ true = same_values (inputs_now s k r.plan) in
     rw (eq-eqb r.edition.0 r.edition.0 refl, unsettled, plan_same r.plan, firm, values) refl
 
 -- and so is its order where it is out
-own_kept : (s : State) (k : ℕ) (r : Row) → are_settled (take k s.rows) ≡ true → verdict_at (with_status s (k, r) Out) (k, out_row r) (order_of s (k, r)) ≡ Kept
-own_kept s k r before =
+own_kept : (s : State) (k : ℕ) (r : Row) → list_all (λ j. is_firm (origin_at s k j)) (reads r.plan) ≡ true → verdict_at (with_status s (k, r) Out) (k, out_row r) (order_of s (k, r)) ≡ Kept
+own_kept s k r firm =
     let u : State = with_status s (k, r) Out in
     let front : take k u.rows ≡ take k s.rows = take-set s.rows k (out_row r) in
     ap (λ (xs : List Row). verdict_at u (k, out_row r) (record { id = r.id; edition = r.edition; plan = r.plan; inputs = map (λ j. field_of r.plan j (run (start_world s.inputs) (map row_plan xs) j)) (reads r.plan) })) (sym front)
-    ∙ present_kept u k (out_row r) refl (ap are_settled front ∙ before)
+    ∙ present_kept u k (out_row r) refl (ap (λ (xs : List Row). list_all (λ j. is_firm (origin row_plan j xs)) (reads r.plan)) front ∙ firm)
 
--- a take and the bring of its own order keep the present result of the first unsettled row
-pub run_is : (s : State) (k : ℕ) (r : Row) → IsIdle s.rows → IdsApart (row_ids s.rows) → IsFirst s.rows k r → after_run s ≡ cut_off (record s { rows = set s.rows k (run_row (now s k) r) })
-run_is s k r idle apart f =
+-- a take and the bring of its own order keep the present result of the row that was ready
+pub ready_run_is : (s : State) (k : ℕ) (r : Row) → IdsApart (row_ids s.rows) → slice_get s.rows k ≡ Some r → list_all (λ j. is_firm (origin_at s k j)) (reads r.plan) ≡ true → next_ready s ≡ Some (k, r) → after_run s ≡ cut_off (record s { rows = set s.rows k (run_row (now s k) r) })
+ready_run_is s k r apart here firm next =
     let u : State = with_status s (k, r) Out in
     let t : Task = order_of s (k, r) in
-    let found : find_row u t.id ≡ Some (k, out_row r) = find_put s.rows 0 k k r (out_row r) (omega arith) refl f.here apart in
-    let kept : verdict_of u t ≡ Kept = ap (λ o. verdict_on u o t) found ∙ own_kept s k r f.before in
-    ap (λ o. brought_back (taken s o) (option_map (order_of s) o)) (next_first s k r idle f)
+    let found : find_row u t.id ≡ Some (k, out_row r) = find_put s.rows 0 k k r (out_row r) (omega arith) refl here apart in
+    let kept : verdict_of u t ≡ Kept = ap (λ o. verdict_on u o t) found ∙ own_kept s k r firm in
+    ap (λ o. brought_back (taken s o) (option_map (order_of s) o)) next
     ∙ ap₂ (λ v o. brought_on u v o (work_of t)) kept found
     ∙ ap (λ (xs : List Row). cut_off (record s { rows = xs })) (set-set s.rows k (out_row r) (run_row (now s k) r))
+
+-- that is the first unsettled row, where none is out
+pub run_is : (s : State) (k : ℕ) (r : Row) → IsIdle s.rows → IdsApart (row_ids s.rows) → IsFirst s.rows k r → after_run s ≡ cut_off (record s { rows = set s.rows k (run_row (now s k) r) })
+run_is s k r idle apart f = ready_run_is s k r apart f.here (firm_before s k r f.before) (next_first s k r idle f)

@@ -10,6 +10,8 @@ use Rattle.paris_names.specs.declared.ids.RowId.{RowId}
 use Rattle.paris_names.specs.declared.ids.Edition.{Edition}
 use Rattle.paris_names.specs.declared.ids.Spot.{Spot}
 use Rattle.paris_names.specs.declared.ids.Spot.TheVariants.{Start as AtStart, After, End as AtEnd}
+use Rattle.paris_names.specs.declared.profiles.Profile.{Profile}
+use Rattle.paris_names.specs.declared.profiles.Profile.TheVariants.{One}
 use Rattle.paris_board.specs.Board.{Board, empty_board}
 use Rattle.paris_model.specs.Frame.{World}
 use Rattle.paris_model.specs.Instructions.{Plan}
@@ -53,9 +55,13 @@ pub record State : Type 0 where
   pub next : ℕ
   pub rows : List Row
 
--- an empty book whose edit counter begins at a count
+-- an empty book of a profile whose edit counter begins at a count
+abbrev pub empty_state_of : Profile → ℕ → State
+empty_state_of profile count = record { board = empty_board profile; edits = count; inputs = record { fields = []; flags = [] }; next = 1; rows = [] }
+
+-- an empty book of profile 1
 abbrev pub empty_state : ℕ → State
-empty_state count = record { board = empty_board; edits = count; inputs = record { fields = []; flags = [] }; next = 1; rows = [] }
+empty_state count = empty_state_of One count
 
 abbrev pub flag_input : FlagInputs → FlagName → Input
 flag_input x Context = x.context

@@ -1,7 +1,7 @@
 //! Gets, sends and combining sends beside the plain program, and beside a loop over numbers.
 
 ghost use Rattle.std.specs.Prelude.{◌≡◌, ◌<◌, ◌≤◌, ℕ, List};
-ghost use Rattle.paris_model.specs.Fits.{IsFit};
+ghost use Rattle.paris_plain.specs.Narrow.{IsNarrow};
 ghost use Rattle.paris_model.specs.declared.actions.Action.TheVariants.{ByMail};
 
 use crate::calls::{Call, Outcome, made};
@@ -44,7 +44,7 @@ fn operand(number: u64, width: u64) -> Operand
 fn mail(call: Call, length: u64) -> Mail<Operand>
     requires positive { 0 < length }
     requires narrow { length ≤ 64 }
-    ensures { (axes : List ℕ) → IsFit axes (ByMail result) }
+    ensures { (axes : List ℕ) → IsNarrow axes (ByMail result) }
 {
     let from = operand(0, 64);
     let to = operand(1, 64);

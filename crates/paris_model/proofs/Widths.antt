@@ -37,6 +37,7 @@ use Rattle.paris_model.specs.Instructions.{Plan, writes, reads, operands, target
 use Rattle.paris_model.specs.Laws.{FitsAt, ReadsFit, UnreadFit}
 use Rattle.paris_model.proofs.Stores.{length-everywhere, put_below}
 use Rattle.paris_model.proofs.Worlds.{or_false_first, or_false_second, writes_targets}
+use Rattle.paris_names.specs.declared.limits.TheConstants.{MAX_WIDTH}
 
 -- each number has W bits at most
 abbrev pub HaveBits : ℕ → List ℕ → Type 0
@@ -103,7 +104,7 @@ is_target D s flags f h = or_true_first (f == D.field) (has_key (flag_keys s fla
 length_within : (L : ℕ) (D : Operand) → is_bad_length L D ≡ false → L ≤ D.width
 length_within L D h = ltb-false D.width L (or_false_second (L == 0) (nat_lt D.width L) h)
 
-pub some_width : (D : Operand) (os : List Operand) → list_all (λ (o : Operand). nat_lt 0 o.width && nat_le o.width 64) (D ∷ os) ≡ true → 1 ≤ D.width
+pub some_width : (D : Operand) (os : List Operand) → list_all (λ (o : Operand). nat_lt 0 o.width && nat_le o.width MAX_WIDTH) (D ∷ os) ≡ true → 1 ≤ D.width
 some_width D os h = let positive : 0 < D.width = ltb-true 0 D.width (and_parts _ _ (and_parts _ _ h).0).0 in omega arith
 
 target_within : (L : ℕ) (D : Operand) (os : List Operand) (f : ℕ) → L ≤ D.width → (f == D.field) ≡ true → L ≤ width_among (D ∷ os) f
@@ -175,7 +176,7 @@ or_rest true b e h = absurd (let x : true ≡ false = e in cc)
 or_rest false b e h = h
 
 -- the notify field has a bit, and the destination the length's bits
-notify_some : (D : Operand) (N : Option Operand) (os : List Operand) (f : ℕ) → list_all (λ (o : Operand). nat_lt 0 o.width && nat_le o.width 64) (D ∷ (notify_targets N ++ os)) ≡ true → has_key (field_keys (D ∷ notify_targets N) ++ []) (Field f) ≡ true → (f == D.field) ≡ false → 1 ≤ width_among (D ∷ (notify_targets N ++ os)) f
+notify_some : (D : Operand) (N : Option Operand) (os : List Operand) (f : ℕ) → list_all (λ (o : Operand). nat_lt 0 o.width && nat_le o.width MAX_WIDTH) (D ∷ (notify_targets N ++ os)) ≡ true → has_key (field_keys (D ∷ notify_targets N) ++ []) (Field f) ≡ true → (f == D.field) ≡ false → 1 ≤ width_among (D ∷ (notify_targets N ++ os)) f
 notify_some D None os f widths target e = absurd (let x : false ≡ true = sym e ∙ or_true_first (f == D.field) false refl target in cc)
 notify_some D (Some N) os f widths target e =
     let is : (f == N.field) ≡ true = or_true_first (f == N.field) false refl (or_rest (f == D.field) _ e target) in

@@ -142,7 +142,7 @@ abbrev pub has_overlap : Action Operand ℕ → Bool
 has_overlap (ByMail i) = is_overlap (mail_target i) (mail_notify i)
 has_overlap _ = false
 
--- each operand is as wide as a field may be, 1 to 64 bits
+-- each operand is as wide as a field may be in some profile, 1 to 128 bits
 abbrev pub have_field_widths : Action Operand ℕ → Bool
 have_field_widths i = list_all (λ (o : Operand). nat_lt 0 o.width && nat_le o.width MAX_WIDTH) (operands i)
 

@@ -1,5 +1,5 @@
-//! Tests of products, quotients and remainders of fields: worked rows, and each beside the same on the numbers of each processor.
-//! It has no code of its own.
+//! Tests of arithmetic, comparisons and bits of fields at widths to 128: worked rows of products, quotients and remainders, and each
+//! operation beside the same on the numbers of each processor. It has no code of its own.
 #![tactic(auto)]
 
 #[cfg(test)]

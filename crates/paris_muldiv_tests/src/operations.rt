@@ -2,10 +2,14 @@
 
 ghost use Rattle.std.specs.Prelude.{◌≡◌, ◌<◌, ◌≤◌, IfOk, length};
 
-use paris_alu::Overflowing;
+use paris_alu::{
+    BitOperator, Extremum, Overflowing, Sum, add, compare, extend, extreme, invert, logic, negate,
+    subtract,
+};
 use paris_field::FieldValue;
-use paris_model::Sign;
+use paris_model::{Comparison, Sign};
 use paris_muldiv::{multiply, remainder, truncate};
+use paris_plane::Plane;
 use std::alloc::{AllocError, Global};
 use std::process::Abort;
 use std::test::Fail;
@@ -16,6 +20,47 @@ pub(crate) enum Operation {
     Multiply(Sign),
     Truncate,
     Remainder,
+    Add(Sign),
+    Subtract(Sign),
+    /// The carry of an unsigned sum.
+    Carry,
+    /// The borrow of an unsigned difference.
+    Borrow,
+    Logic(BitOperator),
+    Extreme(Extremum, Sign),
+    Compare(Comparison),
+    Negate,
+    Invert,
+    /// The first field as numbers of 128 bits.
+    Extend(Sign),
+    /// The first field as numbers of half as many bits.
+    Shorten(Sign),
+}
+
+/// Half as many bits, and one more where they are odd.
+pub(crate) fn half(bits: u64) -> u64
+    requires { 0 < bits }
+    ensures some { 0 < result }
+    ensures within { result ≤ bits }
+{
+    bits - bits / 2
+}
+
+/// A value that never overflows.
+fn sound(alloc: Global, value: FieldValue) -> Result<Overflowing, AllocError> {
+    let overflow = Plane::zeros(alloc, value.len())?;
+    Ok(Overflowing { value, overflow })
+}
+
+fn of_plane(alloc: Global, plane: Plane) -> Result<Overflowing, AllocError> {
+    sound(alloc, FieldValue::from_plane(alloc, plane)?)
+}
+
+fn overflowing(sum: Sum) -> Overflowing {
+    Overflowing {
+        value: sum.value,
+        overflow: sum.overflow,
+    }
 }
 
 impl Operation {
@@ -37,6 +82,23 @@ impl Operation {
             Operation::Multiply(sign) => multiply(alloc, sign, x, y, bits),
             Operation::Truncate => truncate(alloc, x, y, bits),
             Operation::Remainder => remainder(alloc, x, y, bits),
+            Operation::Add(sign) => Ok(overflowing(add(alloc, sign, x, y, bits)?)),
+            Operation::Subtract(sign) => Ok(overflowing(subtract(alloc, sign, x, y, bits)?)),
+            Operation::Carry => of_plane(alloc, add(alloc, Sign::Unsigned, x, y, bits)?.carry),
+            Operation::Borrow => {
+                of_plane(alloc, subtract(alloc, Sign::Unsigned, x, y, bits)?.carry)
+            }
+            Operation::Logic(operator) => sound(alloc, logic(alloc, operator, x, y, bits)?),
+            Operation::Extreme(which, sign) => {
+                sound(alloc, extreme(alloc, which, sign, x, y, bits)?)
+            }
+            Operation::Compare(comparison) => {
+                of_plane(alloc, compare(alloc, comparison, x, y, bits)?)
+            }
+            Operation::Negate => negate(alloc, x, bits),
+            Operation::Invert => sound(alloc, invert(alloc, x, bits)?),
+            Operation::Extend(sign) => extend(alloc, sign, x, bits, 128),
+            Operation::Shorten(sign) => extend(alloc, sign, x, bits, half(bits)),
         }
     }
 }

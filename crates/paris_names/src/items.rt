@@ -1,7 +1,10 @@
 //! Lists that clauses compare item by item.
 
 ghost use Rattle.std.specs.Prelude.{◌≡◌, length};
+ghost use Rattle.std.specs.List.{AllZip};
+ghost use Rattle.std.specs.Cmp.Lexicographic.{pointwise, lists_per, lists_equiv};
 
+use std::alloc::AllocError;
 use std::marker::Model;
 use std::ops::DerefSlice;
 
@@ -30,6 +33,29 @@ impl<T> DerefSlice for Items<T> {
     {
         self.as_slice()
     }
+}
+
+impl<T: Clone> Clone for Items<T> {
+    ghost is_clone = { λ list copy. AllZip T.is_clone list copy };
+
+    fn clone(&self) -> Result<Items<T>, AllocError> {
+        let items = self.items.clone()?;
+        Ok(Items { items })
+    }
+}
+
+impl<T: PartialEq> PartialEq for Items<T> {
+    ghost eq = { λ list other. pointwise T.eq list other };
+
+    ghost laws = { lists_per T.laws };
+
+    fn eq(&self, other: &Self) -> bool {
+        self.as_slice() == other.as_slice()
+    }
+}
+
+impl<T: Eq> Eq for Items<T> {
+    ghost laws = { lists_equiv T.Eq.laws };
 }
 
 impl<T> From<Vec<T>> for Items<T> {

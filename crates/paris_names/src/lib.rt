@@ -7,9 +7,11 @@ mod items;
 mod keys;
 pub mod limits;
 mod names;
+mod profiles;
 
 pub use faults::Fault;
 pub use ids::{Edition, RowId, Spot};
 pub use items::Items;
 pub use keys::{FieldNo, FlagName, Key, SetNo, has_key};
 pub use names::{KeyName, Name, NotAName};
+pub use profiles::Profile;

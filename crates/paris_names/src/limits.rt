@@ -12,8 +12,11 @@ pub const MAX_SETS: usize = 8;
 /// The most fields that a board declares, over all sets.
 pub const MAX_FIELDS: usize = 64;
 
-/// The greatest width of a field, in bits.
-pub const MAX_WIDTH: u64 = 64;
+/// The greatest width of a field in any profile, in bits.
+pub const MAX_WIDTH: u64 = 128;
+
+/// The greatest width of a field in profile 1, in bits.
+pub const MAX_WIDTH_OF_ONE: u64 = 64;
 
 /// The most rows of a program.
 pub const MAX_ROWS: usize = 4096;

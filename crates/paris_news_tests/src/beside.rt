@@ -1,7 +1,7 @@
 //! What the plain program leaves of moves.
 
 ghost use Rattle.std.specs.Prelude.{◌≡◌, ◌<◌, ◌≤◌, IfOk, length};
-ghost use Rattle.paris_model.specs.Fits.{IsFit};
+ghost use Rattle.paris_plain.specs.Narrow.{IsNarrow};
 
 use crate::cases::{SETS, Sample, random_sample};
 use crate::expected::agrees;
@@ -37,7 +37,7 @@ fn action(geometry: Geometry, step: &Step) -> Action<Operand, SetNo>
     requires axis { step.now.axis < length geometry }
     requires positive { 0 < step.now.bits }
     requires narrow { step.now.bits ≤ 64 }
-    ensures { IsFit geometry result }
+    ensures { IsNarrow geometry result }
 {
     let axis = step.axis as u64;
     let direction = step.direction;

@@ -10,7 +10,7 @@ use std::alloc::{AllocError, Global};
 use std::process::Abort;
 use std::test::Fail;
 
-const WIDTHS: &[u64] = &[1, 8, 64, 128];
+const WIDTHS: &[u64] = &[1, 8, 64, 65, 100, 127, 128];
 
 /// The lengths of a set's axes, axis 0 first, and widths of its fields in bits.
 pub(crate) const SETS: &[(&[u64], &[u64])] = &[
@@ -26,7 +26,7 @@ pub(crate) const SETS: &[(&[u64], &[u64])] = &[
     (&[256], WIDTHS),
     (&[128, 2], WIDTHS),
     (&[4, 4, 4, 4], WIDTHS),
-    (&[65_536], &[8]),
+    (&[65_536], &[8, 128]),
     (&[16, 8, 2, 256], &[1]),
 ];
 

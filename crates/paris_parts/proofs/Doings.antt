@@ -5,10 +5,11 @@ use Rattle.std.specs.List.{All, AllZip}
 use Rattle.std.proofs.lemmas.List.{map-append, take_more}
 use Rattle.std.proofs.lemmas.List.Elements.{All-cons, All-head, All-nil, All-tail}
 use Rattle.paris_names.specs.declared.faults.Fault.{Fault}
+use Rattle.paris_names.specs.declared.profiles.Profile.{Profile}
 use Rattle.paris_records.specs.declared.records.Receipt.{Receipt}
 use Rattle.paris_desk.specs.Pasts.{Learned}
-use Rattle.paris_desk.specs.Seats.{Sitting}
-use Rattle.paris_parts.specs.Jobs.{AreDone, AreTold, Doing, HasRun, HasRunIn, IsNew, RunsBehind, begun_at}
+use Rattle.paris_desk.specs.Seats.{SeatState}
+use Rattle.paris_parts.specs.Jobs.{AreDone, AreTold, Doing, JobHasRun, HasRunIn, IsNew, RunsBehind, begun_at}
 use Rattle.paris_parts.specs.Seeing.{IsInTime}
 
 -- an item is moved from those that are left to those that are done
@@ -28,11 +29,11 @@ lines_more ls i line within is =
     ap (map f) (take_more ls i line within ∙ ap (λ (x : Vec ℕ Global). take i ls ++ x ∷ []) (sym is)) ∙ map-append f (take i ls) (line ∷ [])
 
 -- a job is told of all that the first seat knows
-abbrev pub IsTold : Sitting → Sitting → Result Doing Fault → Type 0
-IsTold first s job = (s1 : Sitting) × Learned s first s1 × (job ≡ Ok (begun_at s1))
+abbrev pub IsTold : Profile → SeatState → SeatState → Result Doing Fault → Type 0
+IsTold p first s job = (s1 : SeatState) × Learned p s first s1 × (job ≡ Ok (begun_at s1))
 
-pub told_one : (first s s1 : Sitting) (job : Result Doing Fault) → Learned s first s1 → job ≡ Ok (begun_at s1) → IsTold first s job
-told_one first s s1 job learned is = (s1, learned, is)
+pub told_one : (p : Profile) (first s s1 : SeatState) (job : Result Doing Fault) → Learned p s first s1 → job ≡ Ok (begun_at s1) → IsTold p first s job
+told_one p first s s1 job learned is = (s1, learned, is)
 
 zip_more : {A B : Type 0} (R : A → B → Type 0) (xs : List A) (ys : List B) (x : A) (y : B) → AllZip R xs ys → R x y → AllZip R (xs ++ x ∷ []) (ys ++ y ∷ [])
 zip_more R [] [] x y h r = (r, tt)
@@ -41,82 +42,82 @@ zip_more R (a ∷ xs) [] x y h r = absurd h
 zip_more R (a ∷ xs) (b ∷ ys) x y h r = (h.0, zip_more R xs ys x y h.1 r)
 
 -- the seats that were told, which stand before those that are left
-abbrev pub AreBegun : Sitting → List Sitting → List Sitting → List (Result Doing Fault) → Type 0
-AreBegun first ss left jobs = (gone : List Sitting) × (gone ++ left ≡ ss) × AllZip (IsTold first) gone jobs
+abbrev pub AreBegun : Profile → SeatState → List SeatState → List SeatState → List (Result Doing Fault) → Type 0
+AreBegun p first ss left jobs = (gone : List SeatState) × (gone ++ left ≡ ss) × AllZip (IsTold p first) gone jobs
 
-pub begun_none : (first : Sitting) (ss : List Sitting) → AreBegun first ss ss []
-begun_none first ss = ([], refl, tt)
+pub begun_none : (p : Profile) (first : SeatState) (ss : List SeatState) → AreBegun p first ss ss []
+begun_none p first ss = ([], refl, tt)
 
-pub begun_more : (first s s1 : Sitting) (ss before left : List Sitting) (jobs jobs' : List (Result Doing Fault)) → before ≡ s ∷ left → Learned s first s1 → jobs' ≡ jobs ++ Ok (begun_at s1) ∷ []
-    → AreBegun first ss before jobs → AreBegun first ss left jobs'
-begun_more first s s1 ss before left jobs jobs' next learned more (gone, all, told) = (
+pub begun_more : (p : Profile) (first s s1 : SeatState) (ss before left : List SeatState) (jobs jobs' : List (Result Doing Fault)) → before ≡ s ∷ left → Learned p s first s1 → jobs' ≡ jobs ++ Ok (begun_at s1) ∷ []
+    → AreBegun p first ss before jobs → AreBegun p first ss left jobs'
+begun_more p first s s1 ss before left jobs jobs' next learned more (gone, all, told) = (
   gone ++ s ∷ [],
-  append_assoc gone (s ∷ []) left ∙ ap (λ (l : List Sitting). gone ++ l) (sym next) ∙ all,
-  subst (AllZip (IsTold first) (gone ++ s ∷ [])) (sym more) (zip_more (IsTold first) gone jobs s (Ok (begun_at s1)) told (s1, learned, refl)),
+  append_assoc gone (s ∷ []) left ∙ ap (λ (l : List SeatState). gone ++ l) (sym next) ∙ all,
+  subst (AllZip (IsTold p first) (gone ++ s ∷ [])) (sym more) (zip_more (IsTold p first) gone jobs s (Ok (begun_at s1)) told (s1, learned, refl)),
 )
 
-pub begun_all : (first : Sitting) (ss left : List Sitting) (jobs : List (Result Doing Fault)) → left ≡ [] → AreBegun first ss left jobs → AreTold first ss jobs
-begun_all first ss left jobs none (gone, all, told) =
-    subst (λ (l : List Sitting). AllZip (IsTold first) l jobs) (sym (append-nil gone) ∙ ap (λ (l : List Sitting). gone ++ l) (sym none) ∙ all) told
+pub begun_all : (p : Profile) (first : SeatState) (ss left : List SeatState) (jobs : List (Result Doing Fault)) → left ≡ [] → AreBegun p first ss left jobs → AreTold p first ss jobs
+begun_all p first ss left jobs none (gone, all, told) =
+    subst (λ (l : List SeatState). AllZip (IsTold p first) l jobs) (sym (append-nil gone) ∙ ap (λ (l : List SeatState). gone ++ l) (sym none) ∙ all) told
 
 -- a seat that knew nothing is in time once it is told
-told_in_time : (first s s1 : Sitting) → IsNew s → Learned s first s1 → IsInTime s1
-told_in_time first s s1 new l =
+told_in_time : (p : Profile) (first s s1 : SeatState) → IsNew s → Learned p s first s1 → IsInTime s1
+told_in_time p first s s1 new l =
     let none : s1.receipts ≡ [] = l.same.1 ∙ new.0 in
     (l.front.1, subst (All (λ (r : Receipt). r.number ≤ length s1.past)) (sym none) (All-nil (λ (r : Receipt). r.number ≤ length s1.past)))
 
 abbrev BegunInTime : Result Doing Fault → Type 0
 BegunInTime job = IfOk job (λ begun. IsInTime begun.seat)
 
-pub told_all_in_time : (first : Sitting) (ss : List Sitting) (jobs : List (Result Doing Fault)) → All IsNew ss → AreTold first ss jobs → All (λ (job : Result Doing Fault). IfOk job (λ begun. IsInTime begun.seat)) jobs
-told_all_in_time first [] [] new told = All-nil BegunInTime
-told_all_in_time first [] (job ∷ jobs) new told = absurd told
-told_all_in_time first (s ∷ ss) [] new told = absurd told
-told_all_in_time first (s ∷ ss) (job ∷ jobs) new ((s1, learned, is), told) =
-    All-cons BegunInTime job jobs (subst BegunInTime (sym is) (told_in_time first s s1 (All-head IsNew s ss new) learned))
-    (told_all_in_time first ss jobs (All-tail IsNew s ss new) told)
+pub told_all_in_time : (p : Profile) (first : SeatState) (ss : List SeatState) (jobs : List (Result Doing Fault)) → All IsNew ss → AreTold p first ss jobs → All (λ (job : Result Doing Fault). IfOk job (λ begun. IsInTime begun.seat)) jobs
+told_all_in_time p first [] [] new told = All-nil BegunInTime
+told_all_in_time p first [] (job ∷ jobs) new told = absurd told
+told_all_in_time p first (s ∷ ss) [] new told = absurd told
+told_all_in_time p first (s ∷ ss) (job ∷ jobs) new ((s1, learned, is), told) =
+    All-cons BegunInTime job jobs (subst BegunInTime (sym is) (told_in_time p first s s1 (All-head IsNew s ss new) learned))
+    (told_all_in_time p first ss jobs (All-tail IsNew s ss new) told)
 
 -- what was told and then run has run behind the first seat
-pub ran_behind : (limit : ℕ) (parts : List (List (List ℕ))) (first : Sitting) (ss : List Sitting) (jobs jobs' : List (Result Doing Fault)) (ds : List Doing) → AreTold first ss jobs
-    → ((i : ℕ) (d : Result Doing Fault) → i < length jobs → HasRunIn limit parts (get_or jobs i d) (get_or jobs' i d)) → length jobs' ≡ length jobs → map Ok ds ≡ jobs' → AllZip (RunsBehind parts first) ss ds
-ran_behind limit parts first [] [] jobs' [] told each long all = tt
-ran_behind limit parts first [] [] jobs' (d ∷ ds) told each long all = absurd (let same = ap length all in omega (arith, same, long))
-ran_behind limit parts first [] (job ∷ jobs) jobs' ds told each long all = absurd told
-ran_behind limit parts first (s ∷ ss) [] jobs' ds told each long all = absurd told
-ran_behind limit parts first (s ∷ ss) (job ∷ jobs) jobs' [] told each long all = absurd (let same = ap length all in omega (arith, same, long))
-ran_behind limit parts first (s ∷ ss) (job ∷ jobs) jobs' (d ∷ ds) ((s1, learned, is), told) each long all =
-    let ran : HasRunIn limit parts job (Ok d) = subst (λ (l : List (Result Doing Fault)). HasRunIn limit parts job (get_or l 0 job)) (sym all) (each 0 job (omega arith)) in
-    let here : HasRun parts s1 d = (subst (λ (x : Result Doing Fault). HasRunIn limit parts x (Ok d)) is ran).0 in (
+pub ran_behind : (p : Profile) (limit : ℕ) (parts : List (List (List ℕ))) (first : SeatState) (ss : List SeatState) (jobs jobs' : List (Result Doing Fault)) (ds : List Doing) → AreTold p first ss jobs
+    → ((i : ℕ) (d : Result Doing Fault) → i < length jobs → HasRunIn p limit parts (get_or jobs i d) (get_or jobs' i d)) → length jobs' ≡ length jobs → map Ok ds ≡ jobs' → AllZip (RunsBehind p parts first) ss ds
+ran_behind p limit parts first [] [] jobs' [] told each long all = tt
+ran_behind p limit parts first [] [] jobs' (d ∷ ds) told each long all = absurd (let same = ap length all in omega (arith, same, long))
+ran_behind p limit parts first [] (job ∷ jobs) jobs' ds told each long all = absurd told
+ran_behind p limit parts first (s ∷ ss) [] jobs' ds told each long all = absurd told
+ran_behind p limit parts first (s ∷ ss) (job ∷ jobs) jobs' [] told each long all = absurd (let same = ap length all in omega (arith, same, long))
+ran_behind p limit parts first (s ∷ ss) (job ∷ jobs) jobs' (d ∷ ds) ((s1, learned, is), told) each long all =
+    let ran : HasRunIn p limit parts job (Ok d) = subst (λ (l : List (Result Doing Fault)). HasRunIn p limit parts job (get_or l 0 job)) (sym all) (each 0 job (omega arith)) in
+    let here : JobHasRun p parts s1 d = (subst (λ (x : Result Doing Fault). HasRunIn p limit parts x (Ok d)) is ran).0 in (
       (s1, learned, here),
-      ran_behind limit parts first ss jobs (map Ok ds) ds told
-          (λ i e within. (subst (λ (l : List (Result Doing Fault)). HasRunIn limit parts (get_or jobs i e) (get_or l (suc i) e)) (sym all) (each (suc i) e (omega (arith, within)))))
+      ran_behind p limit parts first ss jobs (map Ok ds) ds told
+          (λ i e within. (subst (λ (l : List (Result Doing Fault)). HasRunIn p limit parts (get_or jobs i e) (get_or l (suc i) e)) (sym all) (each (suc i) e (omega (arith, within)))))
           (let same = ap length all in omega (arith, same, long)) refl,
     )
 
 -- the first job and the others are done
-pub are_done : (limit : ℕ) (parts : List (List (List ℕ))) (seats rest : List Sitting) (s : Sitting) (d : Doing) (jobs jobs' : List (Result Doing Fault)) (ds : List Doing) → seats ≡ s ∷ rest → HasRun parts s d
-    → AreTold d.seat rest jobs → ((i : ℕ) (e : Result Doing Fault) → i < length jobs → HasRunIn limit parts (get_or jobs i e) (get_or jobs' i e)) → length jobs' ≡ length jobs
-    → map Ok ds ≡ Ok d ∷ jobs' → AreDone parts seats ds
-are_done limit parts seats rest s d jobs jobs' [] are run told each long all = absurd (let same = ap length all in omega (arith, same))
-are_done limit parts seats rest s d jobs jobs' (d' ∷ ds) are run told each long all =
+pub are_done : (p : Profile) (limit : ℕ) (parts : List (List (List ℕ))) (seats rest : List SeatState) (s : SeatState) (d : Doing) (jobs jobs' : List (Result Doing Fault)) (ds : List Doing) → seats ≡ s ∷ rest → JobHasRun p parts s d
+    → AreTold p d.seat rest jobs → ((i : ℕ) (e : Result Doing Fault) → i < length jobs → HasRunIn p limit parts (get_or jobs i e) (get_or jobs' i e)) → length jobs' ≡ length jobs
+    → map Ok ds ≡ Ok d ∷ jobs' → AreDone p parts seats ds
+are_done p limit parts seats rest s d jobs jobs' [] are run told each long all = absurd (let same = ap length all in omega (arith, same))
+are_done p limit parts seats rest s d jobs jobs' (d' ∷ ds) are run told each long all =
     let first : d' ≡ d = cc in
     let others : map Ok ds ≡ jobs' = cc in
-    subst (λ (l : List Sitting). AreDone parts l (d' ∷ ds)) (sym are)
-    (subst (λ (x : Doing). HasRun parts s x × AllZip (RunsBehind parts x.seat) rest ds) (sym first) (run, ran_behind limit parts d.seat rest jobs jobs' ds told each long others))
+    subst (λ (l : List SeatState). AreDone p parts l (d' ∷ ds)) (sym are)
+    (subst (λ (x : Doing). JobHasRun p parts s x × AllZip (RunsBehind p parts x.seat) rest ds) (sym first) (run, ran_behind p limit parts d.seat rest jobs jobs' ds told each long others))
 
 -- a list of seats by its first one
-pub first_seat : (seats rest : List Sitting) (s : Sitting) → 1 ≤ length seats → s ≡ get_or seats 0 s → rest ≡ drop 1 seats → seats ≡ s ∷ rest
+pub first_seat : (seats rest : List SeatState) (s : SeatState) → 1 ≤ length seats → s ≡ get_or seats 0 s → rest ≡ drop 1 seats → seats ≡ s ∷ rest
 first_seat [] rest s some at is = absurd (omega (arith, some))
 first_seat (a ∷ seats) rest s some at is = λ i. sym at i ∷ sym is i
 
-pub new_rest : (seats : List Sitting) → All IsNew seats → All IsNew (drop 1 seats)
+pub new_rest : (seats : List SeatState) → All IsNew seats → All IsNew (drop 1 seats)
 new_rest [] new = All-nil IsNew
 new_rest (s ∷ seats) new = All-tail IsNew s seats new
 
-pub all_done : (parts : List (List (List ℕ))) (seats : List Sitting) (d : Doing) (jobs : List (Result Doing Fault)) (result : Result (Vec Doing Global) Fault)
-    → IfOk result (λ all. map Ok all.items ≡ Ok d ∷ jobs) → ((ds : List Doing) → map Ok ds ≡ Ok d ∷ jobs → AreDone parts seats ds) → IfOk result (λ all. AreDone parts seats all.items)
-all_done parts seats d jobs (Ok all) same done = done all.items same
-all_done parts seats d jobs (Err fault) same done = tt
+pub all_done : (p : Profile) (parts : List (List (List ℕ))) (seats : List SeatState) (d : Doing) (jobs : List (Result Doing Fault)) (result : Result (Vec Doing Global) Fault)
+    → IfOk result (λ all. map Ok all.items ≡ Ok d ∷ jobs) → ((ds : List Doing) → map Ok ds ≡ Ok d ∷ jobs → AreDone p parts seats ds) → IfOk result (λ all. AreDone p parts seats all.items)
+all_done p parts seats d jobs (Ok all) same done = done all.items same
+all_done p parts seats d jobs (Err fault) same done = tt
 
 -- one job more of those that no fault has ended
 pub together_next : {X E : Type 0} (done done' : List X) (job : Result X E) (d : X) (before rest all : List (Result X E)) → before ≡ job ∷ rest → job ≡ Ok d → done' ≡ done ++ d ∷ []

@@ -8,10 +8,10 @@ use Rattle.paris_records.specs.declared.records.Entry.{Entry}
 use Rattle.paris_records.specs.declared.records.Receipt.{Receipt}
 use Rattle.paris_records.specs.History.{receipt}
 use Rattle.paris_records.specs.Receipts.{receipts_in}
-use Rattle.paris_desk.specs.Seats.{Sitting}
+use Rattle.paris_desk.specs.Seats.{SeatState}
 use Rattle.paris_desk.proofs.Moving.{Behind, all_so}
 use Rattle.paris_desk.proofs.Prefixes.{prefix_length, prefix_trans}
-use Rattle.paris_parts.specs.Seeing.{Glimpses, Sees}
+use Rattle.paris_parts.specs.Seeing.{Glimpses, SeesWhenClosed}
 
 -- receipts of the first so many entries
 abbrev pub UpTo : ℕ → Receipt → Type 0
@@ -81,9 +81,9 @@ begun_receipts s h seen made later begins are before behind =
     (receipts_upto s 0 (length seen) seen (omega arith)) (receipts_behind s (0 + length seen) (length seen) begins.0 (omega arith)) before behind
 
 -- what a seat saw is seen in the closed history
-pub seen_so : (h : List Entry) (n : ℕ) (s : Sitting) (begun known : List Entry) (calls : List Receipt) → IsPrefix s.past h → s.receipts ≡ receipts_in n 0 h
+pub seen_so : (h : List Entry) (n : ℕ) (s : SeatState) (begun known : List Entry) (calls : List Receipt) → IsPrefix s.past h → s.receipts ≡ receipts_in n 0 h
     → (1 ≤ n → IsPrefix known begun) → All (UpTo (length known)) calls → calls ≡ receipts_in 0 0 h
-    → (made : List Receipt) (seen : List Entry) → Glimpses begun s made seen → Sees h n made seen
+    → (made : List Receipt) (seen : List Entry) → Glimpses begun s made seen → SeesWhenClosed h n made seen
 seen_so h n s begun known calls past own first upto all made seen g =
     let begins : IsPrefix seen h = prefix_trans seen s.past h g.past past in record {
       begins = begins;

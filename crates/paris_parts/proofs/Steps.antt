@@ -2,13 +2,14 @@
 use Rattle.std.proofs.Common.{◌≡◌, ◌≤◌, List, [], ◌∷◌, ◌++◌, length, refl, sym, ap, ◌∙◌, subst, arith, append_assoc, append-nil}
 use Rattle.std.specs.List.{All}
 use Rattle.std.proofs.lemmas.List.Elements.{All-cons, All-nil}
+use Rattle.paris_names.specs.declared.profiles.Profile.{Profile}
 use Rattle.paris_machine.specs.declared.events.Event.{Event}
 use Rattle.paris_machine.specs.declared.events.Reply.{Reply}
 use Rattle.paris_records.specs.declared.records.Entry.{Entry}
 use Rattle.paris_records.specs.declared.records.Receipt.{Receipt}
 use Rattle.paris_records.specs.History.{entry}
 use Rattle.paris_desk.specs.Calls.{Called}
-use Rattle.paris_desk.specs.Seats.{Sitting, called}
+use Rattle.paris_desk.specs.Seats.{SeatState, called}
 use Rattle.paris_desk.specs.Work.{Moves}
 use Rattle.paris_desk.proofs.Moving.{Behind, all_both, all_so, moves_call, moves_more, moves_none, receipt_of}
 use Rattle.paris_desk.proofs.Prefixes.{prefix_length, prefix_self, prefix_snoc, prefix_trans}
@@ -18,25 +19,25 @@ use Rattle.paris_parts.specs.Seeing.{Glimpses, IsInTime}
 use Rattle.paris_parts.proofs.Sights.{UpTo}
 
 -- no call was made, and no look
-pub stays : (s : Sitting) → IsInTime s → MovesInTime s s []
+pub stays : (s : SeatState) → IsInTime s → MovesInTime s s []
 stays s time = (moves_none s, time)
 
 -- a call was made
-pub calls : (s s' : Sitting) (event : Event) (reply : Reply) → Called s s' event reply → IsInTime s → (r : Receipt) × MovesInTime s s' (r ∷ []) × (r.event ≡ event) × (r.reply ≡ reply)
-calls s s' event reply c time =
+pub calls : (p : Profile) (s s' : SeatState) (event : Event) (reply : Reply) → Called p s s' event reply → IsInTime s → (r : Receipt) × MovesInTime s s' (r ∷ []) × (r.event ≡ event) × (r.reply ≡ reply)
+calls p s s' event reply c time =
     let h : List Entry = c.history ++ entry s.number event reply ∷ [] in
-    let own : Receipt = receipt_of s s' event reply c in
+    let own : Receipt = receipt_of p s s' event reply c in
     let longer : length s.past ≤ length h = prefix_length s.past h (prefix_trans s.past c.history h c.begins (prefix_snoc c.history (entry s.number event reply))) in
     let next : IsInTime (called s h event reply) = (
       omega arith,
       all_both (UpTo (length h)) s.receipts (own ∷ []) (all_so (UpTo (length s.past)) (UpTo (length h)) s.receipts (λ r low. omega (arith, low, longer)) time.1)
           (All-cons (UpTo (length h)) own [] (omega arith) (All-nil (UpTo (length h)))),
     ) in
-    (own, (moves_call s s' event reply c, subst IsInTime (sym c.seat) next), refl, refl)
+    (own, (moves_call p s s' event reply c, subst IsInTime (sym c.seat) next), refl, refl)
 
 -- a look was made
-pub looks : (s s' : Sitting) → Looked s s' → IsInTime s → MovesInTime s s' [] × Glimpses s.past s' s.receipts s'.past
-looks s s' l time =
+pub looks : (p : Profile) (s s' : SeatState) → Looked p s s' → IsInTime s → MovesInTime s s' [] × Glimpses s.past s' s.receipts s'.past
+looks p s s' l time =
     let longer : length s.past ≤ length s'.past = prefix_length s.past s'.past l.begins in
     let low : All (UpTo (length s'.past)) s.receipts = all_so (UpTo (length s.past)) (UpTo (length s'.past)) s.receipts (λ r few. omega (arith, few, longer)) time.1 in
     let told = l.front.1 in
@@ -58,11 +59,11 @@ looks s s' l time =
     )
 
 -- one step after another
-pub moves_on : (s s1 s2 : Sitting) (rs more : List Receipt) → MovesInTime s s1 rs → MovesInTime s1 s2 more → MovesInTime s s2 (rs ++ more)
+pub moves_on : (s s1 s2 : SeatState) (rs more : List Receipt) → MovesInTime s s1 rs → MovesInTime s1 s2 more → MovesInTime s s2 (rs ++ more)
 moves_on s s1 s2 rs more m n = (moves_more s s1 s2 rs more m.0 n.0, n.1)
 
 -- what was seen stays so
-pub still : (first : List Entry) (s s' : Sitting) (rs made : List Receipt) (seen : List Entry) → IsInTime s → Moves s s' rs → Glimpses first s made seen → Glimpses first s' made seen
+pub still : (first : List Entry) (s s' : SeatState) (rs made : List Receipt) (seen : List Entry) → IsInTime s → Moves s s' rs → Glimpses first s made seen → Glimpses first s' made seen
 still first s s' rs made seen time m g =
     let few : length seen ≤ length s.past = prefix_length seen s.past g.past in
     let told = time.0 in record {
@@ -75,7 +76,7 @@ still first s s' rs made seen time m g =
     }
 
 -- what is seen in a step is seen in all steps to it
-pub from_first : (s s1 s2 : Sitting) (rs : List Receipt) (seen : List Entry) → Moves s s1 rs → Glimpses s1.past s2 s1.receipts seen → Glimpses s.past s2 (s.receipts ++ rs) seen
+pub from_first : (s s1 s2 : SeatState) (rs : List Receipt) (seen : List Entry) → Moves s s1 rs → Glimpses s1.past s2 s1.receipts seen → Glimpses s.past s2 (s.receipts ++ rs) seen
 from_first s s1 s2 rs seen m g = record {
   begins = prefix_trans s.past s1.past seen m.begins g.begins;
   past = g.past;

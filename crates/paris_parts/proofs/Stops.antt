@@ -13,16 +13,17 @@ use Rattle.paris_names.specs.declared.ids.Spot.{Spot}
 use Rattle.paris_names.specs.declared.names.KeyName.{KeyName}
 use Rattle.paris_session.specs.declared.run.RunFault.TheVariants as run_faults
 use Rattle.paris_desk.specs.Calls.{Excused, Unrecorded}
-use Rattle.paris_desk.specs.Seats.{Sitting}
+use Rattle.paris_desk.specs.Seats.{SeatState}
 use Rattle.paris_desk.specs.Work.{Stopped}
 use Rattle.paris_desk.specs.declared.closing.Cause.{Cause}
 use Rattle.paris_desk.specs.declared.closing.Cause.TheVariants as causes
 use Rattle.paris_desk.proofs.Moving.{all_both, all_so}
+use Rattle.paris_names.specs.declared.profiles.Profile.{Profile}
 use Rattle.paris_view.specs.Looks.{Missed}
 use Rattle.paris_parts.specs.Faults.{StopsRun, closing_fault, rank, worse}
 use Rattle.paris_parts.specs.Jobs.{Doing, HasRunIn, IsWorst}
 use Rattle.paris_parts.specs.Moving.{is_unmet}
-use Rattle.paris_parts.specs.Run.{IsFit, StoppedBy}
+use Rattle.paris_parts.specs.Run.{IsPlayable, StoppedBy}
 use Rattle.paris_parts.specs.declared.run.DeskRunFault.{DeskRunFault}
 use Rattle.paris_parts.specs.declared.run.DeskRunFault.TheVariants as desk_faults
 
@@ -35,17 +36,17 @@ excused_stops limit front fault (inr (inl is)) = subst (StopsRun limit) (sym is)
 excused_stops limit front fault (inr (inr is)) = memory_stops limit fault is
 
 -- a call that isn't recorded stops a run
-pub unrecorded_stops : (limit : ℕ) (s s' : Sitting) (fault : Fault) → Unrecorded limit s s' fault → StopsRun limit fault
+pub unrecorded_stops : (limit : ℕ) (s s' : SeatState) (fault : Fault) → Unrecorded limit s s' fault → StopsRun limit fault
 unrecorded_stops limit s s' fault unrecorded = excused_stops limit s.front fault unrecorded.1
 
-pub work_stops : (limit most : ℕ) (s s' : Sitting) (fault : Fault) → Stopped limit most s s' fault → StopsRun most fault
+pub work_stops : (limit most : ℕ) (s s' : SeatState) (fault : Fault) → Stopped limit most s s' fault → StopsRun most fault
 work_stops limit most s s' fault stopped = excused_stops most s'.front fault stopped.excused
 
 -- so does a look that meets no history
-pub unmet_stops : (limit : ℕ) (name : KeyName) (spot : Spot) (s s' : Sitting) (fault : Fault) → is_unmet fault ≡ true → Missed name spot s s' fault → StopsRun limit fault
-unmet_stops limit name spot s s' fault unmet missed = by_fault fault unmet missed
+pub unmet_stops : (p : Profile) (limit : ℕ) (name : KeyName) (spot : Spot) (s s' : SeatState) (fault : Fault) → is_unmet fault ≡ true → Missed p name spot s s' fault → StopsRun limit fault
+unmet_stops p limit name spot s s' fault unmet missed = by_fault fault unmet missed
   where
-    by_fault : (f : Fault) → is_unmet f ≡ true → Missed name spot s s' f → StopsRun limit f
+    by_fault : (f : Fault) → is_unmet f ≡ true → Missed p name spot s s' f → StopsRun limit f
     by_fault faults.NoEntry met missed = tt
     by_fault (faults.StrangeSeat f l) met missed = let told = missed.told in omega (arith, told.0, told.1)
     by_fault faults.SetsFull met missed = absurd (let e : false ≡ true = met in cc)
@@ -82,7 +83,7 @@ ended_by limit (Ok x) h so = absurd h
 ended_by limit (Err fault) h so = so fault h
 
 -- what stopped a run whose parts fit is told
-pub told_by : (limit workers : ℕ) (script : List ℕ) (fault : Fault) (told : DeskRunFault) → IsFit workers script → StopsRun limit fault
+pub told_by : (limit workers : ℕ) (script : List ℕ) (fault : Fault) (told : DeskRunFault) → IsPlayable workers script → StopsRun limit fault
     → told ≡ (if is_no_memory fault then desk_faults.Run run_faults.NoMemory else desk_faults.Desk fault) → StoppedBy limit workers script told
 told_by limit workers script fault told fit stops is = by_test (is_no_memory fault) refl is
   where
@@ -178,10 +179,10 @@ worst_stops limit jobs fault ((k, within, at), low) ends =
     subst (EndsSo limit) at there
 
 -- where jobs have run, each that is ended is ended so
-pub all_end_so : (limit : ℕ) (parts : List (List (List ℕ))) (jobs jobs' : List Job) → ((i : ℕ) (d : Job) → i < length jobs → HasRunIn limit parts (get_or jobs i d) (get_or jobs' i d))
+pub all_end_so : (p : Profile) (limit : ℕ) (parts : List (List (List ℕ))) (jobs jobs' : List Job) → ((i : ℕ) (d : Job) → i < length jobs → HasRunIn p limit parts (get_or jobs i d) (get_or jobs' i d))
     → length jobs' ≡ length jobs → All (EndsSo limit) jobs'
-all_end_so limit parts jobs [] each long = All-nil (EndsSo limit)
-all_end_so limit parts [] (job' ∷ jobs') each long = absurd (omega (arith, long))
-all_end_so limit parts (job ∷ jobs) (job' ∷ jobs') each long =
+all_end_so p limit parts jobs [] each long = All-nil (EndsSo limit)
+all_end_so p limit parts [] (job' ∷ jobs') each long = absurd (omega (arith, long))
+all_end_so p limit parts (job ∷ jobs) (job' ∷ jobs') each long =
     All-cons (EndsSo limit) job' jobs' (each 0 job (omega arith)).1
-    (all_end_so limit parts jobs jobs' (λ i d within. each (suc i) d (omega (arith, within))) (omega (arith, long)))
+    (all_end_so p limit parts jobs jobs' (λ i d within. each (suc i) d (omega (arith, within))) (omega (arith, long)))

@@ -2,13 +2,15 @@
 use Rattle.std.specs.Prelude.{ℕ, Bool, true, false, List}
 use Rattle.paris_names.specs.declared.faults.Fault.{Fault}
 use Rattle.paris_names.specs.declared.faults.Fault.TheVariants.{StrangeSeat, NoEntry}
+use Rattle.paris_names.specs.declared.profiles.Profile.{Profile}
 use Rattle.paris_records.specs.declared.records.Receipt.{Receipt}
-use Rattle.paris_desk.specs.Seats.{Sitting}
+use Rattle.paris_desk.specs.Seats.{SeatState}
 use Rattle.paris_desk.specs.Work.{Moves}
 use Rattle.paris_cuts.specs.declared.asked.Asked.{Asked}
-use Rattle.paris_cuts.specs.Hands.{Hand, empty_hand}
-use Rattle.paris_parts.specs.Hands.{Answers, AnswersAsked, Plays}
+use Rattle.paris_cuts.specs.Hands.{Hand}
+use Rattle.paris_parts.specs.Hands.{Answers, AnswersAsked, HandPlays}
 use Rattle.paris_parts.specs.Seeing.{Glimpses, IsInTime}
+use Rattle.paris_parts.specs.Beginning.{hand_at}
 
 -- whether a fault says that a seat met no history that it could look at
 abbrev pub is_unmet : Fault → Bool
@@ -17,17 +19,17 @@ is_unmet (StrangeSeat f l) = true
 is_unmet _ = false
 
 -- a seat has moved, and is in time then
-abbrev pub MovesInTime : Sitting → Sitting → List Receipt → Type 0
+abbrev pub MovesInTime : SeatState → SeatState → List Receipt → Type 0
 MovesInTime s s' rs = Moves s s' rs × IsInTime s'
 
 -- what is asked for is answered at a seat
-abbrev pub Answered : Sitting → Sitting → Hand → Asked → Hand → List ℕ → Type 0
-Answered s s' h asked h' text = (rs : List Receipt) × MovesInTime s s' rs × AnswersAsked (Glimpses s.past s' s.receipts) h asked rs h' text
+abbrev pub Answered : Profile → SeatState → SeatState → Hand → Asked → Hand → List ℕ → Type 0
+Answered p s s' h asked h' text = (rs : List Receipt) × MovesInTime s s' rs × AnswersAsked p (Glimpses s.past s' s.receipts) h asked rs h' text
 
 -- a line is answered at a seat
-abbrev pub HasAnswered : Sitting → Sitting → Hand → List ℕ → Hand → List ℕ → Type 0
-HasAnswered s s' h line h' text = (rs : List Receipt) × MovesInTime s s' rs × Answers (Glimpses s.past s' s.receipts) h line rs h' text
+abbrev pub HasAnswered : Profile → SeatState → SeatState → Hand → List ℕ → Hand → List ℕ → Type 0
+HasAnswered p s s' h line h' text = (rs : List Receipt) × MovesInTime s s' rs × Answers p (Glimpses s.past s' s.receipts) h line rs h' text
 
 -- lines are answered at a seat, one after another
-abbrev pub HasPlayed : Sitting → Sitting → List (List ℕ) → Hand → List ℕ → Type 0
-HasPlayed s s' lines h text = (rs : List Receipt) × MovesInTime s s' rs × Plays (Glimpses s.past s') s.receipts empty_hand lines rs h text
+abbrev pub HasPlayed : Profile → SeatState → SeatState → List (List ℕ) → Hand → List ℕ → Type 0
+HasPlayed p s s' lines h text = (rs : List Receipt) × MovesInTime s s' rs × HandPlays p (Glimpses s.past s') s.receipts (hand_at s) lines rs h text

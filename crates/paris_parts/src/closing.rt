@@ -2,7 +2,7 @@
 
 ghost use Rattle.std.specs.Prelude.{◌≡◌, ◌<◌, ◌^◌, ℕ, ◌++◌, true, length, map, IfErr, IfOk};
 ghost use mathlib.Core.List.{IsPrefix};
-ghost use Rattle.paris_records.specs.Agreement.{Agree, list_of};
+ghost use Rattle.paris_records.specs.Agreement.{Agree, receipts_of_seat};
 ghost use Rattle.paris_desk.specs.Closing.{Hinders, by_number, past_of};
 ghost use Rattle.paris_desk.specs.declared.closing.Cause.{Cause};
 ghost use Rattle.paris_records.specs.History.{state_of};
@@ -13,11 +13,11 @@ ghost use Rattle.paris_parts.specs.Texts.{closed_text, edits_in};
 
 use crate::outcome::Ended;
 use crate::texts::{closed_text, edits_in};
-use paris_audit::audit;
+use paris_audit::audit_with;
 use paris_book::Book;
 use paris_cuts::{Part, Transcript, play_last};
 use paris_desk::{Cause, CloseFault, Closed, Desk, Entry, Office, Receipt, Seat, close};
-use paris_names::Fault;
+use paris_names::{Fault, Profile};
 use paris_session::{Settler, Summary};
 use std::alloc::{AllocError, Global};
 use std::sync::Wait;
@@ -34,11 +34,11 @@ fn fault_of(cause: Cause) -> Fault
 
 /// Closes a desk, or ends it where that is refused.
 fn closed<L: Office, R: Wait>(rt: &R, desk: Desk<L>, seats: Vec<Seat<L>>) -> Result<Closed, Fault>
-    ensures state { IfOk result (λ closed. closed.book ≡ state_of closed.history.items) }
-    ensures agree { IfOk result (λ closed. Agree closed.history.items (map (λ r. r.items) closed.receipts.items)) }
+    ensures state { IfOk result (λ closed. closed.book ≡ state_of L.profile closed.history.items) }
+    ensures agree { IfOk result (λ closed. Agree L.profile closed.history.items (map (λ r. r.items) closed.receipts.items)) }
     ensures receipts { IfOk result (λ closed. map (λ r. r.items) closed.receipts.items ≡ by_number L.seats seats.items) }
     ensures begins { IfOk result (λ closed. (n : ℕ) → n < L.seats → IsPrefix (past_of n seats.items) closed.history.items) }
-    ensures each { IfOk result (λ closed. (n : ℕ) → list_of (map (λ r. r.items) closed.receipts.items) n ≡ receipts_in n 0 closed.history.items) }
+    ensures each { IfOk result (λ closed. (n : ℕ) → receipts_of_seat (map (λ r. r.items) closed.receipts.items) n ≡ receipts_in n 0 closed.history.items) }
     ensures cause { IfErr result (λ fault. (cause : Cause) × Hinders L.seats seats.items cause × (fault ≡ closing_fault cause)) }
 {
     match close(rt, desk, seats) {
@@ -58,19 +58,20 @@ fn closed<L: Office, R: Wait>(rt: &R, desk: Desk<L>, seats: Vec<Seat<L>>) -> Res
 /// What is written of a history that is closed, once it is audited.
 fn audited_text(
     alloc: Global,
+    profile: Profile,
     history: &[Entry],
     receipts: &[Vec<Receipt>],
 ) -> Result<Vec<u8>, AllocError>
-    requires { Agree history.now (map (λ r. r.items) receipts.now) }
+    requires { Agree profile history.now (map (λ r. r.items) receipts.now) }
     ensures { IfOk result (λ text. text.items ≡ closed_text (edits_in history.now) true) }
 {
-    let agree = audit(alloc, history, receipts)?;
+    let agree = audit_with(alloc, profile, history, receipts)?;
     closed_text(alloc, edits_in(history), agree)
 }
 
 /// The book of a closed desk, and what is written of its history.
-fn audited(alloc: Global, closed: Closed) -> Result<(Book, Vec<u8>), AllocError>
-    requires { Agree closed.history.items (map (λ r. r.items) closed.receipts.items) }
+fn audited(alloc: Global, profile: Profile, closed: Closed) -> Result<(Book, Vec<u8>), AllocError>
+    requires { Agree profile closed.history.items (map (λ r. r.items) closed.receipts.items) }
     ensures book { IfOk result (λ p. p.0 ≡ closed.book) }
     ensures text { IfOk result (λ p. p.1.items ≡ closed_text (edits_in closed.history.items) true) }
 {
@@ -79,7 +80,7 @@ fn audited(alloc: Global, closed: Closed) -> Result<(Book, Vec<u8>), AllocError>
         history,
         receipts,
     } = closed;
-    let text = audited_text(alloc, history.as_slice(), receipts.as_slice())?;
+    let text = audited_text(alloc, profile, history.as_slice(), receipts.as_slice())?;
     Ok((book, text))
 }
 
@@ -99,13 +100,15 @@ pub(crate) fn conclude<L: Office, R: Wait, S: Settler>(
     rt: &R,
     settler: &S,
     alloc: Global,
+    profile: Profile,
     desk: Desk<L>,
     ended: Ended<L>,
     last: &Part,
 ) -> Result<Transcript, Fault>
     requires settler { S.can_settle settler.now }
+    requires profile { profile ≡ L.profile }
     requires few { (length last.now < 2 ^ 62) × (ended.summary.commands < 2 ^ 62) × (ended.summary.refusals < 2 ^ 62) }
-    ensures concluded { IfOk result (λ t. Concludes L.seats ended.seats.items last.now ended.text.items t.text.items ended.summary t.summary) }
+    ensures concluded { IfOk result (λ t. Concludes L.profile L.seats ended.seats.items last.now ended.text.items t.text.items ended.summary t.summary) }
     ensures fault { IfErr result (λ fault. StopsRun L.limit fault) }
 {
     let Ended {
@@ -114,7 +117,7 @@ pub(crate) fn conclude<L: Office, R: Wait, S: Settler>(
         summary,
     } = ended;
     let left = closed(rt, desk, seats)?;
-    let (book, closing) = audited(alloc, left)?;
+    let (book, closing) = audited(alloc, profile, left)?;
     let rest = play_last(settler, alloc, book, last)?;
     let all = joined(text, closing.as_slice(), rest.text.as_slice())?;
     let summary = Summary {

@@ -6,8 +6,9 @@ ghost use Rattle.paris_names.specs.declared.faults.Fault.{Fault};
 ghost use Rattle.paris_names.specs.declared.faults.Fault.TheVariants as FaultCase;
 ghost use Rattle.paris_desk.specs.Pasts.{Learned};
 ghost use Rattle.paris_cuts.specs.Parts.{IsShort};
+ghost use Rattle.paris_parts.specs.Beginning.{hand_at};
 ghost use Rattle.paris_parts.specs.Faults.{StopsRun, rank, worse};
-ghost use Rattle.paris_parts.specs.Jobs.{AreDone, AreTold, Doing, HasRun, HasRunIn, IsNew, IsWorst, begun_at};
+ghost use Rattle.paris_parts.specs.Jobs.{AreDone, AreTold, Doing, JobHasRun, HasRunIn, IsNew, IsWorst, begun_at};
 ghost use Rattle.paris_parts.specs.Seeing.{IsInTime};
 
 use crate::players::play;
@@ -46,13 +47,21 @@ fn part_of(parts: &[Part], number: u64) -> Option<&Part>
     parts.get(number as usize)
 }
 
+/// A player for a seat. The first command of that of the first seat is the first of all.
+fn player_at<L: Office>(alloc: Global, seat: &Seat<L>) -> Player
+    ensures { result ≡ hand_at seat.now }
+{
+    Player::new(alloc, seat.number() == 0)
+}
+
 impl<L: Office> Job<L> {
     fn new(alloc: Global, seat: Seat<L>) -> Job<L>
         ensures { result ≡ begun_at seat }
     {
+        let player = player_at(alloc, &seat);
         Job {
             seat,
-            player: Player::new(alloc),
+            player,
             text: Vec::new(alloc),
         }
     }
@@ -68,7 +77,7 @@ impl<L: Office> Job<L> {
     ) -> Result<Job<L>, Fault>
         requires short { All IsShort parts.now }
         requires time { IsInTime self.seat }
-        ensures run { IfOk result (λ job. HasRun parts.now self.seat job) }
+        ensures run { IfOk result (λ job. JobHasRun L.profile parts.now self.seat job) }
         ensures fault { IfErr result (λ fault. StopsRun L.limit fault) }
     {
         let Job {
@@ -76,15 +85,11 @@ impl<L: Office> Job<L> {
             player: _,
             text,
         } = self;
+        let mut player = player_at(alloc, &seat);
         let Some(part) = part_of(parts, seat.number()) else {
             work(rt, alloc, desk, &mut seat, gate, MAX_HISTORY)?;
-            return Ok(Job {
-                seat,
-                player: Player::new(alloc),
-                text,
-            });
+            return Ok(Job { seat, player, text });
         };
-        let mut player = Player::new(alloc);
         let (seat, text) = play(&mut player, rt, alloc, desk, seat, part)?;
         Ok(Job { seat, player, text })
     }
@@ -92,7 +97,7 @@ impl<L: Office> Job<L> {
 
 /// A seat, once it is told of all that the first one knows.
 fn told<L: Office>(seat: Seat<L>, first: &Seat<L>) -> Seat<L>
-    ensures { Learned seat first.now result }
+    ensures { Learned L.profile seat first.now result }
 {
     let mut seat = seat;
     seat.learn_from(first);
@@ -105,7 +110,7 @@ fn jobs_told<L: Office>(
     seats: Vec<Seat<L>>,
     first: &Seat<L>,
 ) -> Result<Vec<Result<Job<L>, Fault>>, AllocError>
-    ensures { IfOk result (λ jobs. AreTold first.now seats.items jobs.items) }
+    ensures { IfOk result (λ jobs. AreTold L.profile first.now seats.items jobs.items) }
 {
     let mut jobs = Vec::new(alloc);
     for seat in seats {
@@ -165,7 +170,7 @@ fn run_in<L: Office, R: Wait, G: Gate>(
 )
     requires short { All IsShort parts.now }
     requires time { IfOk job.old (λ begun. IsInTime begun.seat) }
-    ensures { HasRunIn L.limit parts.now job.old job.new }
+    ensures { HasRunIn L.profile L.limit parts.now job.old job.new }
 {
     if let Ok(begun) = mem::replace(job, Err(Fault::NoMemory)) {
         *job = begun.run(rt, alloc, desk, parts, gate);
@@ -184,7 +189,7 @@ fn run_at_once<L: Office + Send + Sync, R: Threads + Wait + Sync, G: Gate + Sync
     requires short { All IsShort parts.now }
     requires time { All (λ job. IfOk job (λ begun. IsInTime begun.seat)) jobs.old }
     ensures len { length jobs.new ≡ length jobs.old }
-    ensures each { (i : ℕ) (d : Result Doing Fault) → i < length jobs.old → HasRunIn L.limit parts.now (slice_index_or jobs.old i d) (slice_index_or jobs.new i d) }
+    ensures each { (i : ℕ) (d : Result Doing Fault) → i < length jobs.old → HasRunIn L.profile L.limit parts.now (slice_index_or jobs.old i d) (slice_index_or jobs.new i d) }
 {
     let threads = jobs.len().max(1);
     thread::for_each_mut(
@@ -234,7 +239,7 @@ pub(crate) fn run_all<L: Office + Send + Sync, R: Threads + Wait + Sync, G: Gate
 ) -> Result<Vec<Job<L>>, Fault>
     requires short { All IsShort parts.now }
     requires seats { (1 ≤ length seats.items) × All IsNew seats.items }
-    ensures done { IfOk result (λ jobs. AreDone parts.now seats.items jobs.items) }
+    ensures done { IfOk result (λ jobs. AreDone L.profile parts.now seats.items jobs.items) }
     ensures fault { IfErr result (λ fault. StopsRun L.limit fault) }
 {
     let mut seats = seats;

@@ -92,7 +92,7 @@ pub(crate) fn play_parts<L: Office + Send + Sync, R: Threads + Wait + Sync, G: G
 ) -> Result<Ended<L>, Fault>
     requires parts { All IsShort parts.now }
     requires seats { (seats.items ≡ fresh count) × (1 ≤ count) × (count ≤ MAX_SEATS) × (length parts.now ≤ count) }
-    ensures done { IfOk result (λ ended. (ds : List Doing) × AreDone parts.now (fresh count) ds × LeftBy ds (length parts.now) ended.seats.items ended.text.items ended.summary) }
+    ensures done { IfOk result (λ ended. (ds : List Doing) × AreDone L.profile parts.now (fresh count) ds × LeftBy ds (length parts.now) ended.seats.items ended.text.items ended.summary) }
     ensures few { IfOk result (λ ended. (ended.summary.commands < 2 ^ 62) × (ended.summary.refusals < 2 ^ 62)) }
     ensures fault { IfErr result (λ fault. StopsRun L.limit fault) }
 {

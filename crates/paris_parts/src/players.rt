@@ -2,7 +2,8 @@
 
 ghost use Rattle.std.specs.Prelude.{◌≡◌, ◌^◌, ◌<◌, ◌≤◌, length, IfErr, IfOk, OnOk};
 ghost use Rattle.paris_cuts.specs.declared.asked.Asked.TheVariants as AskedCase;
-ghost use Rattle.paris_cuts.specs.Hands.{IsCounted, empty_hand};
+ghost use Rattle.paris_cuts.specs.Hands.{IsHandCounted};
+ghost use Rattle.paris_parts.specs.Beginning.{hand_at};
 ghost use Rattle.paris_parts.specs.Faults.{StopsRun};
 ghost use Rattle.paris_parts.specs.Moving.{Answered, HasAnswered, HasPlayed, is_unmet};
 ghost use Rattle.paris_parts.specs.Seeing.{IsInTime};
@@ -34,7 +35,7 @@ fn answer_faults<L: Office, R: Wait>(
     seat: &mut Seat<L>,
 ) -> Result<Vec<u8>, Fault>
     requires { IsInTime seat.old }
-    ensures answered { IfOk result (λ text. Answered seat.old seat.new player.now AskedCase.Faults player.now text.items) }
+    ensures answered { IfOk result (λ text. Answered L.profile seat.old seat.new player.now AskedCase.Faults player.now text.items) }
     ensures fault { IfErr result (λ fault. StopsRun L.limit fault) }
 {
     let looks = desk.list(rt, seat)?;
@@ -50,8 +51,8 @@ fn answer_call<L: Office, R: Wait>(
     event: Event,
 ) -> Result<Vec<u8>, Fault>
     requires time { IsInTime seat.old }
-    requires counted { IsCounted player.old }
-    ensures answered { IfOk result (λ text. Answered seat.old seat.new player.old (AskedCase.Call event) player.new text.items) }
+    requires counted { IsHandCounted player.old }
+    ensures answered { IfOk result (λ text. Answered L.profile seat.old seat.new player.old (AskedCase.Call event) player.new text.items) }
     ensures fault { IfErr result (λ fault. StopsRun L.limit fault) }
 {
     match desk.call(rt, seat, event) {
@@ -70,7 +71,7 @@ fn answer_look<L: Office>(
 ) -> Result<(Seat<L>, Vec<u8>), Fault>
     requires time { IsInTime seat }
     requires few { player.old.refusals < player.old.commands }
-    ensures answered { IfOk result (λ p. Answered seat p.0 player.old (AskedCase.Look key spot) player.new p.1.items) }
+    ensures answered { IfOk result (λ p. Answered L.profile seat p.0 player.old (AskedCase.Look key spot) player.new p.1.items) }
     ensures fault { IfErr result (λ fault. StopsRun L.limit fault) }
 {
     match View::new(desk).look(seat, key, spot) {
@@ -96,8 +97,8 @@ fn answer_asked<L: Office, R: Wait>(
     asked: Asked,
 ) -> Result<(Seat<L>, Vec<u8>), Fault>
     requires time { IsInTime seat }
-    requires counted { IsCounted player.old }
-    ensures answered { IfOk result (λ p. Answered seat p.0 player.old asked player.new p.1.items) }
+    requires counted { IsHandCounted player.old }
+    ensures answered { IfOk result (λ p. Answered L.profile seat p.0 player.old asked player.new p.1.items) }
     ensures fault { IfErr result (λ fault. StopsRun L.limit fault) }
 {
     let mut seat = seat;
@@ -111,6 +112,7 @@ fn answer_asked<L: Office, R: Wait>(
             let text = answer_faults(player, rt, desk, &mut seat)?;
             Ok((seat, text))
         }
+        Asked::Chosen(_) => Ok((seat, player.tell_chosen()?)),
         Asked::Refused(fault) => Ok((seat, player.refuse(fault)?)),
     }
 }
@@ -126,7 +128,7 @@ fn answer<L: Office, R: Wait>(
 ) -> Result<(Seat<L>, Vec<u8>), Fault>
     requires time { IsInTime seat }
     requires few { player.old.commands < 2 ^ 62 }
-    ensures answered { IfOk result (λ p. HasAnswered seat p.0 player.old line.now player.new p.1.items) }
+    ensures answered { IfOk result (λ p. HasAnswered L.profile seat p.0 player.old line.now player.new p.1.items) }
     ensures fault { IfErr result (λ fault. StopsRun L.limit fault) }
 {
     let Some(asked) = player.asked(line)? else {
@@ -145,9 +147,9 @@ pub(crate) fn play<L: Office, R: Wait>(
     part: &Part,
 ) -> Result<(Seat<L>, Vec<u8>), Fault>
     requires few { length part.now < 2 ^ 62 }
-    requires fresh { player.old ≡ empty_hand }
+    requires fresh { player.old ≡ hand_at seat }
     requires time { IsInTime seat }
-    ensures played { IfOk result (λ p. HasPlayed seat p.0 part.now player.new p.1.items) }
+    ensures played { IfOk result (λ p. HasPlayed L.profile seat p.0 part.now player.new p.1.items) }
     ensures count { OnOk result (player.new.commands ≤ length part.now) }
     ensures fault { IfErr result (λ fault. StopsRun L.limit fault) }
 {

@@ -11,17 +11,18 @@ ghost use Rattle.paris_names.specs.declared.limits.TheConstants.{MAX_WORKERS};
 ghost use Rattle.paris_session.specs.declared.run.RunFault.TheVariants as RunCase;
 ghost use Rattle.paris_session.specs.Run.{HasCause, HasEnded, most_reads};
 ghost use Rattle.paris_parts.specs.declared.run.DeskRunFault.TheVariants as DeskCase;
+ghost use Rattle.paris_parts.specs.Beginning.{profile_of_run};
 ghost use Rattle.paris_parts.specs.Faults.{StopsRun};
-ghost use Rattle.paris_parts.specs.Run.{Fits, HasDeskCause, IsCutShort, Plays, Runs, StoppedBy};
+ghost use Rattle.paris_parts.specs.Run.{HasSeats, HasDeskCause, IsCutShort, PartsPlay, ScriptRuns, StoppedBy};
 
 use crate::closing::conclude;
 use crate::outcome::play_parts;
 use paris_calls::{Tally, write_out};
-use paris_cuts::{Part, Transcript, parts_of, read_all};
+use paris_cuts::{Part, Transcript, parts_of, profile_of, read_all};
 use paris_desk::{Desk, MAX_HISTORY, MAX_SEATS, Office, Opening};
 use paris_exec::Gate;
-use paris_names::Fault;
 use paris_names::limits::MAX_READS;
+use paris_names::{Fault, Profile};
 use paris_session::{RunFault, Settler, Summary};
 use std::alloc::{AllocError, Global};
 use std::io::{Read, Write};
@@ -67,12 +68,13 @@ impl From<Fault> for DeskRunFault {
     }
 }
 
-/// Plays all parts at a desk with so many seats.
+/// Plays all parts at a desk of a profile with so many seats.
 fn play_all<L: Office + Send + Sync, R: Threads + Wait + Sync, S: Settler, G: Gate + Sync>(
     rt: &R,
     settler: &S,
     alloc: Global,
     opening: Opening,
+    profile: Profile,
     seats: u64,
     limit: u64,
     parts: &[Part],
@@ -80,17 +82,18 @@ fn play_all<L: Office + Send + Sync, R: Threads + Wait + Sync, S: Settler, G: Ga
     gate: &G,
 ) -> Result<Transcript, Fault>
     requires opening { (opening.blank.name ≡ L.name) × (opening.blank.parts ≡ L.parts) × (opening.seen.book ≡ L.log) }
+    requires profile { profile ≡ L.profile }
     requires seats { (seats ≡ L.parts) × (seats ≡ L.seats) }
     requires few { (1 ≤ seats) × (seats ≤ MAX_SEATS) × (1 ≤ length parts.now) × (length parts.now ≤ seats) }
     requires limit { (limit ≡ L.limit) × (limit ≤ MAX_HISTORY) }
     requires parts { All IsShort parts.now × IsShort last.now }
     requires settler { S.can_settle settler.now }
-    ensures plays { IfOk result (λ t. Plays seats parts.now last.now t.text.items t.summary) }
+    ensures plays { IfOk result (λ t. PartsPlay profile seats parts.now last.now t.text.items t.summary) }
     ensures fault { IfErr result (λ fault. StopsRun limit fault) }
 {
-    let (desk, all) = Desk::<L>::new(rt, alloc, opening, seats, limit)?;
+    let (desk, all) = Desk::<L>::with_profile(rt, alloc, opening, profile, seats, limit)?;
     match play_parts(rt, alloc, &desk, all, seats, parts, gate) {
-        Ok(ended) => conclude(rt, settler, alloc, desk, ended, last),
+        Ok(ended) => conclude(rt, settler, alloc, profile, desk, ended, last),
         Err(fault) => {
             desk.discard(rt);
             Err(fault)
@@ -101,9 +104,19 @@ fn play_all<L: Office + Send + Sync, R: Threads + Wait + Sync, S: Settler, G: Ga
 /// Whether there are parts enough before the last, and seats enough for them and for so many workers.
 fn fit(parts: &[Part], workers: usize) -> bool
     requires { workers ≤ MAX_WORKERS }
-    ensures { (result ≡ true) ↔ Fits (length parts.now) workers }
+    ensures { (result ≡ true) ↔ HasSeats (length parts.now) workers }
 {
     parts.len() >= 2 && parts.len() + workers <= MAX_SEATS as usize
+}
+
+/// The profile of a run, which its first part chooses. The error says that memory was refused.
+fn profile_of_run(alloc: Global, parts: &[Part]) -> Result<Profile, AllocError>
+    ensures { IfOk result (λ profile. profile ≡ profile_of_run parts.now) }
+{
+    match parts.first() {
+        Some(part) => profile_of(alloc, part),
+        None => Ok(Profile::One),
+    }
 }
 
 /// Runs a script in parts, at a desk whose history has room for so many entries: what is to be written for it.
@@ -120,7 +133,7 @@ pub fn run_parts<R: Threads + Wait + Sync, S: Settler, G: Gate + Sync>(
     requires limit { limit ≤ MAX_HISTORY }
     requires settler { S.can_settle settler.now }
     requires few { length script.now ≤ 4096 * most_reads }
-    ensures runs { IfOk result (λ t. Runs workers script.now t.text.items t.summary) }
+    ensures runs { IfOk result (λ t. ScriptRuns workers script.now t.text.items t.summary) }
     ensures cause { IfErr result (λ fault. StoppedBy limit workers script.now fault) }
 {
     let mut parts = parts_of(alloc, script)?;
@@ -130,12 +143,14 @@ pub fn run_parts<R: Threads + Wait + Sync, S: Settler, G: Gate + Sync>(
     if !fit(parts.as_slice(), workers) {
         return Err(DeskRunFault::Parts);
     }
+    let profile = profile_of_run(alloc, parts.as_slice())?;
     let seats = (parts.len() + workers) as u64;
     let transcript = play_all::<Brand, R, S, G>(
         rt,
         settler,
         alloc,
         Opening::new(seats),
+        profile,
         seats,
         limit,
         parts.as_slice(),
@@ -166,7 +181,7 @@ fn write_text<W: Write>(
 
 /// Runs the script in parts that the reader gives. It is read to its end first; its parts but the last are played at once by
 /// sessions of one desk, the first of them before the others, with so many workers beside them, and the last part is played on the
-/// book that they leave, settled. A `show` of any part but the last is a look, and no call. All is written at the end.
+/// book that they leave, settled. The desk is of the profile that the first part chooses. A `show` of any part but the last is a look, and no call. All is written at the end.
 pub fn run_sessions<H: Threads + Wait + Sync, S: Settler, R: Read, W: Write, G: Gate + Sync>(
     rt: &H,
     settler: &S,
@@ -181,7 +196,7 @@ pub fn run_sessions<H: Threads + Wait + Sync, S: Settler, R: Read, W: Write, G: 
     requires settler { S.can_settle settler.now }
     requires fresh { tally.old ≡ no_marks }
     ensures ok { IfOk result (λ summary. (script : List ℕ) × (text : List ℕ) × Consumes (R.remaining reader.old) (R.remaining reader.new) script
-        × IsAtEnd (R.remaining reader.new) × Appends (W.contents writer.old) (W.contents writer.new) text × Runs workers script text summary) }
+        × IsAtEnd (R.remaining reader.new) × Appends (W.contents writer.old) (W.contents writer.new) text × ScriptRuns workers script text summary) }
     ensures cause { IfErr result (λ fault. HasDeskCause workers (R.remaining reader.old) (R.remaining reader.new) fault tally.new) }
     ensures unwritten { IfErr result (λ fault. (fault ≡ DeskCase.Run RunCase.Write → ⊥) → Keeps (W.contents writer.old) (W.contents writer.new)) }
     ensures front { IfErr result (λ fault. Keeps (W.contents writer.old) (W.contents writer.new)

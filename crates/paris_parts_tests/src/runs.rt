@@ -4,9 +4,10 @@ use crate::waiting::TwoAtOnce;
 use paris_calls::Tally;
 use paris_exec::{Gate, OpenGate};
 use paris_names::Fault;
+use paris_names::limits::MAX_LINE;
 use paris_parts::{DeskRunFault, run_parts, run_sessions};
 use paris_session::{Alone, Summary};
-use std::alloc::Global;
+use std::alloc::{AllocError, Global};
 use std::process::Abort;
 use std::sync::Wait;
 use std::test::*;
@@ -16,12 +17,12 @@ use std::thread::Threads;
 const WORKERS: usize = 2;
 
 /// A script, what is written for it, and how many commands it has and how many of them are refused.
-type Row = (&'static [u8], &'static [u8], u64, u64);
+type Row<'a> = (&'a [u8], &'static [u8], u64, u64);
 
 const SCRIPT: &[u8] =
     b"set S 4\nfield a S 8\nfield b S 8\nfield c S 8\ninsert end u-add-3-1L c a b 8\nsession\ninput a 0 10 20 30 250\nsession\ninput b 0 1 2 3 10\nsession\nshow c end\nshow S.overflow end\nfaults\n";
 
-const ROWS: &[Row] = &[
+const ROWS: &[Row<'static>] = &[
     (
         SCRIPT,
         b"ok\nok\nok\nok\nrow 1\nsession 1\nok\nsession 2\nok\nclose\nedits 7\naudit yes\nvalues 11 22 33 4\nvalues 0 0 0 1\nfaults 0\n",
@@ -39,6 +40,52 @@ const ROWS: &[Row] = &[
     (
         b"# nothing\n\nsettle\nsession\nsession \nsession\nsettle\n",
         b"refused 20 1\nsession 1\nrefused 20 1\nclose\nedits 0\naudit yes\nsettled 0\n",
+        3,
+        2,
+    ),
+    // The first command of the first part chooses the profile, which is that of all parts.
+    (
+        b"paris 2\nset S 2\nfield a S 128\nsession\ninput a 0 0 340282366920938463463374607431768211455\nsession\nshow a end\n",
+        b"ok\nok\nok\nsession 1\nok\nclose\nedits 3\naudit yes\nvalues 0 340282366920938463463374607431768211455\n",
+        5,
+        0,
+    ),
+    (
+        b"paris 1\nset S 2\nfield a S 65\nfield a S 64\nsession\nsession\nshow a end\n",
+        b"ok\nok\nrefused 6\nok\nsession 1\nclose\nedits 3\naudit yes\nvalues 0 0\n",
+        5,
+        1,
+    ),
+    // Behind lines that are skipped it is still the first.
+    (
+        b"# wide\n\nparis 2\nset S 2\nfield a S 65\nsession\n# none\nsession\nshow a end\n",
+        b"ok\nok\nok\nsession 1\nclose\nedits 2\naudit yes\nvalues 0 0\n",
+        4,
+        0,
+    ),
+    // In any other place no line chooses it: behind another command, behind a line that chooses none, in another part, and in the last.
+    (
+        b"set S 2\nparis 2\nfield a S 65\nsession\nparis 2\nfield a S 65\nsession\nparis 2\nfield a S 65\n",
+        b"ok\nrefused 20 1\nrefused 6\nsession 1\nrefused 20 1\nrefused 6\nclose\nedits 3\naudit yes\nrefused 20 1\nrefused 6\n",
+        7,
+        6,
+    ),
+    (
+        b"paris 3\nparis 2\nset S 2\nfield a S 65\nsession\nsession\nparis 1\n",
+        b"refused 20 7\nrefused 20 1\nok\nrefused 6\nsession 1\nclose\nedits 2\naudit yes\nrefused 20 1\n",
+        5,
+        4,
+    ),
+    (
+        b"paris 2\nparis 2\nset S 2\nsession\nparis 2\nfield a S 65\nsession\nparis 2\nfield b S 65\n",
+        b"ok\nrefused 20 1\nok\nsession 1\nrefused 20 1\nok\nclose\nedits 2\naudit yes\nrefused 20 1\nok\n",
+        7,
+        3,
+    ),
+    // A first part that has no command chooses none.
+    (
+        b"\nsession\nparis 2\nset S 2\nfield a S 65\nsession\n",
+        b"session 1\nrefused 20 1\nok\nrefused 6\nclose\nedits 2\naudit yes\n",
         3,
         2,
     ),
@@ -61,7 +108,7 @@ const TWO_RESULTS: &[u8] =
 fn writes<R: Abort + Threads + Wait + Sync, G: Gate + Sync>(
     rt: &R,
     alloc: Global,
-    row: Row,
+    row: Row<'_>,
     gate: &G,
 ) {
     let (script, written, commands, refusals) = row;
@@ -87,6 +134,23 @@ fn scripts_are_played(rt: HostRuntime) -> Result<(), Fail> {
     for row in ROWS {
         writes(&rt, rt.alloc(), *row, &OpenGate);
     }
+    Ok(())
+}
+
+/// A first part whose first line is too long to be read, and then one that would choose a profile.
+fn overlong(alloc: Global) -> Result<Vec<u8>, AllocError> {
+    let mut script = vec![in alloc; b'x'; MAX_LINE + 1]?;
+    script.extend_from_slice(b"\nparis 2\nset S 2\nfield a S 65\nsession\nsession\n")?;
+    Ok(script)
+}
+
+/// A line that is too long is the first command, and chooses no profile.
+#[test]
+fn a_line_that_is_too_long_chooses_none(rt: HostRuntime) -> Result<(), AllocError> {
+    let script = overlong(rt.alloc())?;
+    let written =
+        b"refused 20 65537\nrefused 20 1\nok\nrefused 6\nsession 1\nclose\nedits 2\naudit yes\n";
+    writes(&rt, rt.alloc(), (&script, written, 4, 3), &OpenGate);
     Ok(())
 }
 

@@ -2,11 +2,11 @@
 
 ghost use Rattle.std.specs.Prelude.{◌≡◌, ◌<◌, ◌≤◌, ◌==◌, ◌^◌, if◌then◌else◌, unsigned_abs};
 ghost use Rattle.paris_model.specs.Store.{low, put, bit, signed, low_signed, is_outside_signed};
-ghost use Rattle.paris_names.specs.declared.limits.TheConstants.{MAX_WIDTH};
+ghost use Rattle.paris_names.specs.declared.limits.TheConstants.{MAX_WIDTH_OF_ONE};
 
 /// Two to the power of a length in bits.
 pub(crate) fn power(length: u64) -> u128
-    requires { length ≤ MAX_WIDTH }
+    requires { length ≤ MAX_WIDTH_OF_ONE }
     ensures { result ≡ 2 ^ length }
 {
     1u128 << length
@@ -14,7 +14,7 @@ pub(crate) fn power(length: u64) -> u128
 
 /// The low bits of a number.
 pub(crate) fn low_bits(length: u64, x: u128) -> u128
-    requires { length ≤ MAX_WIDTH }
+    requires { length ≤ MAX_WIDTH_OF_ONE }
     ensures value { result ≡ low length x }
     ensures small { result < 2 ^ length }
 {
@@ -23,7 +23,7 @@ pub(crate) fn low_bits(length: u64, x: u128) -> u128
 
 /// A number with its low bits replaced by those of another.
 pub(crate) fn put_bits(old: u128, x: u128, length: u64) -> u128
-    requires { length ≤ MAX_WIDTH }
+    requires { length ≤ MAX_WIDTH_OF_ONE }
     ensures { result ≡ put old x length }
 {
     old - low_bits(length, old) + low_bits(length, x)
@@ -39,7 +39,7 @@ pub(crate) fn bit(is_set: bool) -> u128
 /// A number of the length, read as two's complement.
 pub(crate) fn signed_value(length: u64, x: u128) -> i128
     requires positive { 0 < length }
-    requires narrow { length ≤ MAX_WIDTH }
+    requires narrow { length ≤ MAX_WIDTH_OF_ONE }
     requires x_fits { x < 2 ^ length }
     ensures value { result ≡ signed length x }
     ensures small { unsigned_abs result ≤ 2 ^ 63 }
@@ -53,7 +53,7 @@ pub(crate) fn signed_value(length: u64, x: u128) -> i128
 
 /// The low bits of a signed number, in two's complement.
 pub(crate) fn low_signed_bits(length: u64, z: i128) -> u128
-    requires { length ≤ MAX_WIDTH }
+    requires { length ≤ MAX_WIDTH_OF_ONE }
     ensures { result ≡ low_signed length z }
 {
     if z >= 0 {
@@ -66,7 +66,7 @@ pub(crate) fn low_signed_bits(length: u64, z: i128) -> u128
 /// Whether a signed number needs more bits than the length.
 pub(crate) fn is_outside(length: u64, z: i128) -> bool
     requires positive { 0 < length }
-    requires narrow { length ≤ MAX_WIDTH }
+    requires narrow { length ≤ MAX_WIDTH_OF_ONE }
     ensures { result ≡ is_outside_signed length z }
 {
     if z >= 0 {

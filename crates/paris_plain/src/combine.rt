@@ -2,14 +2,14 @@
 
 ghost use Rattle.std.specs.Prelude.{◌≡◌, ◌<◌, ◌≤◌, ◌^◌, All, nat_le, sum};
 ghost use Rattle.paris_model.specs.Combine.{combine, combined, unit};
-ghost use Rattle.paris_names.specs.declared.limits.TheConstants.{MAX_WIDTH};
+ghost use Rattle.paris_names.specs.declared.limits.TheConstants.{MAX_WIDTH_OF_ONE};
 
 use crate::bits::{low_bits, power};
 use paris_model::Combiner;
 
 /// Two numbers, combined.
 pub(crate) fn combine(combiner: Combiner, length: u64, x: u128, y: u128) -> u128
-    requires narrow { length ≤ MAX_WIDTH }
+    requires narrow { length ≤ MAX_WIDTH_OF_ONE }
     requires x_fits { x < 2 ^ length }
     requires y_fits { y < 2 ^ length }
     ensures value { result ≡ combine combiner length x y }
@@ -27,7 +27,7 @@ pub(crate) fn combine(combiner: Combiner, length: u64, x: u128, y: u128) -> u128
 
 /// The number that changes nothing.
 pub(crate) fn unit(combiner: Combiner, length: u64) -> u128
-    requires { length ≤ MAX_WIDTH }
+    requires { length ≤ MAX_WIDTH_OF_ONE }
     ensures value { result ≡ unit combiner length }
     ensures small { result < 2 ^ length }
 {
@@ -39,7 +39,7 @@ pub(crate) fn unit(combiner: Combiner, length: u64) -> u128
 
 /// Numbers, combined with a first one.
 pub(crate) fn combined(combiner: Combiner, length: u64, start: u128, values: &[u128]) -> u128
-    requires narrow { length ≤ MAX_WIDTH }
+    requires narrow { length ≤ MAX_WIDTH_OF_ONE }
     requires start_fits { start < 2 ^ length }
     requires fit { All (λ x. x < 2 ^ length) values.now }
     ensures { result ≡ combined combiner length start values.now }
@@ -53,7 +53,7 @@ pub(crate) fn combined(combiner: Combiner, length: u64, start: u128, values: &[u
 
 /// Whether the exact sum of numbers needs more bits.
 pub(crate) fn sum_overflows(length: u64, values: &[u128]) -> bool
-    requires { length ≤ MAX_WIDTH }
+    requires { length ≤ MAX_WIDTH_OF_ONE }
     ensures { result ≡ nat_le (2 ^ length) (sum values.now) }
 {
     let mut total: u128 = 0;

@@ -7,9 +7,10 @@ ghost use Rattle.paris_model.specs.Store.{low, bit};
 ghost use Rattle.paris_model.specs.Elementwise.{binary_result, binary_carry, binary_overflow, unary_result, unary_overflow, resize_result, resize_overflow, compares};
 ghost use Rattle.paris_model.specs.Frame.{field_at, low_at, flag_at, put_selected};
 ghost use Rattle.paris_model.specs.Conditional.{conditional_field, conditional_flag, conditional_after};
-ghost use Rattle.paris_model.specs.Fits.{IsFit, is_bad_axis};
+ghost use Rattle.paris_model.specs.Fits.{is_bad_axis};
+ghost use Rattle.paris_plain.specs.Narrow.{IsNarrow};
 ghost use Rattle.paris_plain.specs.Plain.{frame_of_seen};
-ghost use Rattle.paris_names.specs.declared.limits.TheConstants.{MAX_WIDTH};
+ghost use Rattle.paris_names.specs.declared.limits.TheConstants.{MAX_WIDTH_OF_ONE};
 
 use crate::bits::bit;
 use crate::elementwise::{
@@ -33,7 +34,7 @@ fn binary_stored(
     length: u64,
 ) -> Result<Vec<u128>, AllocError>
     requires positive { 0 < length }
-    requires narrow { length ≤ MAX_WIDTH }
+    requires narrow { length ≤ MAX_WIDTH_OF_ONE }
     ensures { IfOk result (λ numbers. numbers.items ≡ put_selected (frame_of_seen inputs.now) key.now length
         (λ v. binary_result operator length (low_at (frame_of_seen inputs.now) left length v) (low_at (frame_of_seen inputs.now) right length v) (flag_at (frame_of_seen inputs.now) Carry v) (field_at (frame_of_seen inputs.now) to v))) }
 {
@@ -58,7 +59,7 @@ fn carry_stored(
     right: Operand,
     length: u64,
 ) -> Result<Vec<u128>, AllocError>
-    requires { length ≤ MAX_WIDTH }
+    requires { length ≤ MAX_WIDTH_OF_ONE }
     ensures { IfOk result (λ numbers. numbers.items ≡ put_selected (frame_of_seen inputs.now) key.now 1
         (λ v. bit (binary_carry operator length (low_at (frame_of_seen inputs.now) left length v) (low_at (frame_of_seen inputs.now) right length v) (flag_at (frame_of_seen inputs.now) Carry v)))) }
 {
@@ -84,7 +85,7 @@ fn overflow_stored(
     length: u64,
 ) -> Result<Vec<u128>, AllocError>
     requires positive { 0 < length }
-    requires narrow { length ≤ MAX_WIDTH }
+    requires narrow { length ≤ MAX_WIDTH_OF_ONE }
     ensures { IfOk result (λ numbers. numbers.items ≡ put_selected (frame_of_seen inputs.now) key.now 1
         (λ v. bit (binary_overflow operator length (low_at (frame_of_seen inputs.now) left length v) (low_at (frame_of_seen inputs.now) right length v) (flag_at (frame_of_seen inputs.now) Carry v)))) }
 {
@@ -108,7 +109,7 @@ fn unary_stored(
     from: Operand,
     length: u64,
 ) -> Result<Vec<u128>, AllocError>
-    requires { length ≤ MAX_WIDTH }
+    requires { length ≤ MAX_WIDTH_OF_ONE }
     ensures { IfOk result (λ numbers. numbers.items ≡ put_selected (frame_of_seen inputs.now) key.now length (λ v. unary_result operator length (low_at (frame_of_seen inputs.now) from length v))) }
 {
     (0..inputs.vps())
@@ -129,7 +130,7 @@ fn unary_overflow_stored(
     length: u64,
 ) -> Result<Vec<u128>, AllocError>
     requires positive { 0 < length }
-    requires narrow { length ≤ MAX_WIDTH }
+    requires narrow { length ≤ MAX_WIDTH_OF_ONE }
     ensures { IfOk result (λ numbers. numbers.items ≡ put_selected (frame_of_seen inputs.now) key.now 1 (λ v. bit (unary_overflow operator length (low_at (frame_of_seen inputs.now) from length v)))) }
 {
     (0..inputs.vps())
@@ -148,7 +149,7 @@ fn constant_stored(
     number: u128,
     length: u64,
 ) -> Result<Vec<u128>, AllocError>
-    requires { length ≤ MAX_WIDTH }
+    requires { length ≤ MAX_WIDTH_OF_ONE }
     ensures { IfOk result (λ numbers. numbers.items ≡ put_selected (frame_of_seen inputs.now) key.now length (λ v. number)) }
 {
     (0..inputs.vps())
@@ -194,9 +195,9 @@ fn resized_stored(
     length: u64,
     from_length: u64,
 ) -> Result<Vec<u128>, AllocError>
-    requires narrow { length ≤ MAX_WIDTH }
+    requires narrow { length ≤ MAX_WIDTH_OF_ONE }
     requires from_some { 0 < from_length }
-    requires from_short { from_length ≤ MAX_WIDTH }
+    requires from_short { from_length ≤ MAX_WIDTH_OF_ONE }
     ensures { IfOk result (λ numbers. numbers.items ≡ put_selected (frame_of_seen inputs.now) key.now length (λ v. resize_result sign length from_length (low_at (frame_of_seen inputs.now) from from_length v))) }
 {
     (0..inputs.vps())
@@ -218,9 +219,9 @@ fn resize_overflow_stored(
     from_length: u64,
 ) -> Result<Vec<u128>, AllocError>
     requires positive { 0 < length }
-    requires narrow { length ≤ MAX_WIDTH }
+    requires narrow { length ≤ MAX_WIDTH_OF_ONE }
     requires from_some { 0 < from_length }
-    requires from_short { from_length ≤ MAX_WIDTH }
+    requires from_short { from_length ≤ MAX_WIDTH_OF_ONE }
     ensures { IfOk result (λ numbers. numbers.items ≡ put_selected (frame_of_seen inputs.now) key.now 1 (λ v. bit (resize_overflow sign length from_length (low_at (frame_of_seen inputs.now) from from_length v)))) }
 {
     (0..inputs.vps())
@@ -243,7 +244,7 @@ fn comparison_stored(
     length: u64,
 ) -> Result<Vec<u128>, AllocError>
     requires positive { 0 < length }
-    requires narrow { length ≤ MAX_WIDTH }
+    requires narrow { length ≤ MAX_WIDTH_OF_ONE }
     ensures { IfOk result (λ numbers. numbers.items ≡ put_selected (frame_of_seen inputs.now) key.now 1
         (λ v. bit (compares comparison length (low_at (frame_of_seen inputs.now) left length v) (low_at (frame_of_seen inputs.now) right length v)))) }
 {
@@ -266,7 +267,7 @@ fn coordinate_stored(
     length: u64,
 ) -> Result<Vec<u128>, AllocError>
     requires there { is_bad_axis inputs.now.axes axis ≡ false }
-    requires narrow { length ≤ MAX_WIDTH }
+    requires narrow { length ≤ MAX_WIDTH_OF_ONE }
     ensures { IfOk result (λ numbers. numbers.items ≡ put_selected (frame_of_seen inputs.now) key.now length (coordinate inputs.now.axes axis)) }
 {
     let geometry = inputs.geometry();
@@ -285,7 +286,7 @@ fn address_stored(
     key: &Key,
     length: u64,
 ) -> Result<Vec<u128>, AllocError>
-    requires { length ≤ MAX_WIDTH }
+    requires { length ≤ MAX_WIDTH_OF_ONE }
     ensures { IfOk result (λ numbers. numbers.items ≡ put_selected (frame_of_seen inputs.now) key.now length (λ v. v)) }
 {
     (0..inputs.vps())
@@ -300,7 +301,7 @@ fn field_after(
     i: &Conditional<Operand, SetNo>,
     key: &Key,
 ) -> Result<Vec<u128>, AllocError>
-    requires { IsFit inputs.now.axes (Action.OnSelected i.now) }
+    requires { IsNarrow inputs.now.axes (Action.OnSelected i.now) }
     ensures { IfOk result (λ numbers. numbers.items ≡ conditional_field (frame_of_seen inputs.now) i.now key.now) }
 {
     match *i {
@@ -351,7 +352,7 @@ fn flag_after(
     key: &Key,
     flag: FlagName,
 ) -> Result<Vec<u128>, AllocError>
-    requires { IsFit inputs.now.axes (Action.OnSelected i.now) }
+    requires { IsNarrow inputs.now.axes (Action.OnSelected i.now) }
     ensures { IfOk result (λ numbers. numbers.items ≡ put_selected (frame_of_seen inputs.now) key.now 1 (conditional_flag (frame_of_seen inputs.now) i.now flag)) }
 {
     match *i {
@@ -404,7 +405,7 @@ pub fn conditional_after(
     i: &Conditional<Operand, SetNo>,
     key: &Key,
 ) -> Result<Vec<u128>, AllocError>
-    requires { IsFit inputs.now.axes (Action.OnSelected i.now) }
+    requires { IsNarrow inputs.now.axes (Action.OnSelected i.now) }
     ensures { IfOk result (λ numbers. numbers.items ≡ conditional_after (frame_of_seen inputs.now) i.now key.now) }
 {
     match *key {

@@ -3,7 +3,7 @@
 ghost use Rattle.std.specs.Prelude.{◌≡◌, ◌<◌, ◌≤◌, ◌==◌, ◌^◌, ◌*ℤ◌, if◌then◌else◌};
 ghost use Rattle.paris_model.specs.Store.{signed};
 ghost use Rattle.paris_model.specs.Elementwise.{is_less, greater, lesser, binary_result, binary_carry, binary_overflow, unary_result, unary_overflow, resize_result, resize_overflow, compares};
-ghost use Rattle.paris_names.specs.declared.limits.TheConstants.{MAX_WIDTH};
+ghost use Rattle.paris_names.specs.declared.limits.TheConstants.{MAX_WIDTH_OF_ONE};
 
 use crate::bits::{is_outside, low_bits, low_signed_bits, power, signed_value};
 use paris_model::{BinaryOperator, Comparison, Sign, UnaryOperator};
@@ -11,7 +11,7 @@ use paris_model::{BinaryOperator, Comparison, Sign, UnaryOperator};
 /// Whether a number is less than another.
 fn is_less(sign: Sign, length: u64, x: u128, y: u128) -> bool
     requires positive { 0 < length }
-    requires narrow { length ≤ MAX_WIDTH }
+    requires narrow { length ≤ MAX_WIDTH_OF_ONE }
     requires x_fits { x < 2 ^ length }
     requires y_fits { y < 2 ^ length }
     ensures { result ≡ is_less sign length x y }
@@ -25,7 +25,7 @@ fn is_less(sign: Sign, length: u64, x: u128, y: u128) -> bool
 /// The product of two numbers, read as two's complement.
 fn signed_product(length: u64, x: u128, y: u128) -> i128
     requires positive { 0 < length }
-    requires narrow { length ≤ MAX_WIDTH }
+    requires narrow { length ≤ MAX_WIDTH_OF_ONE }
     requires x_fits { x < 2 ^ length }
     requires y_fits { y < 2 ^ length }
     ensures { result ≡ signed length x *ℤ signed length y }
@@ -43,7 +43,7 @@ pub(crate) fn binary_value(
     old: u128,
 ) -> u128
     requires positive { 0 < length }
-    requires narrow { length ≤ MAX_WIDTH }
+    requires narrow { length ≤ MAX_WIDTH_OF_ONE }
     requires x_fits { x < 2 ^ length }
     requires y_fits { y < 2 ^ length }
     requires carry_fits { carry < 2 }
@@ -75,7 +75,7 @@ pub(crate) fn binary_carries(
     y: u128,
     carry: u128,
 ) -> bool
-    requires narrow { length ≤ MAX_WIDTH }
+    requires narrow { length ≤ MAX_WIDTH_OF_ONE }
     requires x_fits { x < 2 ^ length }
     requires y_fits { y < 2 ^ length }
     requires carry_fits { carry < 2 }
@@ -106,7 +106,7 @@ pub(crate) fn binary_overflows(
     carry: u128,
 ) -> bool
     requires positive { 0 < length }
-    requires narrow { length ≤ MAX_WIDTH }
+    requires narrow { length ≤ MAX_WIDTH_OF_ONE }
     requires x_fits { x < 2 ^ length }
     requires y_fits { y < 2 ^ length }
     requires carry_fits { carry < 2 }
@@ -135,7 +135,7 @@ pub(crate) fn binary_overflows(
 
 /// The result of an operator on one operand.
 pub(crate) fn unary_value(operator: UnaryOperator, length: u64, x: u128) -> u128
-    requires narrow { length ≤ MAX_WIDTH }
+    requires narrow { length ≤ MAX_WIDTH_OF_ONE }
     requires x_fits { x < 2 ^ length }
     ensures { result ≡ unary_result operator length x }
 {
@@ -149,7 +149,7 @@ pub(crate) fn unary_value(operator: UnaryOperator, length: u64, x: u128) -> u128
 /// Whether the exact result of an operator on one operand needs more bits.
 pub(crate) fn unary_overflows(operator: UnaryOperator, length: u64, x: u128) -> bool
     requires positive { 0 < length }
-    requires narrow { length ≤ MAX_WIDTH }
+    requires narrow { length ≤ MAX_WIDTH_OF_ONE }
     ensures { result ≡ unary_overflow operator length x }
 {
     match operator {
@@ -160,9 +160,9 @@ pub(crate) fn unary_overflows(operator: UnaryOperator, length: u64, x: u128) -> 
 
 /// A number of `from_length` bits as one of `length` bits.
 pub(crate) fn resized(sign: Sign, length: u64, from_length: u64, x: u128) -> u128
-    requires narrow { length ≤ MAX_WIDTH }
+    requires narrow { length ≤ MAX_WIDTH_OF_ONE }
     requires from_some { 0 < from_length }
-    requires from_short { from_length ≤ MAX_WIDTH }
+    requires from_short { from_length ≤ MAX_WIDTH_OF_ONE }
     requires x_fits { x < 2 ^ from_length }
     ensures { result ≡ resize_result sign length from_length x }
 {
@@ -175,9 +175,9 @@ pub(crate) fn resized(sign: Sign, length: u64, from_length: u64, x: u128) -> u12
 /// Whether a number of `from_length` bits needs more than `length` bits.
 pub(crate) fn resize_overflows(sign: Sign, length: u64, from_length: u64, x: u128) -> bool
     requires positive { 0 < length }
-    requires narrow { length ≤ MAX_WIDTH }
+    requires narrow { length ≤ MAX_WIDTH_OF_ONE }
     requires from_some { 0 < from_length }
-    requires from_short { from_length ≤ MAX_WIDTH }
+    requires from_short { from_length ≤ MAX_WIDTH_OF_ONE }
     requires x_fits { x < 2 ^ from_length }
     ensures { result ≡ resize_overflow sign length from_length x }
 {
@@ -190,7 +190,7 @@ pub(crate) fn resize_overflows(sign: Sign, length: u64, from_length: u64, x: u12
 /// Whether two numbers compare so.
 pub(crate) fn compare(comparison: Comparison, length: u64, x: u128, y: u128) -> bool
     requires positive { 0 < length }
-    requires narrow { length ≤ MAX_WIDTH }
+    requires narrow { length ≤ MAX_WIDTH_OF_ONE }
     requires x_fits { x < 2 ^ length }
     requires y_fits { y < 2 ^ length }
     ensures { result ≡ compares comparison length x y }

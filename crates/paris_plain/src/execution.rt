@@ -1,7 +1,7 @@
 //! One instruction, of any family.
 
 ghost use Rattle.std.specs.Prelude.{◌≡◌, map, IfOk};
-ghost use Rattle.paris_model.specs.Fits.{IsFit};
+ghost use Rattle.paris_plain.specs.Narrow.{IsNarrow};
 ghost use Rattle.paris_model.specs.Instructions.{after_in, refusal_in};
 ghost use Rattle.paris_plain.specs.Plain.{frame_of_seen, plain_outcome};
 
@@ -21,7 +21,7 @@ fn refusal(
     inputs: &Inputs,
     action: &Action<Operand, SetNo>,
 ) -> Result<Option<Refusal>, AllocError>
-    requires { IsFit inputs.now.axes action.now }
+    requires { IsNarrow inputs.now.axes action.now }
     ensures { IfOk result (λ cause. cause ≡ refusal_in (frame_of_seen inputs.now) action.now) }
 {
     match action {
@@ -39,7 +39,7 @@ fn numbers_after(
     action: &Action<Operand, SetNo>,
     key: &Key,
 ) -> Result<Vec<u128>, AllocError>
-    requires { IsFit inputs.now.axes action.now }
+    requires { IsNarrow inputs.now.axes action.now }
     ensures { IfOk result (λ numbers. numbers.items ≡ after_in (frame_of_seen inputs.now) action.now key.now) }
 {
     match action {
@@ -58,7 +58,7 @@ fn values_after(
     action: &Action<Operand, SetNo>,
     writes: &[Key],
 ) -> Result<Vec<Items<u128>>, AllocError>
-    requires { IsFit inputs.now.axes action.now }
+    requires { IsNarrow inputs.now.axes action.now }
     ensures { IfOk result (λ values. values.items ≡ map (after_in (frame_of_seen inputs.now) action.now) writes.now) }
 {
     let mut values = Vec::new(alloc);
@@ -76,7 +76,7 @@ pub fn outcome(
     action: &Action<Operand, SetNo>,
     writes: &[Key],
 ) -> Result<Result<Items<Items<u128>>, Refusal>, AllocError>
-    requires { IsFit inputs.now.axes action.now }
+    requires { IsNarrow inputs.now.axes action.now }
     ensures { IfOk result (λ outcome. outcome ≡ plain_outcome (frame_of_seen inputs.now) action.now writes.now) }
 {
     match refusal(alloc, inputs, action)? {

@@ -6,7 +6,7 @@ ghost use Rattle.paris_model.specs.Store.{put};
 ghost use Rattle.paris_model.specs.Frame.{at, field_at, low_at, flag_at, is_selected};
 ghost use Rattle.paris_model.specs.Instructions.{value_at};
 ghost use Rattle.paris_plain.specs.Plain.{are_bits, flags_are_bits, frame_of_seen, is_flag};
-ghost use Rattle.paris_names.specs.declared.limits.TheConstants.{MAX_PROCESSORS, MAX_WIDTH};
+ghost use Rattle.paris_names.specs.declared.limits.TheConstants.{MAX_PROCESSORS, MAX_WIDTH_OF_ONE};
 
 use crate::bits::{low_bits, put_bits};
 use paris_geometry::Geometry;
@@ -138,7 +138,7 @@ impl Inputs {
 
     /// The low bits of a field in the processor at a send address, which may be outside the set.
     pub(crate) fn low_at_address(&self, operand: Operand, length: u64, address: u128) -> u128
-        requires { length ≤ MAX_WIDTH }
+        requires { length ≤ MAX_WIDTH_OF_ONE }
         ensures { result ≡ low_at (frame_of_seen self.now) operand length address }
     {
         let numbers = self.numbers(&Key::Field(operand.field));
@@ -158,7 +158,7 @@ impl Inputs {
 
     /// The low bits of a field in a processor.
     pub(crate) fn low_at(&self, operand: Operand, length: u64, v: usize) -> u128
-        requires { length ≤ MAX_WIDTH }
+        requires { length ≤ MAX_WIDTH_OF_ONE }
         ensures value { result ≡ low_at (frame_of_seen self.now) operand length v }
         ensures small { result < 2 ^ length }
     {
@@ -189,7 +189,7 @@ impl Inputs {
         new: u128,
         v: usize,
     ) -> u128
-        requires { length ≤ MAX_WIDTH }
+        requires { length ≤ MAX_WIDTH_OF_ONE }
         ensures { result ≡ (if stores then put (at (frame_of_seen self.now) key.now v) new length else at (frame_of_seen self.now) key.now v) }
     {
         if stores {
@@ -201,7 +201,7 @@ impl Inputs {
 
     /// The number at a key in a processor after it has put its new one into the low bits, if it is selected.
     pub(crate) fn selected_at(&self, key: &Key, length: u64, new: u128, v: usize) -> u128
-        requires { length ≤ MAX_WIDTH }
+        requires { length ≤ MAX_WIDTH_OF_ONE }
         ensures { result ≡ (if is_selected (frame_of_seen self.now) v then put (at (frame_of_seen self.now) key.now v) new length else at (frame_of_seen self.now) key.now v) }
     {
         self.stored_at(key, self.is_selected(v), length, new, v)

@@ -2,12 +2,13 @@
 
 ghost use Rattle.std.specs.Prelude.{◌≡◌, ◌<◌, ◌≤◌, ◌==◌, ◌&&◌, ◌||◌, ◌^◌, not, false, true, All, IfOk, nat_le, [], ◌∷◌};
 ghost use Rattle.paris_geometry.specs.Geometry.{at_coordinate, axis_length, processor_count};
-ghost use Rattle.paris_model.specs.Fits.{IsFit, is_bad_axis};
+ghost use Rattle.paris_model.specs.Fits.{is_bad_axis};
+ghost use Rattle.paris_plain.specs.Narrow.{IsNarrow};
 ghost use Rattle.paris_model.specs.Frame.{is_selected, low_at, put_where};
 ghost use Rattle.paris_model.specs.Store.{bit};
 ghost use Rattle.paris_model.specs.Lines.{begins_segment, combined_values, from_last, is_inclusive, line_after, line_length, line_result, line_values, result_of, scan_values, stores_on_line, sum_overflows, values_where};
 ghost use Rattle.paris_plain.specs.Plain.{frame_of_seen};
-ghost use Rattle.paris_names.specs.declared.limits.TheConstants.{MAX_WIDTH};
+ghost use Rattle.paris_names.specs.declared.limits.TheConstants.{MAX_WIDTH_OF_ONE};
 
 use crate::bits::bit;
 use crate::combine::{combined, sum_overflows, unit};
@@ -60,7 +61,7 @@ fn path_values(
     length: u64,
     v: u32,
 ) -> Result<Vec<u128>, AllocError>
-    requires { length ≤ MAX_WIDTH }
+    requires { length ≤ MAX_WIDTH_OF_ONE }
     ensures { IfOk result (λ values. values.items ≡ values_where (λ u. is_selected (frame_of_seen inputs.now) u && (is_inclusive inclusion || not (u == v))) (low_at (frame_of_seen inputs.now) from length) path.now) }
 {
     path.iter()
@@ -82,7 +83,7 @@ fn scan_values(
     v: u32,
 ) -> Result<Vec<u128>, AllocError>
     requires there { is_bad_axis inputs.now.axes axis ≡ false }
-    requires narrow { length ≤ MAX_WIDTH }
+    requires narrow { length ≤ MAX_WIDTH_OF_ONE }
     requires processor { v < processor_count inputs.now.axes }
     ensures { IfOk result (λ values. values.items ≡ scan_values inputs.now.axes axis direction inclusion (begins_segment (frame_of_seen inputs.now) segments.now) (is_selected (frame_of_seen inputs.now)) (low_at (frame_of_seen inputs.now) from length) v) }
 {
@@ -101,7 +102,7 @@ fn line_values(
     v: u32,
 ) -> Result<Vec<u128>, AllocError>
     requires there { is_bad_axis inputs.now.axes axis ≡ false }
-    requires narrow { length ≤ MAX_WIDTH }
+    requires narrow { length ≤ MAX_WIDTH_OF_ONE }
     requires processor { v < processor_count inputs.now.axes }
     ensures { IfOk result (λ values. values.items ≡ line_values inputs.now.axes axis (is_selected (frame_of_seen inputs.now)) (low_at (frame_of_seen inputs.now) from length) v) }
 {
@@ -124,7 +125,7 @@ fn one_value(
 ) -> Result<Vec<u128>, AllocError>
     requires there { is_bad_axis inputs.now.axes axis ≡ false }
     requires within { nat_le (axis_length inputs.now.axes axis) coordinate ≡ false }
-    requires narrow { length ≤ MAX_WIDTH }
+    requires narrow { length ≤ MAX_WIDTH_OF_ONE }
     requires processor { v < processor_count inputs.now.axes }
     ensures { IfOk result (λ values. values.items ≡ low_at (frame_of_seen inputs.now) from length (at_coordinate inputs.now.axes axis v coordinate) ∷ []) }
 {
@@ -156,7 +157,7 @@ fn combined_values(
     i: &Line<Operand>,
     v: u32,
 ) -> Result<Vec<u128>, AllocError>
-    requires fit { IsFit inputs.now.axes (Action.AlongLine i.now) }
+    requires fit { IsNarrow inputs.now.axes (Action.AlongLine i.now) }
     requires processor { v < processor_count inputs.now.axes }
     ensures { IfOk result (λ values. values.items ≡ combined_values (frame_of_seen inputs.now) i.now v) }
 {
@@ -197,7 +198,7 @@ fn combined_values(
 
 /// What values combine to; a copy is the first of them.
 fn result_of(i: &Line<Operand>, values: &[u128]) -> u128
-    requires narrow { line_length i.now ≤ MAX_WIDTH }
+    requires narrow { line_length i.now ≤ MAX_WIDTH_OF_ONE }
     requires fit { All (λ x. x < 2 ^ line_length i.now) values.now }
     ensures { result ≡ result_of i.now values.now }
 {
@@ -223,7 +224,7 @@ fn line_result(
     i: &Line<Operand>,
     v: u32,
 ) -> Result<u128, AllocError>
-    requires fit { IsFit inputs.now.axes (Action.AlongLine i.now) }
+    requires fit { IsNarrow inputs.now.axes (Action.AlongLine i.now) }
     requires processor { v < processor_count inputs.now.axes }
     ensures { IfOk result (λ x. x ≡ line_result (frame_of_seen inputs.now) i.now v) }
 {
@@ -239,7 +240,7 @@ fn line_overflow(
     i: &Line<Operand>,
     v: u32,
 ) -> Result<u128, AllocError>
-    requires fit { IsFit inputs.now.axes (Action.AlongLine i.now) }
+    requires fit { IsNarrow inputs.now.axes (Action.AlongLine i.now) }
     requires processor { v < processor_count inputs.now.axes }
     ensures { IfOk result (λ x. x ≡ bit (sum_overflows (frame_of_seen inputs.now) i.now v)) }
 {
@@ -249,7 +250,7 @@ fn line_overflow(
 
 /// Whether a processor stores.
 fn stores(inputs: &Inputs, i: &Line<Operand>, v: u32) -> bool
-    requires { IsFit inputs.now.axes (Action.AlongLine i.now) }
+    requires { IsNarrow inputs.now.axes (Action.AlongLine i.now) }
     ensures { result ≡ stores_on_line (frame_of_seen inputs.now) i.now v }
 {
     let is_selected = inputs.is_selected(v as usize);
@@ -275,7 +276,7 @@ fn field_after(
     i: &Line<Operand>,
     key: &Key,
 ) -> Result<Vec<u128>, AllocError>
-    requires { IsFit inputs.now.axes (Action.AlongLine i.now) }
+    requires { IsNarrow inputs.now.axes (Action.AlongLine i.now) }
     ensures { IfOk result (λ numbers. numbers.items ≡ put_where (frame_of_seen inputs.now) (stores_on_line (frame_of_seen inputs.now) i.now) key.now (line_length i.now) (line_result (frame_of_seen inputs.now) i.now)) }
 {
     let mut numbers = Vec::new(alloc);
@@ -294,7 +295,7 @@ fn flag_after(
     i: &Line<Operand>,
     key: &Key,
 ) -> Result<Vec<u128>, AllocError>
-    requires { IsFit inputs.now.axes (Action.AlongLine i.now) }
+    requires { IsNarrow inputs.now.axes (Action.AlongLine i.now) }
     ensures { IfOk result (λ numbers. numbers.items ≡ put_where (frame_of_seen inputs.now) (stores_on_line (frame_of_seen inputs.now) i.now) key.now 1 (λ v. bit (sum_overflows (frame_of_seen inputs.now) i.now v))) }
 {
     let mut numbers = Vec::new(alloc);
@@ -313,7 +314,7 @@ pub fn line_after(
     i: &Line<Operand>,
     key: &Key,
 ) -> Result<Vec<u128>, AllocError>
-    requires { IsFit inputs.now.axes (Action.AlongLine i.now) }
+    requires { IsNarrow inputs.now.axes (Action.AlongLine i.now) }
     ensures { IfOk result (λ numbers. numbers.items ≡ line_after (frame_of_seen inputs.now) i.now key.now) }
 {
     match key {

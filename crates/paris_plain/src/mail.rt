@@ -3,11 +3,11 @@
 ghost use Rattle.std.specs.Prelude.{◌≡◌, ◌==◌, ◌<◌, ◌≤◌, ◌^◌, All, length, slice_index, IfOk, IfSome};
 ghost use Rattle.paris_geometry.specs.Geometry.{processor_count};
 ghost use Rattle.paris_model.specs.Combine.{combined};
-ghost use Rattle.paris_model.specs.Fits.{IsFit};
+ghost use Rattle.paris_plain.specs.Narrow.{IsNarrow};
 ghost use Rattle.paris_model.specs.Frame.{field_at, is_selected, low_at, put_selected, put_where};
 ghost use Rattle.paris_model.specs.Mail.{arrivals, bad_sender_in, collision_at, delivered, first_cause, gets_mail, mail_after, mail_of, mail_refusal, notified};
 ghost use Rattle.paris_plain.specs.Plain.{frame_of_seen};
-ghost use Rattle.paris_names.specs.declared.limits.TheConstants.{MAX_PROCESSORS, MAX_WIDTH};
+ghost use Rattle.paris_names.specs.declared.limits.TheConstants.{MAX_PROCESSORS, MAX_WIDTH_OF_ONE};
 
 use crate::bits::bit;
 use crate::combine::combine;
@@ -24,7 +24,7 @@ fn messages(
     from: Operand,
     length: u64,
 ) -> Result<Vec<(u128, u128)>, AllocError>
-    requires { length ≤ MAX_WIDTH }
+    requires { length ≤ MAX_WIDTH_OF_ONE }
     ensures { IfOk result (λ mail. mail.items ≡ mail_of (frame_of_seen inputs.now) addresses from length) }
 {
     (0..inputs.vps())
@@ -64,7 +64,7 @@ fn combined_arrivals(
     mail: &[(u128, u128)],
     r: usize,
 ) -> u128
-    requires narrow { length ≤ MAX_WIDTH }
+    requires narrow { length ≤ MAX_WIDTH_OF_ONE }
     requires own_fits { own < 2 ^ length }
     requires mail_fits { All (λ message. message.1 < 2 ^ length) mail.now }
     ensures { result ≡ combined combiner length own (arrivals mail.now r) }
@@ -125,7 +125,7 @@ pub fn mail_refusal(
     inputs: &Inputs,
     i: &Mail<Operand>,
 ) -> Result<Option<Refusal>, AllocError>
-    requires { IsFit inputs.now.axes (Action.ByMail i.now) }
+    requires { IsNarrow inputs.now.axes (Action.ByMail i.now) }
     ensures { IfOk result (λ cause. cause ≡ mail_refusal (frame_of_seen inputs.now) i.now) }
 {
     match i {
@@ -156,7 +156,7 @@ fn got(
     from: Operand,
     length: u64,
 ) -> Result<Vec<u128>, AllocError>
-    requires { length ≤ MAX_WIDTH }
+    requires { length ≤ MAX_WIDTH_OF_ONE }
     ensures { IfOk result (λ numbers. numbers.items ≡ put_selected (frame_of_seen inputs.now) key.now length (λ v. low_at (frame_of_seen inputs.now) from length (field_at (frame_of_seen inputs.now) addresses v))) }
 {
     (0..inputs.vps())
@@ -175,7 +175,7 @@ fn first_stored(
     mail: &[(u128, u128)],
     length: u64,
 ) -> Result<Vec<u128>, AllocError>
-    requires { length ≤ MAX_WIDTH }
+    requires { length ≤ MAX_WIDTH_OF_ONE }
     ensures { IfOk result (λ numbers. numbers.items ≡ put_where (frame_of_seen inputs.now) (gets_mail mail.now) key.now length (λ r. slice_index (arrivals mail.now r) 0)) }
 {
     (0..inputs.vps())
@@ -196,7 +196,7 @@ fn combined_stored(
     to: Operand,
     length: u64,
 ) -> Result<Vec<u128>, AllocError>
-    requires narrow { length ≤ MAX_WIDTH }
+    requires narrow { length ≤ MAX_WIDTH_OF_ONE }
     requires mail_fits { All (λ message. message.1 < 2 ^ length) mail.now }
     ensures { IfOk result (λ numbers. numbers.items ≡ put_where (frame_of_seen inputs.now) (gets_mail mail.now) key.now length (λ r. combined combiner length (low_at (frame_of_seen inputs.now) to length r) (arrivals mail.now r))) }
 {
@@ -219,7 +219,7 @@ fn send_after(
     to: Operand,
     length: u64,
 ) -> Result<Vec<u128>, AllocError>
-    requires { length ≤ MAX_WIDTH }
+    requires { length ≤ MAX_WIDTH_OF_ONE }
     ensures { IfOk result (λ numbers. numbers.items ≡ delivered (frame_of_seen inputs.now) mail.now to length (λ r. slice_index (arrivals mail.now r) 0) field) }
 {
     if field.number() == to.field.number() {
@@ -239,7 +239,7 @@ fn combining_send_after(
     to: Operand,
     length: u64,
 ) -> Result<Vec<u128>, AllocError>
-    requires narrow { length ≤ MAX_WIDTH }
+    requires narrow { length ≤ MAX_WIDTH_OF_ONE }
     requires mail_fits { All (λ message. message.1 < 2 ^ length) mail.now }
     ensures { IfOk result (λ numbers. numbers.items ≡ delivered (frame_of_seen inputs.now) mail.now to length (λ r. combined combiner length (low_at (frame_of_seen inputs.now) to length r) (arrivals mail.now r)) field) }
 {
@@ -266,7 +266,7 @@ pub fn mail_after(
     i: &Mail<Operand>,
     key: &Key,
 ) -> Result<Vec<u128>, AllocError>
-    requires { IsFit inputs.now.axes (Action.ByMail i.now) }
+    requires { IsNarrow inputs.now.axes (Action.ByMail i.now) }
     ensures { IfOk result (λ numbers. numbers.items ≡ mail_after (frame_of_seen inputs.now) i.now key.now) }
 {
     let field = match *key {

@@ -2,11 +2,12 @@
 
 ghost use Rattle.std.specs.Prelude.{◌≡◌, ◌≤◌, false, IfOk};
 ghost use Rattle.paris_geometry.specs.Geometry.{neighbour};
-ghost use Rattle.paris_model.specs.Fits.{IsFit, is_bad_axis};
+ghost use Rattle.paris_model.specs.Fits.{is_bad_axis};
+ghost use Rattle.paris_plain.specs.Narrow.{IsNarrow};
 ghost use Rattle.paris_model.specs.Frame.{is_selected, low_at, put_selected, put_where};
 ghost use Rattle.paris_model.specs.News.{news_after, news_sender};
 ghost use Rattle.paris_plain.specs.Plain.{frame_of_seen};
-ghost use Rattle.paris_names.specs.declared.limits.TheConstants.{MAX_WIDTH};
+ghost use Rattle.paris_names.specs.declared.limits.TheConstants.{MAX_WIDTH_OF_ONE};
 
 use crate::coordinates::opposite;
 use crate::inputs::Inputs;
@@ -26,7 +27,7 @@ fn got(
     length: u64,
 ) -> Result<Vec<u128>, AllocError>
     requires there { is_bad_axis inputs.now.axes axis ≡ false }
-    requires narrow { length ≤ MAX_WIDTH }
+    requires narrow { length ≤ MAX_WIDTH_OF_ONE }
     ensures { IfOk result (λ numbers. numbers.items ≡ put_selected (frame_of_seen inputs.now) key.now length (λ v. low_at (frame_of_seen inputs.now) from length (neighbour inputs.now.axes axis direction v))) }
 {
     let geometry = inputs.geometry();
@@ -49,7 +50,7 @@ fn sent(
     length: u64,
 ) -> Result<Vec<u128>, AllocError>
     requires there { is_bad_axis inputs.now.axes axis ≡ false }
-    requires narrow { length ≤ MAX_WIDTH }
+    requires narrow { length ≤ MAX_WIDTH_OF_ONE }
     ensures { IfOk result (λ numbers. numbers.items ≡ put_where (frame_of_seen inputs.now) (λ r. is_selected (frame_of_seen inputs.now) (news_sender inputs.now.axes axis direction r)) key.now length
         (λ r. low_at (frame_of_seen inputs.now) from length (news_sender inputs.now.axes axis direction r))) }
 {
@@ -70,7 +71,7 @@ pub fn news_after(
     i: &News<Operand>,
     key: &Key,
 ) -> Result<Vec<u128>, AllocError>
-    requires { IsFit inputs.now.axes (Action.ByNews i.now) }
+    requires { IsNarrow inputs.now.axes (Action.ByNews i.now) }
     ensures { IfOk result (λ numbers. numbers.items ≡ news_after (frame_of_seen inputs.now) i.now key.now) }
 {
     match *i {

@@ -1,10 +1,10 @@
 //! Instructions that store in every processor.
 
 ghost use Rattle.std.specs.Prelude.{◌≡◌, ◌≤◌, IfOk};
-ghost use Rattle.paris_model.specs.Fits.{IsFit};
+ghost use Rattle.paris_plain.specs.Narrow.{IsNarrow};
 ghost use Rattle.paris_model.specs.Unconditional.{unconditional_length, unconditional_value, unconditional_after};
 ghost use Rattle.paris_plain.specs.Plain.{frame_of_seen};
-ghost use Rattle.paris_names.specs.declared.limits.TheConstants.{MAX_WIDTH};
+ghost use Rattle.paris_names.specs.declared.limits.TheConstants.{MAX_WIDTH_OF_ONE};
 
 use crate::inputs::Inputs;
 use paris_model::{Action, Operand, Unconditional};
@@ -13,9 +13,9 @@ use std::alloc::{AllocError, Global};
 
 /// How many low bits an instruction stores.
 fn stored_length(inputs: &Inputs, i: &Unconditional<Operand, SetNo>) -> u64
-    requires { IsFit inputs.now.axes (Action.OnAll i.now) }
+    requires { IsNarrow inputs.now.axes (Action.OnAll i.now) }
     ensures value { result ≡ unconditional_length i.now }
-    ensures narrow { result ≤ MAX_WIDTH }
+    ensures narrow { result ≤ MAX_WIDTH_OF_ONE }
 {
     match *i {
         Unconditional::MoveAlways { length, .. } => length,
@@ -32,7 +32,7 @@ fn stored_length(inputs: &Inputs, i: &Unconditional<Operand, SetNo>) -> u64
 
 /// The number that an instruction stores in a processor.
 fn new_at(inputs: &Inputs, i: &Unconditional<Operand, SetNo>, v: usize) -> u128
-    requires { IsFit inputs.now.axes (Action.OnAll i.now) }
+    requires { IsNarrow inputs.now.axes (Action.OnAll i.now) }
     ensures { result ≡ unconditional_value (frame_of_seen inputs.now) i.now v }
 {
     let context = inputs.flag_at(FlagName::Context, v);
@@ -61,7 +61,7 @@ pub fn unconditional_after(
     i: &Unconditional<Operand, SetNo>,
     key: &Key,
 ) -> Result<Vec<u128>, AllocError>
-    requires { IsFit inputs.now.axes (Action.OnAll i.now) }
+    requires { IsNarrow inputs.now.axes (Action.OnAll i.now) }
     ensures { IfOk result (λ numbers. numbers.items ≡ unconditional_after (frame_of_seen inputs.now) i.now key.now) }
 {
     let length = stored_length(inputs, i);

@@ -1,7 +1,7 @@
 //! Arithmetic on planes beside the instructions of the same operators.
 
 ghost use Rattle.std.specs.Prelude.{◌≡◌, ◌<◌, ◌≤◌, ℕ, List, length};
-ghost use Rattle.paris_model.specs.Fits.{IsFit};
+ghost use Rattle.paris_plain.specs.Narrow.{IsNarrow};
 
 use crate::beside::{self, Made, agrees, alone, destination, flag, seen_by_all, with, with_carry};
 use crate::cases::{Sample, plane};
@@ -176,7 +176,7 @@ impl Operation {
     fn action(self, length: u64) -> Action<Operand, SetNo>
         requires positive { 0 < length }
         requires narrow { length ≤ 64 }
-        ensures { (axes : List ℕ) → IsFit axes result }
+        ensures { (axes : List ℕ) → IsNarrow axes result }
     {
         match self {
             Operation::Add(sign) => beside::binary(sum_operator(sign), length),

@@ -1,7 +1,7 @@
 //! What the plain program leaves, and the comparison with what was made of planes.
 
 ghost use Rattle.std.specs.Prelude.{◌≡◌, ◌<◌, ◌≤◌, ℕ, List};
-ghost use Rattle.paris_model.specs.Fits.{IsFit};
+ghost use Rattle.paris_plain.specs.Narrow.{IsNarrow};
 
 use crate::cases::{Sample, everywhere};
 use paris_field::FieldValue;
@@ -61,7 +61,7 @@ pub(crate) fn flag(name: FlagName) -> Key {
 pub(crate) fn binary(operator: BinaryOperator, length: u64) -> Action<Operand, SetNo>
     requires positive { 0 < length }
     requires narrow { length ≤ 64 }
-    ensures { (axes : List ℕ) → IsFit axes result }
+    ensures { (axes : List ℕ) → IsNarrow axes result }
 {
     Action::OnSelected(Conditional::Binary {
         operator,
@@ -76,7 +76,7 @@ pub(crate) fn binary(operator: BinaryOperator, length: u64) -> Action<Operand, S
 pub(crate) fn unary(operator: UnaryOperator, length: u64) -> Action<Operand, SetNo>
     requires positive { 0 < length }
     requires narrow { length ≤ 64 }
-    ensures { (axes : List ℕ) → IsFit axes result }
+    ensures { (axes : List ℕ) → IsNarrow axes result }
 {
     Action::OnSelected(Conditional::Unary {
         operator,
@@ -92,7 +92,7 @@ pub(crate) fn resize(sign: Sign, length: u64, from_length: u64) -> Action<Operan
     requires narrow { length ≤ 64 }
     requires from_some { 0 < from_length }
     requires from_short { from_length ≤ 64 }
-    ensures { (axes : List ℕ) → IsFit axes result }
+    ensures { (axes : List ℕ) → IsNarrow axes result }
 {
     Action::OnSelected(Conditional::Resize {
         sign,
@@ -107,7 +107,7 @@ pub(crate) fn resize(sign: Sign, length: u64, from_length: u64) -> Action<Operan
 pub(crate) fn compare(comparison: Comparison, length: u64) -> Action<Operand, SetNo>
     requires positive { 0 < length }
     requires narrow { length ≤ 64 }
-    ensures { (axes : List ℕ) → IsFit axes result }
+    ensures { (axes : List ℕ) → IsNarrow axes result }
 {
     Action::OnSelected(Conditional::Compare {
         comparison,
@@ -274,7 +274,7 @@ fn is_left(
     action: &Action<Operand, SetNo>,
     made: &[(Key, FieldValue)],
 ) -> Result<bool, AllocError>
-    requires { (axes : List ℕ) → IsFit axes action.now }
+    requires { (axes : List ℕ) → IsNarrow axes action.now }
 {
     let keys = keys_of(alloc, made)?;
     match outcome(alloc, inputs, action, keys.as_slice())? {
@@ -292,7 +292,7 @@ pub(crate) fn agrees(
     action: &Action<Operand, SetNo>,
     made: &[(Key, FieldValue)],
 ) -> Result<(), Fail>
-    requires { (axes : List ℕ) → IsFit axes action.now }
+    requires { (axes : List ℕ) → IsNarrow axes action.now }
 {
     let is_left = is_left(alloc, inputs, action, made)?;
     assert!(rt; is_left, "{case:?}");

@@ -1,7 +1,7 @@
 //! Planes beside instructions of one bit, and beside the lists that they are made of.
 
 ghost use Rattle.std.specs.Prelude.{◌≡◌, ◌<◌, ◌≤◌, ℕ, List, length};
-ghost use Rattle.paris_model.specs.Fits.{IsFit};
+ghost use Rattle.paris_plain.specs.Narrow.{IsNarrow};
 
 use crate::beside::{
     self, Made, agrees, alone, destination, has_bits, plane_holds, seen_by_all, seen_by_selected,
@@ -64,7 +64,7 @@ impl Operation {
 
     /// The instruction that leaves the same.
     fn action(self) -> Action<Operand, SetNo>
-        ensures { (axes : List ℕ) → IsFit axes result }
+        ensures { (axes : List ℕ) → IsNarrow axes result }
     {
         match self {
             Operation::AndIn | Operation::PutAnd => beside::binary(BinaryOperator::BitAnd, 1),

@@ -1,7 +1,7 @@
 //! Steps of the context and test flags beside the instructions that do them.
 
 ghost use Rattle.std.specs.Prelude.{◌≡◌, ◌<◌, ◌≤◌, ℕ, List, length};
-ghost use Rattle.paris_model.specs.Fits.{IsFit};
+ghost use Rattle.paris_plain.specs.Narrow.{IsNarrow};
 
 use crate::beside::{Made, agrees, alone, bit_operand, flag, seen_by_selected};
 use crate::cases::{Sample, plane};
@@ -27,7 +27,7 @@ const TEST_STEPS: &[TestStep] = &[TestStep::Set, TestStep::Clear, TestStep::Load
 
 /// The instruction of a step of the context.
 fn context_action(step: ContextStep) -> Action<Operand, SetNo>
-    ensures { (axes : List ℕ) → IsFit axes result }
+    ensures { (axes : List ℕ) → IsNarrow axes result }
 {
     match step {
         ContextStep::Set => Action::OnAll(Unconditional::SetContext(SetNo::new(0))),
@@ -41,7 +41,7 @@ fn context_action(step: ContextStep) -> Action<Operand, SetNo>
 
 /// The instruction of a step of the test flag.
 fn test_action(step: TestStep) -> Action<Operand, SetNo>
-    ensures { (axes : List ℕ) → IsFit axes result }
+    ensures { (axes : List ℕ) → IsNarrow axes result }
 {
     match step {
         TestStep::Set => Action::OnSelected(Conditional::SetTest(SetNo::new(0))),

@@ -23,6 +23,8 @@ fn edit_by(command: Command) -> Option<Edit> {
 
 /// The edit that a line of a script spells.
 pub(crate) fn edit_of(rt: &impl Abort, alloc: Global, line: &[u8]) -> Edit {
-    let command = read_command(alloc, line).ok().expect(rt, "it is a command");
+    let command = read_command(alloc, line, false)
+        .ok()
+        .expect(rt, "it is a command");
     edit_by(command).expect(rt, "it is an edit")
 }

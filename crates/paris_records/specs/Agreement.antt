@@ -1,5 +1,6 @@
 -- When a history and the receipts of its seats agree.
 use Rattle.std.specs.Prelude.{◌≡◌, ◌<◌, ◌+◌, ◌-◌, ◌==◌, ℕ, List, [], ◌∷◌, length, if◌then◌else◌, slice_get, slice_index_or, Some}
+use Rattle.paris_names.specs.declared.profiles.Profile.{Profile}
 use Rattle.paris_records.specs.declared.records.Entry.{Entry}
 use Rattle.paris_records.specs.declared.records.Receipt.{Receipt}
 use Rattle.paris_records.specs.History.{Legal, entry}
@@ -24,9 +25,9 @@ abbrev pub Accounted : List Entry → ℕ → List Receipt → Type 0
 Accounted h seat rs = InPlaces h seat 0 rs × (calls_of seat h ≡ length rs)
 
 -- the list of a seat, by its number; a seat past the last list has no receipts
-abbrev pub list_of : List (List Receipt) → ℕ → List Receipt
-list_of rss seat = slice_index_or rss seat []
+abbrev pub receipts_of_seat : List (List Receipt) → ℕ → List Receipt
+receipts_of_seat rss seat = slice_index_or rss seat []
 
--- the history is legal, and each seat's receipts account for its entries
-abbrev pub Agree : List Entry → List (List Receipt) → Type 0
-Agree h rss = Legal h × ((seat : ℕ) → Accounted h seat (list_of rss seat))
+-- the history is legal in a profile, and each seat's receipts account for its entries
+abbrev pub Agree : Profile → List Entry → List (List Receipt) → Type 0
+Agree p h rss = Legal p h × ((seat : ℕ) → Accounted h seat (receipts_of_seat rss seat))

@@ -1,6 +1,7 @@
 -- Histories: which are legal, and the state that they leave.
 use Rattle.std.specs.Prelude.{◌≡◌, ℕ, List, [], ◌∷◌, map}
-use Rattle.paris_machine.specs.State.{State, empty_state}
+use Rattle.paris_names.specs.declared.profiles.Profile.{Profile}
+use Rattle.paris_machine.specs.State.{State, empty_state_of}
 use Rattle.paris_machine.specs.Events.{reply_to, after, after_all}
 use Rattle.paris_machine.specs.declared.events.Event.{Event}
 use Rattle.paris_machine.specs.declared.events.Reply.{Reply}
@@ -18,10 +19,10 @@ abbrev pub LegalFrom : State → List Entry → Type 0
 LegalFrom s [] = Unit {0}
 LegalFrom s (e ∷ es) = (e.reply ≡ reply_to s e.event) × LegalFrom (after s e.event) es
 
--- a history that one user of an empty book could have
-abbrev pub Legal : List Entry → Type 0
-Legal h = LegalFrom (empty_state 0) h
+-- a history that one user of an empty book of a profile could have
+abbrev pub Legal : Profile → List Entry → Type 0
+Legal p h = LegalFrom (empty_state_of p 0) h
 
--- the state after the events of a history
-abbrev pub state_of : List Entry → State
-state_of h = after_all (empty_state 0) (map (λ (e : Entry). e.event) h)
+-- the state after the events of a history, from the empty book of a profile on
+abbrev pub state_of : Profile → List Entry → State
+state_of p h = after_all (empty_state_of p 0) (map (λ (e : Entry). e.event) h)

@@ -4,25 +4,18 @@ ghost use Rattle.std.specs.Prelude.{◌≡◌, IfOk};
 
 use paris_events::Edit;
 use paris_machine::{Event, Reply, Shown};
-use paris_names::Items;
-use std::alloc::{AllocError, Global};
-
-/// A copy of a list.
-fn copy_of_items<T: Copy>(alloc: Global, items: &Items<T>) -> Result<Items<T>, AllocError>
-    ensures { IfOk result (λ copy. copy ≡ items.now) }
-{
-    let items = Vec::from_slice(alloc, items.as_slice())?;
-    Ok(Items::new(items))
-}
+use std::alloc::AllocError;
 
 /// A copy of an edit.
-fn copy_of_edit(alloc: Global, edit: &Edit) -> Result<Edit, AllocError>
+fn copy_of_edit(edit: &Edit) -> Result<Edit, AllocError>
     ensures { IfOk result (λ copy. copy ≡ edit.now) }
 {
     match edit {
         Edit::AddSet { name, axes } => {
-            let axes = copy_of_items(alloc, axes)?;
-            Ok(Edit::AddSet { name: *name, axes })
+            Ok(Edit::AddSet {
+                name: *name,
+                axes: axes.clone()?,
+            })
         }
         Edit::AddField { name, set, width } => {
             Ok(Edit::AddField {
@@ -32,11 +25,10 @@ fn copy_of_edit(alloc: Global, edit: &Edit) -> Result<Edit, AllocError>
             })
         }
         Edit::Input { key, from, values } => {
-            let values = copy_of_items(alloc, values)?;
             Ok(Edit::Input {
                 key: *key,
                 from: *from,
-                values,
+                values: values.clone()?,
             })
         }
         Edit::Insert { spot, instr } => {
@@ -56,11 +48,11 @@ fn copy_of_edit(alloc: Global, edit: &Edit) -> Result<Edit, AllocError>
 }
 
 /// A copy of an event.
-pub fn copy_of_event(alloc: Global, event: &Event) -> Result<Event, AllocError>
+pub fn copy_of_event(event: &Event) -> Result<Event, AllocError>
     ensures { IfOk result (λ copy. copy ≡ event.now) }
 {
     match event {
-        Event::Edit(edit) => Ok(Event::Edit(copy_of_edit(alloc, edit)?)),
+        Event::Edit(edit) => Ok(Event::Edit(copy_of_edit(edit)?)),
         Event::Take => Ok(Event::Take),
         Event::Bring(done) => Ok(Event::Bring(done.copy()?)),
         Event::Release => Ok(Event::Release),
@@ -80,7 +72,7 @@ fn copy_of_shown(shown: &Shown) -> Result<Shown, AllocError>
 }
 
 /// A copy of a reply.
-pub fn copy_of_reply(alloc: Global, reply: &Reply) -> Result<Reply, AllocError>
+pub fn copy_of_reply(reply: &Reply) -> Result<Reply, AllocError>
     ensures { IfOk result (λ copy. copy ≡ reply.now) }
 {
     match reply {
@@ -91,6 +83,6 @@ pub fn copy_of_reply(alloc: Global, reply: &Reply) -> Result<Reply, AllocError>
         Reply::Release => Ok(Reply::Release),
         Reply::Show(Ok(shown)) => Ok(Reply::Show(Ok(copy_of_shown(shown)?))),
         Reply::Show(Err(fault)) => Ok(Reply::Show(Err(*fault))),
-        Reply::List(looks) => Ok(Reply::List(copy_of_items(alloc, looks)?)),
+        Reply::List(looks) => Ok(Reply::List(looks.clone()?)),
     }
 }

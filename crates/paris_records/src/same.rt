@@ -1,24 +1,16 @@
 //! Whether events are the same, and whether replies are. Values in them are compared number by number.
 
 ghost use Rattle.std.specs.Prelude.{◌≡◌, ◌↔◌, IsTrue};
-ghost use Rattle.paris_events.specs.declared.edits.Edit.TheVariants as EditCase;
 
 use paris_events::{Edit, RowLook};
 use paris_exec::{Done, Order};
 use paris_machine::{Event, Reply, Shown};
-use paris_model::Instr;
-use paris_names::{Fault, Items, KeyName, Name, Spot};
-
-fn is_same_name(name: Name, other: Name) -> bool
-    ensures { IsTrue result ↔ (name ≡ other) }
-{
-    name == other
-}
+use paris_names::{Fault, Items, KeyName, Spot};
 
 fn is_same_key(key: KeyName, other: KeyName) -> bool
     ensures { IsTrue result ↔ (key ≡ other) }
 {
-    is_same_name(key.name, other.name) && key.flag == other.flag
+    key == other
 }
 
 fn is_same_spot(spot: Spot, other: Spot) -> bool
@@ -33,24 +25,6 @@ fn is_same_fault(fault: Fault, other: Fault) -> bool
     fault == other
 }
 
-fn is_same_instr(instr: Instr, other: Instr) -> bool
-    ensures { IsTrue result ↔ (instr ≡ other) }
-{
-    instr == other
-}
-
-fn are_same_axes(axes: &[u64], others: &[u64]) -> bool
-    ensures { IsTrue result ↔ (axes.now ≡ others.now) }
-{
-    axes == others
-}
-
-fn are_same_numbers(numbers: &[u128], others: &[u128]) -> bool
-    ensures { IsTrue result ↔ (numbers.now ≡ others.now) }
-{
-    numbers == others
-}
-
 fn is_same_order(order: &Order, other: &Order) -> bool
     ensures { IsTrue result ↔ (order.now ≡ other.now) }
 {
@@ -63,76 +37,16 @@ fn is_same_done(done: &Done, other: &Done) -> bool
     is_same_order(done.order(), other.order())
 }
 
-fn are_same_looks(looks: &[RowLook], others: &[RowLook]) -> bool
+fn are_same_looks(looks: &Items<RowLook>, others: &Items<RowLook>) -> bool
     ensures { IsTrue result ↔ (looks.now ≡ others.now) }
 {
     looks == others
 }
 
-/// Whether an edit declares a field of this name, set and width.
-fn is_field(edit: &Edit, name: Name, set: Name, width: u64) -> bool
-    ensures { IsTrue result ↔ (EditCase.AddField name set width ≡ edit.now) }
-{
-    match edit {
-        Edit::AddField {
-            name: other,
-            set: other_set,
-            width: other_width,
-        } => {
-            is_same_name(name, *other) && is_same_name(set, *other_set) && width == *other_width
-        }
-        _ => false,
-    }
-}
-
-/// Whether an edit gives a key these values from a processor on.
-fn is_input(edit: &Edit, key: KeyName, from: u64, values: &Items<u128>) -> bool
-    ensures { IsTrue result ↔ (EditCase.Input key from values.now ≡ edit.now) }
-{
-    match edit {
-        Edit::Input {
-            key: other,
-            from: other_from,
-            values: others,
-        } => {
-            is_same_key(key, *other)
-                && from == *other_from
-                && are_same_numbers(values.as_slice(), others.as_slice())
-        }
-        _ => false,
-    }
-}
-
 fn is_same_edit(edit: &Edit, other: &Edit) -> bool
     ensures { IsTrue result ↔ (edit.now ≡ other.now) }
 {
-    match (edit, other) {
-        (
-            Edit::AddSet { name, axes },
-            Edit::AddSet {
-                name: other,
-                axes: others,
-            },
-        ) => { is_same_name(*name, *other) && are_same_axes(axes.as_slice(), others.as_slice()) }
-        (Edit::AddField { name, set, width }, _) => is_field(other, *name, *set, *width),
-        (Edit::Input { key, from, values }, _) => is_input(other, *key, *from, values),
-        (
-            Edit::Insert { spot, instr },
-            Edit::Insert {
-                spot: other_spot,
-                instr: other,
-            },
-        ) => is_same_spot(*spot, *other_spot) && is_same_instr(*instr, *other),
-        (Edit::Delete(row), Edit::Delete(other)) => row == other,
-        (
-            Edit::Replace { row, instr },
-            Edit::Replace {
-                row: other_row,
-                instr: other,
-            },
-        ) => row == other_row && is_same_instr(*instr, *other),
-        _ => false,
-    }
+    edit == other
 }
 
 /// Whether both events are the same.
@@ -175,9 +89,7 @@ pub fn is_same_reply(reply: &Reply, other: &Reply) -> bool
         (Reply::Release, Reply::Release) => true,
         (Reply::Show(Ok(shown)), Reply::Show(Ok(other))) => is_same_shown(shown, other),
         (Reply::Show(Err(fault)), Reply::Show(Err(other))) => is_same_fault(*fault, *other),
-        (Reply::List(looks), Reply::List(others)) => {
-            are_same_looks(looks.as_slice(), others.as_slice())
-        }
+        (Reply::List(looks), Reply::List(others)) => are_same_looks(looks, others),
         _ => false,
     }
 }

@@ -7,9 +7,9 @@ use Rattle.paris_field.specs.Fields.{FieldNumbers, operand}
 use Rattle.paris_field.specs.Numbers.{bits_everywhere, has}
 
 -- why something is refused, if it is
-abbrev pub refusal_in : {X : Type 0} → Result X Refusal → Option Refusal
-refusal_in (Ok x) = None
-refusal_in (Err cause) = Some cause
+abbrev pub refusal_of : {X : Type 0} → Result X Refusal → Option Refusal
+refusal_of (Ok x) = None
+refusal_of (Err cause) = Some cause
 
 -- the least selected processor that holds an address outside the set
 abbrev pub bad_sender_of : FieldNumbers → List Bool → Option ℕ

@@ -4,7 +4,7 @@ ghost use Rattle.std.specs.Prelude.{◌≡◌, ◌<◌, ◌≤◌, All, IfOk, No
 ghost use Rattle.paris_model.specs.Mail.{first_cause};
 ghost use Rattle.paris_names.specs.declared.limits.TheConstants.{MAX_PROCESSORS};
 ghost use Rattle.paris_field.specs.Numbers.{has};
-ghost use Rattle.paris_router.specs.Mail.{bad_sender_of, refusal_in, selected_addresses};
+ghost use Rattle.paris_router.specs.Mail.{bad_sender_of, refusal_of, selected_addresses};
 
 use paris_field::FieldValue;
 use paris_model::Refusal;
@@ -29,7 +29,7 @@ pub fn checked_addresses(
 ) -> Result<Result<Vec<usize>, Refusal>, AllocError>
     requires few { length addresses.now.numbers ≤ MAX_PROCESSORS }
     requires selected { length selected.now ≡ length addresses.now.numbers }
-    ensures refused { IfOk result (λ checked. refusal_in checked ≡ first_cause (bad_sender_of addresses.now selected.now) None) }
+    ensures refused { IfOk result (λ checked. refusal_of checked ≡ first_cause (bad_sender_of addresses.now selected.now) None) }
     ensures value { IfOk result (λ checked. IfOk checked (λ list. list.items ≡ selected_addresses addresses.now selected.now)) }
     ensures within { IfOk result (λ checked. IfOk checked (λ list. All (λ r. r < length addresses.now.numbers) list.items)) }
 {

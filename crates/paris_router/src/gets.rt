@@ -5,7 +5,7 @@ ghost use Rattle.paris_model.specs.Mail.{first_cause};
 ghost use Rattle.paris_model.specs.Store.{everywhere};
 ghost use Rattle.paris_names.specs.declared.limits.TheConstants.{MAX_PROCESSORS};
 ghost use Rattle.paris_field.specs.Numbers.{has};
-ghost use Rattle.paris_router.specs.Mail.{bad_sender_of, fetched_field, refusal_in};
+ghost use Rattle.paris_router.specs.Mail.{bad_sender_of, fetched_field, refusal_of};
 
 use crate::addresses::checked_addresses;
 use crate::numbers::low_numbers;
@@ -47,7 +47,7 @@ pub fn get(
     requires x_width { bits ≤ x.now.width }
     requires addresses { length addresses.now.numbers ≡ length x.now.numbers }
     requires selected { length selected.now ≡ length x.now.numbers }
-    ensures refused { IfOk result (λ got. refusal_in got ≡ first_cause (bad_sender_of addresses.now selected.now) None) }
+    ensures refused { IfOk result (λ got. refusal_of got ≡ first_cause (bad_sender_of addresses.now selected.now) None) }
     ensures value { IfOk result (λ got. IfOk got (λ value. value ≡ fetched_field bits addresses.now x.now selected.now)) }
 {
     let list = match checked_addresses(alloc, addresses, selected)? {

@@ -4,7 +4,7 @@ ghost use Rattle.std.specs.Prelude.{◌≡◌, ◌<◌, ◌≤◌, ◌^◌, All,
 ghost use Rattle.paris_model.specs.Mail.{first_cause, messages};
 ghost use Rattle.paris_names.specs.declared.limits.TheConstants.{MAX_PROCESSORS};
 ghost use Rattle.paris_field.specs.Numbers.{has};
-ghost use Rattle.paris_router.specs.Mail.{bad_sender_of, mail_in, receivers_of, refusal_in};
+ghost use Rattle.paris_router.specs.Mail.{bad_sender_of, mail_in, receivers_of, refusal_of};
 
 use crate::addresses::checked_addresses;
 use crate::numbers::low_numbers;
@@ -46,7 +46,7 @@ pub fn checked_mail(
     requires narrow { bits ≤ 128 }
     requires addresses { length addresses.now.numbers ≡ length x.now.numbers }
     requires selected { length selected.now ≡ length x.now.numbers }
-    ensures refused { IfOk result (λ checked. refusal_in checked ≡ first_cause (bad_sender_of addresses.now selected.now) None) }
+    ensures refused { IfOk result (λ checked. refusal_of checked ≡ first_cause (bad_sender_of addresses.now selected.now) None) }
     ensures value { IfOk result (λ checked. IfOk checked (λ mail. mail.items ≡ mail_in bits addresses.now x.now selected.now)) }
     ensures within { IfOk result (λ checked. IfOk checked (λ mail. All (λ message. message.0 < length x.now.numbers) mail.items)) }
     ensures fit { IfOk result (λ checked. IfOk checked (λ mail. All (λ message. message.1 < 2 ^ bits) mail.items)) }

@@ -6,7 +6,7 @@ ghost use Rattle.paris_model.specs.Mail.{arrivals, collision_at, first_cause};
 ghost use Rattle.paris_model.specs.Store.{everywhere};
 ghost use Rattle.paris_names.specs.declared.limits.TheConstants.{MAX_PROCESSORS};
 ghost use Rattle.paris_field.specs.Numbers.{has};
-ghost use Rattle.paris_router.specs.Mail.{bad_sender_of, crowded_in, delivered_field, mail_in, receivers_of, refusal_in};
+ghost use Rattle.paris_router.specs.Mail.{bad_sender_of, crowded_in, delivered_field, mail_in, receivers_of, refusal_of};
 
 use crate::messages::checked_mail;
 use paris_field::FieldValue;
@@ -65,7 +65,7 @@ pub fn send(
     requires x_width { bits ≤ x.now.width }
     requires addresses { length addresses.now.numbers ≡ length x.now.numbers }
     requires selected { length selected.now ≡ length x.now.numbers }
-    ensures refused { IfOk result (λ sent. refusal_in sent ≡ first_cause (bad_sender_of addresses.now selected.now) (collision_at (length x.now.numbers) (mail_in bits addresses.now x.now selected.now))) }
+    ensures refused { IfOk result (λ sent. refusal_of sent ≡ first_cause (bad_sender_of addresses.now selected.now) (collision_at (length x.now.numbers) (mail_in bits addresses.now x.now selected.now))) }
     ensures value { IfOk result (λ sent. IfOk sent (λ delivery. delivery.value ≡ delivered_field bits (length x.now.numbers) (mail_in bits addresses.now x.now selected.now))) }
     ensures receivers { IfOk result (λ sent. IfOk sent (λ delivery. delivery.receivers ≡ receivers_of (length x.now.numbers) (mail_in bits addresses.now x.now selected.now))) }
 {

@@ -16,7 +16,7 @@ use Rattle.paris_news.proofs.Steps.{up_inside, down_inside}
 use Rattle.paris_model.specs.declared.operators.Inclusion.TheVariants.{Inclusive}
 use Rattle.paris_geometry.proofs.Neighbours.{coordinate_below, at_coordinate_again, at_own_coordinate, ring_below}
 use Rattle.paris_model.specs.Lines.{from_last, values_where, scan_values}
-use Rattle.paris_scan.specs.Runs.{begins_run, before, run, first_coordinate}
+use Rattle.paris_scan.specs.Runs.{begins_run, before, segment_run, first_coordinate}
 use Rattle.paris_scan.proofs.Reach.{behind, nearer, distance, distance_below}
 
 -- from the last begin on
@@ -124,8 +124,8 @@ pub values_cond : (p : ℕ → Bool) (g : ℕ → ℕ) (b : Bool) (xs ys : List 
 values_cond p g true xs ys = refl
 values_cond p g false xs ys = refl
 
-pub run_is : (axes : List ℕ) (a : ℕ) (d : Direction) (begins selected : ℕ → Bool) (value : ℕ → ℕ) (k v : ℕ) → is_geometry axes ≡ true → a < length axes → v < processor_count axes → distance axes a d v < k → run (begins_run axes a d begins) (λ u. values_where selected value (u ∷ [])) d (stride axes a) k v ≡ values_where selected value (from_last begins (line_until axes a d v))
-unfolding run
+pub run_is : (axes : List ℕ) (a : ℕ) (d : Direction) (begins selected : ℕ → Bool) (value : ℕ → ℕ) (k v : ℕ) → is_geometry axes ≡ true → a < length axes → v < processor_count axes → distance axes a d v < k → segment_run (begins_run axes a d begins) (λ u. values_where selected value (u ∷ [])) d (stride axes a) k v ≡ values_where selected value (from_last begins (line_until axes a d v))
+unfolding segment_run
 run_is axes a d begins selected value zero v sound within below near = absurd (omega arith)
 run_is axes a d begins selected value (suc k) v sound within below near =
     let s : ℕ = stride axes a in
@@ -136,13 +136,13 @@ run_is axes a d begins selected value (suc k) v sound within below near =
     elim (cases_eq (coordinate axes a v) (first_coordinate d (axis_length axes a))) [
       | inl e ↦
           let t : eqb (coordinate axes a v) (first_coordinate d (axis_length axes a)) ≡ true = grind (arith, nat_tests) in
-          ap (λ b. cond (b || begins v) (own v) (run f own d s k u ++ own v)) t
+          ap (λ b. cond (b || begins v) (own v) (segment_run f own d s k u ++ own v)) t
           ∙ sym (ap (λ l. P (from_last begins l)) (until_first axes a d v sound within e))
       | inr n ↦
           let t : eqb (coordinate axes a v) (first_coordinate d (axis_length axes a)) ≡ false = grind (arith, nat_tests) in
           let there = behind axes a d v sound within below n in
-          let rest : run f own d s k u ≡ P (from_last begins (line_until axes a d u)) = run_is axes a d begins selected value k u sound within there.there (omega (arith, near, nearer axes a d v sound within n)) in
-          ap (λ b. cond (b || begins v) (own v) (run f own d s k u ++ own v)) t
+          let rest : segment_run f own d s k u ≡ P (from_last begins (line_until axes a d u)) = run_is axes a d begins selected value k u sound within there.there (omega (arith, near, nearer axes a d v sound within n)) in
+          ap (λ b. cond (b || begins v) (own v) (segment_run f own d s k u ++ own v)) t
           ∙ ap (λ l. cond (begins v) (own v) (l ++ own v)) rest
           ∙ sym (ap (λ l. P (from_last begins l)) (until_more axes a d v sound within n)
           ∙ ap P (from_last_more begins (line_until axes a d u) v)
@@ -165,7 +165,7 @@ filter_same p q (x ∷ xs) each = cond_same (p x) (q x) x (filter p xs) (filter 
 both_selected : (selected : ℕ → Bool) (xs : List ℕ) (v : ℕ) → filter (λ u. selected u && (true || not (eqb u v))) xs ≡ filter selected xs
 both_selected selected xs v = filter_same (λ u. selected u && (true || not (eqb u v))) selected xs (λ u. and_true (selected u))
 
-pub inclusive_run : (axes : List ℕ) (a : ℕ) (d : Direction) (begins selected : ℕ → Bool) (value : ℕ → ℕ) (v : ℕ) → is_geometry axes ≡ true → a < length axes → v < processor_count axes → run (begins_run axes a d begins) (λ u. values_where selected value (u ∷ [])) d (stride axes a) (axis_length axes a) v ≡ scan_values axes a d Inclusive begins selected value v
+pub inclusive_run : (axes : List ℕ) (a : ℕ) (d : Direction) (begins selected : ℕ → Bool) (value : ℕ → ℕ) (v : ℕ) → is_geometry axes ≡ true → a < length axes → v < processor_count axes → segment_run (begins_run axes a d begins) (λ u. values_where selected value (u ∷ [])) d (stride axes a) (axis_length axes a) v ≡ scan_values axes a d Inclusive begins selected value v
 inclusive_run axes a d begins selected value v sound within below =
     run_is axes a d begins selected value (axis_length axes a) v sound within below (distance_below axes a d v (coordinate_below axes a v sound within))
     ∙ ap (map value) (sym (both_selected selected (from_last begins (line_until axes a d v)) v))

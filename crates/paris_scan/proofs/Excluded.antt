@@ -12,7 +12,7 @@ use Rattle.paris_geometry.specs.Geometry.{stride, axis_length, processor_count, 
 use Rattle.paris_geometry.proofs.Neighbours.{coordinate_below, coordinate_given}
 use Rattle.paris_model.specs.declared.operators.Inclusion.TheVariants.{Exclusive}
 use Rattle.paris_model.specs.Lines.{from_last, values_where, scan_values}
-use Rattle.paris_scan.specs.Runs.{before, begins_run, first_coordinate, run}
+use Rattle.paris_scan.specs.Runs.{before, begins_run, first_coordinate, segment_run}
 use Rattle.paris_scan.proofs.Reach.{behind, nearer, distance, distance_below}
 use Rattle.paris_scan.proofs.Defined.{along, and_true, cond_same, from_last_more, run_is, until_first, until_is, until_more, values_append, values_cond}
 
@@ -90,7 +90,7 @@ unfolding counts
 scan_counts axes a d begins selected value v = refl
 
 pub exclusive_run : (axes : List ℕ) (a : ℕ) (d : Direction) (begins selected : ℕ → Bool) (value : ℕ → ℕ) (v : ℕ) → is_geometry axes ≡ true → a < length axes → v < processor_count axes
-    → cond (begins_run axes a d begins v) [] (run (begins_run axes a d begins) (λ u. values_where selected value (u ∷ [])) d (stride axes a) (axis_length axes a) (before d (stride axes a) v)) ≡ scan_values axes a d Exclusive begins selected value v
+    → cond (begins_run axes a d begins v) [] (segment_run (begins_run axes a d begins) (λ u. values_where selected value (u ∷ [])) d (stride axes a) (axis_length axes a) (before d (stride axes a) v)) ≡ scan_values axes a d Exclusive begins selected value v
 exclusive_run axes a d begins selected value v sound within below =
     let s : ℕ = stride axes a in
     let n : ℕ = axis_length axes a in
@@ -102,17 +102,17 @@ exclusive_run axes a d begins selected value v sound within below =
     elim (cases_eq (coordinate axes a v) (first_coordinate d n)) [
       | inl e ↦
           let t : eqb (coordinate axes a v) (first_coordinate d n) ≡ true = grind (arith, nat_tests) in
-          ap (λ b. cond (b || begins v) [] (run f own d s n u)) t
+          ap (λ b. cond (b || begins v) [] (segment_run f own d s n u)) t
           ∙ sym (scan_counts axes a d begins selected value v ∙ ap (λ l. Q (from_last begins l)) (until_first axes a d v sound within e) ∙ none_own selected value v)
       | inr apart ↦
           let t : eqb (coordinate axes a v) (first_coordinate d n) ≡ false = grind (arith, nat_tests) in
           let there = behind axes a d v sound within below apart in
           let next : distance axes a d u + 1 ≡ distance axes a d v = nearer axes a d v sound within apart in
           let near : distance axes a d v < n = distance_below axes a d v (coordinate_below axes a v sound within) in
-          let rest : run f own d s n u ≡ values_where selected value F = run_is axes a d begins selected value n u sound within there.there (omega (arith, next, near)) in
+          let rest : segment_run f own d s n u ≡ values_where selected value F = run_is axes a d begins selected value n u sound within there.there (omega (arith, next, near)) in
           let alike : Q F ≡ values_where selected value F = ap (map value) (filter_alike (counts selected v) selected F (all_from_last (λ w. counts selected v w ≡ selected w) begins (line_until axes a d u) (before_counts axes a d u v sound within next near selected))) in
-          ap (λ b. cond (b || begins v) [] (run f own d s n u)) t
-          ∙ cond_pair (begins v) [] (run f own d s n u) (Q (v ∷ [])) (Q (F ++ v ∷ [])) (sym (none_own selected value v))
+          ap (λ b. cond (b || begins v) [] (segment_run f own d s n u)) t
+          ∙ cond_pair (begins v) [] (segment_run f own d s n u) (Q (v ∷ [])) (Q (F ++ v ∷ [])) (sym (none_own selected value v))
           (rest ∙ sym (values_append (counts selected v) value F (v ∷ []) ∙ append_none (Q F) (Q (v ∷ [])) (none_own selected value v) ∙ alike))
           ∙ sym (scan_counts axes a d begins selected value v
           ∙ ap (λ l. Q (from_last begins l)) (until_more axes a d v sound within apart)

@@ -10,7 +10,7 @@ use Rattle.paris_geometry.specs.declared.direction.Direction.{Direction}
 use Rattle.paris_geometry.specs.declared.direction.Direction.TheVariants.{Upward, Downward}
 use Rattle.paris_geometry.specs.Geometry.{stride, axis_length, processor_count, is_geometry, coordinate}
 use Rattle.std.proofs.lemmas.Bool.Decides.{nat_tests}
-use Rattle.paris_scan.specs.Runs.{begins_run, first_coordinate, before, begun_within, run, StartsLines, Reaches}
+use Rattle.paris_scan.specs.Runs.{begins_run, first_coordinate, before, begun_within, segment_run, StartsLines, Reaches}
 use Rattle.paris_scan.proofs.Twice.{run_split, begun_split, run_stays, run_all}
 use Rattle.paris_scan.proofs.Reach.{reached, begun_in_line, behind, starts_at}
 
@@ -55,33 +55,33 @@ cut_append true r ys = refl
 cut_append false r ys = refl
 
 pub run_doubled : {axes : List ℕ} {a : ℕ} {d : Direction} {f : ℕ → Bool} → Walk axes a d f → (sh : List ℕ → ℕ) (P : ℕ → Type 0) (own : ℕ → List ℕ) (m by : ℕ) (begun : List Bool) (old new : ℕ → ℕ) (v : ℕ) → sh [] ≡ 0 → ((u : ℕ) → All P (own u)) → by ≡ m * stride axes a → ((u : ℕ) → u < processor_count axes → get_or begun u false ≡ begun_within f d (stride axes a) m u)
-    → ((u : ℕ) → u < processor_count axes → old u ≡ sh (run f own d (stride axes a) m u))
+    → ((u : ℕ) → u < processor_count axes → old u ≡ sh (segment_run f own d (stride axes a) m u))
     → ((xs ys : List ℕ) → All P xs → All P ys
     → ((x : ℕ) → (get_or begun v false ≡ true → x ≡ 0) × (get_or begun v false ≡ false → Reaches d by (processor_count axes) v → x ≡ old (before d by v)) → x ≡ sh xs)
     → old v ≡ sh ys → new v ≡ sh (xs ++ ys))
-    → v < processor_count axes → new v ≡ sh (run f own d (stride axes a) (m * 2) v)
+    → v < processor_count axes → new v ≡ sh (segment_run f own d (stride axes a) (m * 2) v)
 run_doubled {axes} {a} {d} {f} w sh P own m by begun old new v none fits is begins olds joined below =
     let s : ℕ = stride axes a in
     let b : Bool = begun_within f d s m v in
-    let r : List ℕ = run f own d s m (before d (m * s) v) in
-    let ys : List ℕ = run f own d s m v in
+    let r : List ℕ = segment_run f own d s m (before d (m * s) v) in
+    let ys : List ℕ = segment_run f own d s m v in
     joined (cond b [] r) ys (cut_all P b r (run_all P f own d s m (before d (m * s) v) fits)) (run_all P f own d s m v fits)
     (λ x comes. cut_shows sh b x r none (λ t. comes.0 (begins v below ∙ t)) (λ n.
     let reach : Reaches d by (processor_count axes) v = subst (λ z. Reaches d z (processor_count axes) v) (sym is) (reached axes a d f m v w.sound w.within w.starts below n) in
     comes.1 (begins v below ∙ n) reach ∙ olds (before d by v) (before_below d by (processor_count axes) v below reach)
-    ∙ ap (λ z. sh (run f own d s m (before d z v))) is))
+    ∙ ap (λ z. sh (segment_run f own d s m (before d z v))) is))
     (olds v below)
-    ∙ ap sh (cut_append b r ys ∙ sym (ap (λ k. run f own d s k v) (twice m) ∙ run_split f own d s m m v))
+    ∙ ap sh (cut_append b r ys ∙ sym (ap (λ k. segment_run f own d s k v) (twice m) ∙ run_split f own d s m m v))
 
 -- what is moved on by one place at the end, and cut where a segment begins
 pub run_before : {axes : List ℕ} {a : ℕ} {d : Direction} {f : ℕ → Bool} → Walk axes a d f → (sh : List ℕ → ℕ) (own : ℕ → List ℕ) (k by : ℕ) (begins : List Bool) (last : ℕ → ℕ) (v x : ℕ) → sh [] ≡ 0 → by ≡ stride axes a
     → ((u : ℕ) → u < processor_count axes → get_or begins u false ≡ f u)
-    → ((u : ℕ) → u < processor_count axes → last u ≡ sh (run f own d (stride axes a) k u))
+    → ((u : ℕ) → u < processor_count axes → last u ≡ sh (segment_run f own d (stride axes a) k u))
     → (get_or begins v false ≡ true → x ≡ 0) × (get_or begins v false ≡ false → Reaches d by (processor_count axes) v → x ≡ last (before d by v))
-    → v < processor_count axes → x ≡ sh (cond (f v) [] (run f own d (stride axes a) k (before d (stride axes a) v)))
+    → v < processor_count axes → x ≡ sh (cond (f v) [] (segment_run f own d (stride axes a) k (before d (stride axes a) v)))
 run_before {axes} {a} {d} {f} w sh own k by begins last v x none is starts lasts comes below =
     let s : ℕ = stride axes a in
-    cut_shows sh (f v) x (run f own d s k (before d s v)) none (λ t. comes.0 (starts v below ∙ t)) (λ n.
+    cut_shows sh (f v) x (segment_run f own d s k (before d s v)) none (λ t. comes.0 (starts v below ∙ t)) (λ n.
     let b = behind axes a d v w.sound w.within below (starts_at axes a d f v w.starts below n) in
     let reach : Reaches d by (processor_count axes) v = subst (λ z. Reaches d z (processor_count axes) v) (sym is) b.reaches in
     comes.1 (starts v below ∙ n) reach
@@ -89,11 +89,11 @@ run_before {axes} {a} {d} {f} w sh own k by begins last v x none is starts lasts
     ∙ lasts (before d s v) b.there)
 
 -- as many places as the line has are all that count
-pub run_ended : {axes : List ℕ} {a : ℕ} {d : Direction} {f : ℕ → Bool} → Walk axes a d f → (own : ℕ → List ℕ) (m v : ℕ) → axis_length axes a ≤ m → v < processor_count axes → run f own d (stride axes a) m v ≡ run f own d (stride axes a) (axis_length axes a) v
+pub run_ended : {axes : List ℕ} {a : ℕ} {d : Direction} {f : ℕ → Bool} → Walk axes a d f → (own : ℕ → List ℕ) (m v : ℕ) → axis_length axes a ≤ m → v < processor_count axes → segment_run f own d (stride axes a) m v ≡ segment_run f own d (stride axes a) (axis_length axes a) v
 run_ended {axes} {a} {d} {f} w own m v enough below =
     let n : ℕ = axis_length axes a in
     let sum : m ≡ n + (m - n) = omega arith in
-    ap (λ k. run f own d (stride axes a) k v) sum
+    ap (λ k. segment_run f own d (stride axes a) k v) sum
     ∙ run_stays f own d (stride axes a) (m - n) n v (begun_in_line axes a d f v w.sound w.within w.starts below)
 
 -- a run looks at where segments begin among the processors alone
@@ -101,12 +101,12 @@ same_cut : (b c : Bool) (o x y : List ℕ) → b ≡ c → (c ≡ false → x �
 same_cut b true o x y e h = ap (λ t. cond t o (x ++ o)) e
 same_cut b false o x y e h = ap (λ t. cond t o (x ++ o)) e ∙ ap (λ l. l ++ o) (h refl)
 
-pub run_same : {axes : List ℕ} {a : ℕ} {d : Direction} {f : ℕ → Bool} → Walk axes a d f → (g : ℕ → Bool) (own : ℕ → List ℕ) (k v : ℕ) → ((u : ℕ) → u < processor_count axes → g u ≡ f u) → v < processor_count axes → run g own d (stride axes a) k v ≡ run f own d (stride axes a) k v
-unfolding run
+pub run_same : {axes : List ℕ} {a : ℕ} {d : Direction} {f : ℕ → Bool} → Walk axes a d f → (g : ℕ → Bool) (own : ℕ → List ℕ) (k v : ℕ) → ((u : ℕ) → u < processor_count axes → g u ≡ f u) → v < processor_count axes → segment_run g own d (stride axes a) k v ≡ segment_run f own d (stride axes a) k v
+unfolding segment_run
 run_same w g own zero v same below = refl
 run_same {axes} {a} {d} {f} w g own (suc k) v same below =
     let s : ℕ = stride axes a in
-    same_cut (g v) (f v) (own v) (run g own d s k (before d s v)) (run f own d s k (before d s v)) (same v below) (λ n.
+    same_cut (g v) (f v) (own v) (segment_run g own d s k (before d s v)) (segment_run f own d s k (before d s v)) (same v below) (λ n.
     run_same w g own k (before d s v) same (behind axes a d v w.sound w.within below (starts_at axes a d f v w.starts below n)).there)
 
 -- the plane of where lines and segments begin

@@ -15,9 +15,9 @@ begun_within begins direction s zero v = false
 begun_within begins direction s (suc k) v = begins v || begun_within begins direction s k (before direction s v)
 
 -- what the last k places up to v hold, in order, from where the last segment among them begins
-unfoldable pub run : (ℕ → Bool) → (ℕ → List ℕ) → Direction → ℕ → ℕ → ℕ → List ℕ
-run begins own direction s zero v = []
-run begins own direction s (suc k) v = cond (begins v) (own v) (run begins own direction s k (before direction s v) ++ own v)
+unfoldable pub segment_run : (ℕ → Bool) → (ℕ → List ℕ) → Direction → ℕ → ℕ → ℕ → List ℕ
+segment_run begins own direction s zero v = []
+segment_run begins own direction s (suc k) v = cond (begins v) (own v) (segment_run begins own direction s k (before direction s v) ++ own v)
 
 -- the coordinate at which lines begin that are walked in the direction, on an axis of n processors
 abbrev pub first_coordinate : Direction → ℕ → ℕ

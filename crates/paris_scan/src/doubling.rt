@@ -3,7 +3,7 @@
 ghost use Rattle.std.specs.Prelude.{◌≡◌, ℕ, ◌+◌, ◌^◌, ◌<◌, ◌≤◌, All, List, false, length, slice_index_or};
 ghost use Rattle.paris_geometry.specs.Geometry.{axis_length, processor_count, stride};
 ghost use Rattle.paris_field.specs.Numbers.{AllOf, number_at};
-ghost use Rattle.paris_scan.specs.Runs.{StartsLines, run};
+ghost use Rattle.paris_scan.specs.Runs.{StartsLines, segment_run};
 
 use crate::combine::Combine;
 use crate::moves::move_plane;
@@ -34,7 +34,7 @@ pub(crate) fn double<C: Combine>(
     ensures brought { AllOf (processor_count geometry) brought.new }
     ensures runs { (L : ℕ) (own : ℕ → List ℕ) → length state.old ≡ L + C.extra → ((u : ℕ) → All (λ x. x < 2 ^ L) (own u))
         → ((v : ℕ) → v < processor_count geometry → number_at state.old v ≡ C.shows L (own v))
-        → (v : ℕ) → v < processor_count geometry → number_at state.new v ≡ C.shows L (run (λ u. slice_index_or begun.old u false) own direction (stride geometry axis) (axis_length geometry axis) v) }
+        → (v : ℕ) → v < processor_count geometry → number_at state.new v ≡ C.shows L (segment_run (λ u. slice_index_or begun.old u false) own direction (stride geometry axis) (axis_length geometry axis) v) }
 {
     let length = geometry.len(axis) as usize;
     let stride = geometry.stride(axis);

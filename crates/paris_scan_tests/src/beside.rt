@@ -2,7 +2,7 @@
 
 ghost use Rattle.std.specs.Prelude.{◌≡◌, ◌<◌, ◌≤◌, IfOk, length};
 ghost use Rattle.paris_geometry.specs.Geometry.{axis_length};
-ghost use Rattle.paris_model.specs.Fits.{IsFit};
+ghost use Rattle.paris_plain.specs.Narrow.{IsNarrow};
 ghost use Rattle.paris_model.specs.declared.actions.Action.TheVariants.{AlongLine};
 
 use crate::calls::{Call, Case, run_case};
@@ -56,7 +56,7 @@ fn whole_line(geometry: Geometry, case: &Case) -> Line<Operand>
     requires axis { case.now.axis < length geometry }
     requires place { case.now.place < axis_length geometry case.now.axis }
     requires narrow { case.now.bits ≤ 64 }
-    ensures { IsFit geometry (AlongLine result) }
+    ensures { IsNarrow geometry (AlongLine result) }
 {
     let from = operand(0, 64);
     let to = operand(1, 64);
@@ -95,7 +95,7 @@ fn line(geometry: Geometry, case: &Case) -> Line<Operand>
     requires axis { case.now.axis < length geometry }
     requires place { case.now.place < axis_length geometry case.now.axis }
     requires narrow { case.now.bits ≤ 64 }
-    ensures { IsFit geometry (AlongLine result) }
+    ensures { IsNarrow geometry (AlongLine result) }
 {
     let from = operand(0, 64);
     let to = operand(1, 64);

@@ -10,7 +10,7 @@ use std::alloc::{AllocError, Global};
 use std::process::Abort;
 use std::test::Fail;
 
-const WIDTHS: &[u64] = &[1, 8, 64, 128];
+const WIDTHS: &[u64] = &[1, 8, 64, 65, 100, 127, 128];
 
 /// The lengths of a set's axes, axis 0 first, widths of its fields in bits, and which calls are run: one of how many, and at the first
 /// width from which on.
@@ -27,7 +27,7 @@ pub(crate) const SETS: &[(&[u64], &[u64], usize, usize)] = &[
     (&[128, 2], WIDTHS, 13, 8),
     (&[4, 4, 4, 4], WIDTHS, 8, 2),
     (&[256], WIDTHS, 13, 0),
-    (&[65_536], &[8], 19, 0),
+    (&[65_536], &[8, 128], 19, 0),
     (&[2, 32_768], &[1], 19, 3),
     (&[256, 256], &[8], 19, 6),
 ];

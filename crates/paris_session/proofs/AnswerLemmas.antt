@@ -8,6 +8,7 @@ use Rattle.paris_names.specs.declared.faults.Fault.{Fault}
 use Rattle.paris_names.specs.declared.faults.Fault.TheVariants.{NoMemory, NoOrder, Syntax}
 use Rattle.paris_names.specs.declared.ids.Spot.{Spot}
 use Rattle.paris_names.specs.declared.names.KeyName.{KeyName}
+use Rattle.paris_names.specs.declared.profiles.Profile.{Profile}
 use Rattle.paris_names.specs.Faults.{IsFaultOf}
 use Rattle.paris_exec.specs.Tasks.{Task}
 use Rattle.paris_machine.specs.State.{State}
@@ -24,7 +25,7 @@ use Rattle.paris_events.specs.declared.rows.RowFault.{RowFault}
 use Rattle.paris_events.specs.declared.verdicts.Verdict.{Verdict}
 use Rattle.paris_machine.specs.declared.events.Shown.{Shown}
 use Rattle.paris_replies.specs.Replies.{ok_text, edit_text, order_text, nothing_text, verdict_text, list_text, faults_text, settled_text}
-use Rattle.paris_session.specs.Transcript.{Sitting, with_command, with_book, fault_answer, answer_to_edit, answer_to_edit_by, answer_to_take, answer_to_take_by, answer_to_bring, answer_to_bring_by, answer_to_release, answer_to_list, answer_to_faults, answer_to_settle, shown_text, answer_to_show, answer_to_show_by, order_at, answer_to_read, longest_line, answer}
+use Rattle.paris_session.specs.Transcript.{Sitting, with_command, with_book, fault_answer, answer_to_edit, answer_to_edit_by, answer_to_take, answer_to_take_by, answer_to_bring, answer_to_bring_by, answer_to_release, answer_to_list, answer_to_faults, answer_to_settle, answer_to_paris, is_first, shown_text, answer_to_show, answer_to_show_by, order_at, answer_to_read, longest_line, answer}
 
 pub edit_accepted : (s new : Sitting) (e : Edit) (reply : EditReply) (text : List ℕ) → edit_fault s.state e ≡ None
     → reply ≡ edit_answer s.state e → new ≡ with_book s (accepted s.state e) s.tray → text ≡ edit_text reply → (new, text) ≡ answer_to_edit s e
@@ -144,6 +145,10 @@ settle_count : (s : Sitting) → (answer_to_settle s).0.commands ≤ s.commands
 unfolding answer_to_settle
 settle_count s = omega arith
 
+paris_count : (s : Sitting) (profile : Profile) → (answer_to_paris s profile).0.commands ≤ s.commands
+unfolding answer_to_paris
+paris_count s profile = omega arith
+
 read_count : (s : Sitting) (r : Result Command ℕ) → (answer_to_read s r).0.commands ≤ s.commands
 read_count s (Ok (command.Edit e)) = edit_count s e
 read_count s (Ok command.Take) = take_count s
@@ -153,17 +158,18 @@ read_count s (Ok (command.Show key spot)) = show_count s key spot
 read_count s (Ok command.List) = list_count s
 read_count s (Ok command.Faults) = faults_count s
 read_count s (Ok command.Settle) = settle_count s
+read_count s (Ok (command.Paris profile)) = paris_count s profile
 read_count s (Err column) = omega arith
 
 -- a line is one command at most
 pub answer_count : (s : Sitting) (line : List ℕ) → (answer s line).0.commands ≤ s.commands + 1
 unfolding answer
 answer_count s line =
-    elim (nat_eq (length line) 0) as (λ t. (if t then (s, []) else if nat_eq (slice_index line 0) 35 then (s, []) else if nat_lt longest_line (length line) then fault_answer (with_command s) (Syntax (longest_line + 1)) else answer_to_read (with_command s) (command_of line)).0.commands ≤ s.commands + 1) [
+    elim (nat_eq (length line) 0) as (λ t. (if t then (s, []) else if nat_eq (slice_index line 0) 35 then (s, []) else if nat_lt longest_line (length line) then fault_answer (with_command s) (Syntax (longest_line + 1)) else answer_to_read (with_command s) (command_of (is_first s) line)).0.commands ≤ s.commands + 1) [
       | true ↦ omega arith
-      | false ↦ elim (nat_eq (slice_index line 0) 35) as (λ t. (if t then (s, []) else if nat_lt longest_line (length line) then fault_answer (with_command s) (Syntax (longest_line + 1)) else answer_to_read (with_command s) (command_of line)).0.commands ≤ s.commands + 1) [
+      | false ↦ elim (nat_eq (slice_index line 0) 35) as (λ t. (if t then (s, []) else if nat_lt longest_line (length line) then fault_answer (with_command s) (Syntax (longest_line + 1)) else answer_to_read (with_command s) (command_of (is_first s) line)).0.commands ≤ s.commands + 1) [
         | true ↦ omega arith
-        | false ↦ elim (nat_lt longest_line (length line)) as (λ t. (if t then fault_answer (with_command s) (Syntax (longest_line + 1)) else answer_to_read (with_command s) (command_of line)).0.commands ≤ s.commands + 1)
-            [ true ↦ omega arith | false ↦ read_count (with_command s) (command_of line) ]
+        | false ↦ elim (nat_lt longest_line (length line)) as (λ t. (if t then fault_answer (with_command s) (Syntax (longest_line + 1)) else answer_to_read (with_command s) (command_of (is_first s) line)).0.commands ≤ s.commands + 1)
+            [ true ↦ omega arith | false ↦ read_count (with_command s) (command_of (is_first s) line) ]
       ]
     ]

@@ -1,4 +1,5 @@
 pub mod Transcript
+pub mod Turns
 pub mod Progress
 pub mod NoReplies
 pub mod Run

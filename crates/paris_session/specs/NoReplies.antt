@@ -11,7 +11,7 @@ use Rattle.paris_session.specs.Transcript.{Sitting, with_book}
 
 -- a session with one command less
 abbrev pub without_command : Sitting → Sitting
-without_command s = record { state = s.state; tray = s.tray; commands = s.commands - 1; refusals = s.refusals }
+without_command s = record { state = s.state; begun = s.begun; tray = s.tray; commands = s.commands - 1; refusals = s.refusals }
 
 -- so many orders of a book were run, and at least so many rows more are settled: rows that were settled stand as they were, and with all
 -- rows settled it would be the same book

@@ -1,12 +1,13 @@
 -- What is answered to each line of a script, and what is written for a whole script.
-use Rattle.std.specs.Prelude.{ℕ, ◌+◌, ◌-◌, ◌==◌, nat_eq, List, [], ◌∷◌, ◌++◌, length, slice_index, slice_get, Option, Some, None, Result, Ok, Err, if◌then◌else◌, nat_lt}
+use Rattle.std.specs.Prelude.{ℕ, ◌+◌, ◌-◌, ◌==◌, ◌&&◌, not, Bool, true, false, nat_eq, List, [], ◌∷◌, ◌++◌, length, slice_index, slice_get, Option, Some, None, Result, Ok, Err, if◌then◌else◌, nat_lt}
 use Rattle.std.specs.List.{slice_split}
 use Rattle.paris_names.specs.declared.faults.Fault.{Fault}
 use Rattle.paris_names.specs.declared.faults.Fault.TheVariants.{Syntax, NoOrder}
 use Rattle.paris_names.specs.declared.ids.Spot.{Spot}
 use Rattle.paris_names.specs.declared.names.KeyName.{KeyName}
+use Rattle.paris_names.specs.declared.profiles.Profile.{Profile}
 use Rattle.paris_exec.specs.Tasks.{Task}
-use Rattle.paris_machine.specs.State.{State, empty_state}
+use Rattle.paris_machine.specs.State.{State, empty_state, empty_state_of}
 use Rattle.paris_machine.specs.Show.{show_reply}
 use Rattle.paris_machine.specs.Orders.{take_reply, after_take, after_release}
 use Rattle.paris_machine.specs.Results.{verdict_of, after_bring}
@@ -22,27 +23,33 @@ use Rattle.paris_text.specs.CommandReading.{command_of}
 use Rattle.paris_replies.specs.Replies.{ok_text, edit_text, order_text, nothing_text, verdict_text, values_text, pending_text, list_text, faults_text, settled_text, refusal_text}
 use Rattle.paris_names.specs.declared.limits.TheConstants.{MAX_LINE}
 
--- a session: the state of its book, the orders that it took, and how many commands it answered and refused
+-- a session: the state of its book, whether it was given another book than it began with, the orders that it took, and how many commands it
+-- answered and refused
 pub record Sitting : Type 0 where
   pub state : State
+  pub begun : Bool
   pub tray : List Task
   pub commands : ℕ
   pub refusals : ℕ
 
 abbrev pub start : Sitting
-start = record { state = empty_state 0; tray = []; commands = 0; refusals = 0 }
+start = record { state = empty_state 0; begun = false; tray = []; commands = 0; refusals = 0 }
 
 -- a session with one more command
 abbrev pub with_command : Sitting → Sitting
-with_command s = record { state = s.state; tray = s.tray; commands = s.commands + 1; refusals = s.refusals }
+with_command s = record { state = s.state; begun = s.begun; tray = s.tray; commands = s.commands + 1; refusals = s.refusals }
 
 -- a session with its book in this state and with this tray
 abbrev pub with_book : Sitting → State → List Task → Sitting
-with_book s state tray = record { state = state; tray = tray; commands = s.commands; refusals = s.refusals }
+with_book s state tray = record { state = state; begun = true; tray = tray; commands = s.commands; refusals = s.refusals }
+
+-- whether the next command is the first, by which a profile may be chosen
+abbrev pub is_first : Sitting → Bool
+is_first s = nat_eq s.commands 0 && not s.begun
 
 -- what is answered to a command once it is counted: the session after it, and its reply. One that is refused leaves book and tray
 abbrev pub fault_answer : Sitting → Fault → Sitting × List ℕ
-fault_answer s fault = (record { state = s.state; tray = s.tray; commands = s.commands; refusals = s.refusals + 1 }, refusal_text fault)
+fault_answer s fault = (record { state = s.state; begun = s.begun; tray = s.tray; commands = s.commands; refusals = s.refusals + 1 }, refusal_text fault)
 
 abbrev pub answer_to_edit_by : Sitting → Edit → Option Fault → Sitting × List ℕ
 answer_to_edit_by s e None = (with_book s (accepted s.state e) s.tray, edit_text (edit_answer s.state e))
@@ -96,6 +103,10 @@ answer_to_faults s = (s, faults_text (faults_of s.state))
 unfoldable pub answer_to_settle : Sitting → Sitting × List ℕ
 answer_to_settle s = (with_book s (all_settled s.state) s.tray, settled_text (due s.state))
 
+-- the profile is chosen, of a book that is empty
+unfoldable pub answer_to_paris : Sitting → Profile → Sitting × List ℕ
+answer_to_paris s profile = (with_book s (empty_state_of profile 0) s.tray, ok_text)
+
 -- the session after a command, and its reply
 abbrev pub answer_to_command : Sitting → Command → Sitting × List ℕ
 answer_to_command s (command.Edit e) = answer_to_edit s e
@@ -106,6 +117,7 @@ answer_to_command s (command.Show key spot) = answer_to_show s key spot
 answer_to_command s command.List = answer_to_list s
 answer_to_command s command.Faults = answer_to_faults s
 answer_to_command s command.Settle = answer_to_settle s
+answer_to_command s (command.Paris profile) = answer_to_paris s profile
 
 -- a line that is no command is refused, with the column from which it is none
 abbrev pub answer_to_read : Sitting → Result Command ℕ → Sitting × List ℕ
@@ -117,8 +129,8 @@ abbrev pub longest_line : ℕ
 longest_line = MAX_LINE
 
 -- the session after a line that is counted, and its reply: one that is too long is refused from its first byte past the longest line
-abbrev pub answer_to_counted : Sitting → List ℕ → Sitting × List ℕ
-answer_to_counted s line = if nat_lt longest_line (length line) then fault_answer s (Syntax (longest_line + 1)) else answer_to_read s (command_of line)
+abbrev pub answer_to_counted : Bool → Sitting → List ℕ → Sitting × List ℕ
+answer_to_counted first s line = if nat_lt longest_line (length line) then fault_answer s (Syntax (longest_line + 1)) else answer_to_read s (command_of first line)
 
 -- the session after a line, and what is written for it: an empty line and one that begins with `#` are skipped, and every other one is
 -- counted
@@ -126,7 +138,7 @@ unfoldable pub answer : Sitting → List ℕ → Sitting × List ℕ
 answer s line =
     if length line == 0 then (s, [])
     else if slice_index line 0 == 35 then (s, [])
-    else answer_to_counted (with_command s) line
+    else answer_to_counted (is_first s) (with_command s) line
 
 -- the session after some lines
 abbrev pub after_lines : Sitting → List (List ℕ) → Sitting

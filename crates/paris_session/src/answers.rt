@@ -8,7 +8,8 @@ ghost use Rattle.paris_machine.specs.Edits.{edit_fault, edit_answer, accepted};
 ghost use Rattle.paris_machine.specs.Lists.{list_of};
 ghost use Rattle.paris_machine.specs.Settling.{all_settled, due};
 ghost use Rattle.paris_machine.specs.Show.{show_reply};
-ghost use Rattle.paris_session.specs.Transcript.{longest_line, shown_text, start, with_book, with_command, fault_answer, answer_to_edit, answer_to_take, answer_to_bring, answer_to_release, answer_to_show, answer_to_list, answer_to_faults, answer_to_settle, order_at, answer_to_command, answer_to_read, answer_to_counted, answer};
+ghost use Rattle.paris_machine.specs.State.{empty_state_of};
+ghost use Rattle.paris_session.specs.Transcript.{longest_line, shown_text, start, with_book, with_command, fault_answer, answer_to_edit, answer_to_take, answer_to_bring, answer_to_release, answer_to_show, answer_to_list, answer_to_faults, answer_to_settle, answer_to_paris, is_first, order_at, answer_to_command, answer_to_read, answer_to_counted, answer};
 ghost use Rattle.paris_text.specs.declared.commands.Command.TheVariants as command;
 ghost use Rattle.paris_events.specs.declared.edits.Edit.TheVariants as edit;
 ghost use Rattle.paris_session.specs.Progress.{IsCounted};
@@ -19,7 +20,7 @@ use paris_book::{Book, Look, SettleFault};
 use paris_events::{Edit, EditReply, RowLook};
 use paris_exec::{Order, execute};
 use paris_names::limits::MAX_LINE;
-use paris_names::{Fault, Items, KeyName, Spot};
+use paris_names::{Fault, Items, KeyName, Profile, Spot};
 use paris_replies::Room;
 use paris_text::{Command, read_command};
 use std::alloc::{AllocError, Global};
@@ -77,10 +78,11 @@ fn look_text(alloc: Global, look: &Look<'_>) -> Result<Vec<u8>, AllocError>
 /// book's state, the tasks of the orders, and the counts of commands.
 #[derive(Drop)]
 pub struct Session {
-    book: Book,
-    tray: Vec<Order>,
-    commands: u64,
-    refusals: u64,
+    pub(crate) book: Book,
+    pub(crate) begun: bool,
+    pub(crate) tray: Vec<Order>,
+    pub(crate) commands: u64,
+    pub(crate) refusals: u64,
 }
 
 impl Model for Session {
@@ -89,25 +91,40 @@ impl Model for Session {
 
     ghost Value = { Sitting };
 
-    ghost view = { λ s. record { state = s.book; tray = s.tray.items; commands = s.commands; refusals = s.refusals } };
+    ghost view = { λ s. record { state = s.book; begun = s.begun; tray = s.tray.items; commands = s.commands; refusals = s.refusals } };
 
     ghost invariant = { λ s. (s.refusals ≤ s.commands) × (length s.tray.items ≤ s.commands) };
 }
 
 impl Session {
-    /// A session with an empty book and no orders.
+    /// A session with an empty book of profile 1 and no orders. Its first command may choose the profile.
     pub fn new(alloc: Global) -> Session
         ensures { result ≡ start }
     {
-        Session::of_book(alloc, Book::new(alloc))
+        Session::opened(alloc, Book::new(alloc), false)
     }
 
-    /// A session with this book and no orders.
+    /// A session with an empty book of a profile and no orders. No command of it chooses another.
+    pub fn with_profile(alloc: Global, profile: Profile) -> Session
+        ensures { result ≡ with_book start (empty_state_of profile 0) [] }
+    {
+        Session::of_book(alloc, Book::with_profile(alloc, profile))
+    }
+
+    /// A session with this book and no orders. No command of it chooses the profile.
     pub fn of_book(alloc: Global, book: Book) -> Session
         ensures { result ≡ with_book start book [] }
     {
+        Session::opened(alloc, book, true)
+    }
+
+    /// A session with this book and no orders, which has begun or not.
+    fn opened(alloc: Global, book: Book, begun: bool) -> Session
+        ensures { result ≡ record start { state = book; begun = begun } }
+    {
         Session {
             book,
+            begun,
             tray: Vec::new(alloc),
             commands: 0,
             refusals: 0,
@@ -125,7 +142,7 @@ impl Session {
         }
     }
 
-    fn alloc(&self) -> Global {
+    pub(crate) fn alloc(&self) -> Global {
         *self.tray.allocator()
     }
 
@@ -137,6 +154,13 @@ impl Session {
             Ok(room) => Ok(room),
             Err(_) => Err(NoReply::Unchanged),
         }
+    }
+
+    /// Whether the next command is the first, by which a profile may be chosen.
+    fn is_first(&self) -> bool
+        ensures { result ≡ is_first self.now }
+    {
+        self.commands == 0 && !self.begun
     }
 
     /// Counts a command.
@@ -172,7 +196,9 @@ impl Session {
             × (self.new ≡ with_book self.old (accepted self.old.state edit) self.old.tray)) }
         ensures err { IfErr result (λ fault. (self.new ≡ self.old) × IsFaultOf (edit_fault self.old.state edit) fault) }
     {
-        self.book.edit(edit)
+        let answer = self.book.edit(edit)?;
+        self.begun = true;
+        Ok(answer)
     }
 
     /// Gives a key numbers of one word each from a processor on: the edit of input data with these numbers, which no line says. It is no
@@ -183,7 +209,9 @@ impl Session {
         ensures err { IfErr result (λ fault. (self.new ≡ self.old)
             × IsFaultOf (edit_fault self.old.state (edit.Input key from words.now)) fault) }
     {
-        self.book.set_words(key, from, words)
+        self.book.set_words(key, from, words)?;
+        self.begun = true;
+        Ok(())
     }
 
     /// Settles the book, with no line that says so: it is no command, and leaves the counts. The answer is how many orders were run.
@@ -197,6 +225,7 @@ impl Session {
         ensures book { OnErr result (self.new ≡ with_book self.old self.new.state self.old.tray) }
         ensures fewer { IfErr result (λ fault. fault.ran < due self.old.state) }
     {
+        self.begun = true;
         settler.settle(&mut self.book)
     }
 
@@ -241,7 +270,9 @@ impl Session {
     {
         let room = Room::new(self.alloc())?;
         self.tray.reserve(1)?;
-        match self.book.take()? {
+        let taken = self.book.take()?;
+        self.begun = true;
+        match taken {
             None => Ok(room.nothing()),
             Some(order) => {
                 let number = self.tray.len() as u64 + 1;
@@ -274,7 +305,10 @@ impl Session {
         };
         let copy = order.copy()?;
         match execute(self.alloc(), copy) {
-            Ok(done) => Ok(room.verdict(self.book.bring(done))),
+            Ok(done) => {
+                self.begun = true;
+                Ok(room.verdict(self.book.bring(done)))
+            }
             Err((_, error)) => Err(error),
         }
     }
@@ -287,6 +321,19 @@ impl Session {
     {
         let room = Room::new(self.alloc())?;
         self.book.release();
+        self.begun = true;
+        Ok(room.ok())
+    }
+
+    /// Answers `paris`: the profile is chosen, of a book that is empty.
+    #[tactic(auto, unfolding(crate::specs::Transcript::answer_to_paris))]
+    fn answer_paris(&mut self, profile: Profile) -> Result<Vec<u8>, AllocError>
+        ensures ok { IfOk result (λ text. (self.new, text.items) ≡ answer_to_paris self.old profile) }
+        ensures err { OnErr result (self.new ≡ self.old) }
+    {
+        let room = Room::new(self.alloc())?;
+        self.book = Book::with_profile(self.alloc(), profile);
+        self.begun = true;
         Ok(room.ok())
     }
 
@@ -357,17 +404,23 @@ impl Session {
             Command::List => or_unchanged(self.answer_list()),
             Command::Faults => or_unchanged(self.answer_faults()),
             Command::Settle => self.answer_settle(settler),
+            Command::Paris(profile) => or_unchanged(self.answer_paris(profile)),
         }
     }
 
     /// Answers a line by the reply to its command, and one that is no command by the column from which it is none.
-    fn answer_line<S: Settler>(&mut self, settler: &S, line: &[u8]) -> Result<Vec<u8>, NoReply>
+    fn answer_line<S: Settler>(
+        &mut self,
+        settler: &S,
+        first: bool,
+        line: &[u8],
+    ) -> Result<Vec<u8>, NoReply>
         requires counted { IsCounted self.old }
         requires settler { S.can_settle settler.now }
-        ensures ok { IfOk result (λ text. (self.new, text.items) ≡ answer_to_read self.old (command_of line.now)) }
-        ensures err { IfErr result (λ cause. IsLeft cause self.old self.new (command_of line.now)) }
+        ensures ok { IfOk result (λ text. (self.new, text.items) ≡ answer_to_read self.old (command_of first line.now)) }
+        ensures err { IfErr result (λ cause. IsLeft cause self.old self.new (command_of first line.now)) }
     {
-        match read_command(self.alloc(), line) {
+        match read_command(self.alloc(), line, first) {
             Ok(command) => self.answer_command(settler, command),
             Err(fault) => {
                 if fault.is_no_memory() {
@@ -381,17 +434,22 @@ impl Session {
 
     /// Answers a line that is counted: one that is too long by its first column past the longest line, and every other one by the
     /// reply to its command.
-    fn answer_counted<S: Settler>(&mut self, settler: &S, line: &[u8]) -> Result<Vec<u8>, NoReply>
+    fn answer_counted<S: Settler>(
+        &mut self,
+        settler: &S,
+        first: bool,
+        line: &[u8],
+    ) -> Result<Vec<u8>, NoReply>
         requires counted { IsCounted self.old }
         requires settler { S.can_settle settler.now }
-        ensures ok { IfOk result (λ text. (self.new, text.items) ≡ answer_to_counted self.old line.now) }
-        ensures err { IfErr result (λ cause. IsLeft cause self.old self.new (command_of line.now)) }
+        ensures ok { IfOk result (λ text. (self.new, text.items) ≡ answer_to_counted first self.old line.now) }
+        ensures err { IfErr result (λ cause. IsLeft cause self.old self.new (command_of first line.now)) }
     {
         if is_overlong(line) {
             let room = self.room()?;
             return Ok(self.refuse(room, Fault::Syntax(MAX_LINE as u64 + 1)));
         }
-        self.answer_line(settler, line)
+        self.answer_line(settler, first, line)
     }
 
     /// Answers a line: an empty one and one that begins with `#` by nothing, one that is too long by its first column past the
@@ -401,13 +459,14 @@ impl Session {
         requires room { self.old.commands < 2 ^ 62 }
         requires settler { S.can_settle settler.now }
         ensures ok { IfOk result (λ text. (self.new, text.items) ≡ answer self.old line.now) }
-        ensures err { IfErr result (λ cause. IsLeft cause self.old self.new (command_of line.now)) }
+        ensures err { IfErr result (λ cause. IsLeft cause self.old self.new (command_of (is_first self.old) line.now)) }
     {
         if line.is_empty() || line[0] == b'#' {
             return Ok(Vec::new(self.alloc()));
         }
+        let first = self.is_first();
         self.count();
-        match self.answer_counted(settler, line) {
+        match self.answer_counted(settler, first, line) {
             Ok(text) => Ok(text),
             Err(cause) => {
                 self.uncount();

@@ -2,8 +2,10 @@
 #![tactic(auto)]
 
 mod answers;
+mod orders;
 mod run;
 mod settlers;
+mod turns;
 mod whole;
 
 pub use answers::{NoReply, Session, Summary};

@@ -2,8 +2,8 @@
 
 use paris_events::Edit;
 use paris_model::{Action, Conditional};
-use paris_names::{Fault, FlagName, RowId, Spot};
-use paris_text::{Command, read_command};
+use paris_names::{Fault, FlagName, Profile, RowId, Spot};
+use paris_text::{Command, Setting, read_command, read_command_in};
 
 #[test]
 fn each_command_is_read(rt: HostRuntime) {
@@ -28,14 +28,16 @@ fn each_command_is_read(rt: HostRuntime) {
         "faults",
         "settle",
     ] {
-        let read = read_command(rt.alloc(), line.as_bytes());
-        assert!(rt; read.is_ok(), "{line} is not read");
+        for first in [false, true] {
+            let read = read_command(rt.alloc(), line.as_bytes(), first);
+            assert!(rt; read.is_ok(), "{line} is not read");
+        }
     }
 }
 
 #[test]
 fn a_set_has_its_axes(rt: HostRuntime) {
-    let read = read_command(rt.alloc(), b"set S 8x4x2");
+    let read = read_command(rt.alloc(), b"set S 8x4x2", false);
     match &read {
         Ok(Command::Edit(Edit::AddSet { name, axes })) => {
             assert!(rt; name.as_bytes() == b"S".as_slice());
@@ -47,7 +49,7 @@ fn a_set_has_its_axes(rt: HostRuntime) {
 
 #[test]
 fn an_input_has_its_values(rt: HostRuntime) {
-    let read = read_command(rt.alloc(), b"input S.carry 2 1 0 1");
+    let read = read_command(rt.alloc(), b"input S.carry 2 1 0 1", false);
     match &read {
         Ok(Command::Edit(Edit::Input { key, from, values })) => {
             assert!(rt; key.name.as_bytes() == b"S".as_slice());
@@ -61,7 +63,7 @@ fn an_input_has_its_values(rt: HostRuntime) {
 
 #[test]
 fn an_insertion_has_its_place(rt: HostRuntime) {
-    let read = read_command(rt.alloc(), b"insert after 7 set-test S");
+    let read = read_command(rt.alloc(), b"insert after 7 set-test S", false);
     match &read {
         Ok(
             Command::Edit(
@@ -86,7 +88,9 @@ fn wrong_lines_have_the_column_of_the_first_wrong_word(rt: HostRuntime) {
         ("show a", 7),
         ("show  a end", 6),
         ("field a S", 10),
+        ("paris", 1),
         ("paris 2", 1),
+        ("paris 3", 1),
         ("session", 1),
         ("SET S 4", 1),
         ("take ", 6),
@@ -115,10 +119,61 @@ fn wrong_lines_have_the_column_of_the_first_wrong_word(rt: HostRuntime) {
         ("show S.carry after end", 20),
         ("show a at", 8),
     ] {
-        let found = match read_command(rt.alloc(), line.as_bytes()) {
-            Err(Fault::Syntax(found)) => found,
-            _ => 0,
-        };
-        assert_eq!(rt; found, column, "of {line}");
+        let read = read_command(rt.alloc(), line.as_bytes(), false);
+        assert_eq!(rt; column_of(read), column, "of {line}");
+    }
+}
+
+/// The column of a wrong line, and 0 for a command.
+fn column_of(read: Result<Command, Fault>) -> u64 {
+    match read {
+        Err(Fault::Syntax(column)) => column,
+        _ => 0,
+    }
+}
+
+#[test]
+fn the_first_command_may_choose_the_profile(rt: HostRuntime) {
+    for (line, chosen) in [("paris 1", Profile::One), ("paris 2", Profile::Two)] {
+        let read = read_command(rt.alloc(), line.as_bytes(), true);
+        match &read {
+            Ok(Command::Paris(profile)) => assert!(rt; *profile == chosen, "of {line}"),
+            _other => assert!(rt; false, "{line} is not read"),
+        }
+    }
+}
+
+#[test]
+fn a_wrong_choice_of_the_profile_has_the_column_of_its_wrong_word(rt: HostRuntime) {
+    for (line, column) in [
+        ("paris", 6),
+        ("paris ", 7),
+        ("paris 0", 7),
+        ("paris 3", 7),
+        ("paris 02", 7),
+        ("paris two", 7),
+        ("paris 2 ", 9),
+        ("paris 2 x", 9),
+        ("Paris 2", 1),
+        (" paris 2", 1),
+    ] {
+        let read = read_command(rt.alloc(), line.as_bytes(), true);
+        assert_eq!(rt; column_of(read), column, "of {line}");
+    }
+}
+
+#[test]
+fn where_a_line_stands_says_which_first_words_it_may_have(rt: HostRuntime) {
+    for is_shared in [false, true] {
+        for is_first in [false, true] {
+            let setting = Setting {
+                is_shared,
+                is_first,
+            };
+            let settle = column_of(read_command_in(rt.alloc(), setting, b"settle"));
+            assert_eq!(rt; settle, u64::from(is_shared));
+            let paris = column_of(read_command_in(rt.alloc(), setting, b"paris 2"));
+            assert_eq!(rt; paris, u64::from(!is_first));
+        }
     }
 }

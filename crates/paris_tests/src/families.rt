@@ -10,6 +10,7 @@ use paris_instr::Plan;
 use paris_model::Refusal;
 use paris_model::Refusal::{BadAddress, Collision};
 use paris_names::FlagName::{Carry, Context, Overflow, Test};
+use paris_names::limits::MAX_WIDTH_OF_ONE;
 use paris_names::{Items, SetNo};
 use paris_plain::*;
 use std::alloc::{AllocError, Global};
@@ -92,6 +93,7 @@ fn gives_where(rt: &impl Abort, alloc: Global, width: u64, case: &Case) {
     let plan = plan_on(rt, alloc, &board(rt, alloc, width), case.instr);
     let inputs = seen(rt, alloc, &plan, case);
     let action = plan.action();
+    assert!(rt; plan.is_within(MAX_WIDTH_OF_ONE));
     let writes = keys(rt, alloc, case.writes);
     let given = outcome(alloc, &inputs, &action, writes.as_slice())
         .ok()

@@ -1,5 +1,5 @@
 -- Commands and their words: reading a line, and reading back what is spelled.
-use Rattle.std.proofs.Common.{◌≡◌, ℕ, ◌+◌, List, [], ◌∷◌, length, Option, None, Some, Result, Ok, Err, true, refl, sym, ◌∙◌, ap, subst, arith, append-nil, codes, MatchResult}
+use Rattle.std.proofs.Common.{◌≡◌, ℕ, ◌+◌, List, [], ◌∷◌, length, Option, None, Some, Result, Ok, Err, true, false, refl, sym, ◌∙◌, ap, subst, arith, append-nil, codes, MatchResult}
 use Rattle.std.specs.List.{join_with_byte, list_all}
 use Rattle.std.proofs.lemmas.List.Splits.{join_with_byte-slice_split}
 use Rattle.std.proofs.lemmas.Result.{MatchResult-at_ok, MatchResult-at_err}
@@ -7,7 +7,6 @@ use Rattle.paris_events.specs.declared.edits.Edit.TheVariants as edit
 use Rattle.paris_text.specs.declared.verbs.Verb.{Verb}
 use Rattle.paris_text.specs.declared.verbs.Verb.TheVariants as verb
 use Rattle.paris_text.specs.declared.verbs.Setting.{Setting}
-use Rattle.paris_text.specs.declared.verbs.Setting.TheVariants.{OwnBook}
 use Rattle.paris_text.specs.declared.commands.Command.{Command}
 use Rattle.paris_text.specs.declared.commands.Command.TheVariants as command
 use Rattle.paris_text.specs.Words.{words}
@@ -48,6 +47,7 @@ fits_from verb.Show xs fit = (fit.0, fit.1.0)
 fits_from verb.List xs fit = tt
 fits_from verb.Faults xs fit = tt
 fits_from verb.Settle xs fit = tt
+fits_from verb.Paris xs fit = tt
 
 verb_from : (v : Verb) (xs : ShapeMeaning (shape_of v)) → verb_of (command_from v xs) ≡ v
 verb_from verb.Set xs = refl
@@ -74,6 +74,7 @@ made_of (command.Show key spot) fit = record { first = verb.Show; means = (key, 
 made_of command.List fit = record { first = verb.List; means = tt; whole = refl; fits = tt }
 made_of command.Faults fit = record { first = verb.Faults; means = tt; whole = refl; fits = tt }
 made_of command.Settle fit = record { first = verb.Settle; means = tt; whole = refl; fits = tt }
+made_of (command.Paris profile) fit = record { first = verb.Paris; means = (profile, tt); whole = refl; fits = (tt, tt) }
 
 -- what these words read as
 record IsReadAs (s : Setting) (ws : List (List ℕ)) (c : Command) : Type 0 where
@@ -169,13 +170,18 @@ columns_of_commands s line column = (there, λ leaves. back leaves (command_in s
         let other = MatchResult-at_err (IsReadAs s (words line)) (λ k. IsColumn (IsCommandLine s) (words line) k) e stops (line_answers s line) in
         stops ∙ ap Err (column_is_unique (IsCommandLine s) (words line) e column other leaves)
 
-own_book_allows : (v : Verb) → allows OwnBook v ≡ true
-own_book_allows v = refl
+-- the first command of a script, in which any verb may stand
+abbrev in_first : Setting
+in_first = record { is_shared = false; is_first = true }
+
+in_first_allows : (v : Verb) → allows in_first v ≡ true
+in_first_allows verb.Set = refl
+in_first_allows _ = refl
 
 pub command_spellings_differ : CommandSpellingsDiffer
 command_spellings_differ b c fit fit' same =
-    let read : command_in OwnBook (command_spelling b) ≡ Ok b = read_back OwnBook (command_spelling b) b (own_book_allows (verb_of b), fit) refl in
-    let read' : command_in OwnBook (command_spelling b) ≡ Ok c = read_back OwnBook (command_spelling b) c (own_book_allows (verb_of c), fit') same in
+    let read : command_in in_first (command_spelling b) ≡ Ok b = read_back in_first (command_spelling b) b (in_first_allows (verb_of b), fit) refl in
+    let read' : command_in in_first (command_spelling b) ≡ Ok c = read_back in_first (command_spelling b) c (in_first_allows (verb_of c), fit') same in
     cc
 
 pub lines_are_commands : LinesAreCommands

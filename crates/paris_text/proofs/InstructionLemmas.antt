@@ -19,7 +19,7 @@ use Rattle.paris_text.specs.Words.{words}
 use Rattle.paris_text.specs.Mnemonics.{text, mnemonic_word}
 use Rattle.paris_text.specs.Kinds.{spelled, Fits, Operand}
 use Rattle.paris_text.specs.Columns.{expects, AreOfKinds, IsInstructionLine, width, IsColumn}
-use Rattle.paris_text.specs.Spelling.{Instruction, Parts, parts, words_of, operand_words, spelling, IsInBounds}
+use Rattle.paris_text.specs.Spelling.{Instruction, Parts, instruction_parts, words_of, operand_words, spelling, IsInBounds}
 use Rattle.paris_text.specs.Reading.{place, Gives, ◌>>=◌, read_word, mnemonic_at, Meanings, all_at, instr_of, operands_at, instr_at}
 use Rattle.paris_text.proofs.JoinLemmas.{split_joined}
 use Rattle.paris_text.proofs.MnemonicLemmas.{is_spaceless, text_found, found_text, text_spaceless}
@@ -28,16 +28,16 @@ use Rattle.paris_text.proofs.StepLemmas.{GoesOn, goes_on, goes_behind, column_be
 use Rattle.paris_text.proofs.PlaceLemmas.{place_start}
 
 -- the parts of the instruction that is made of some meanings
-parts_made : (m : Mnemonic) (xs : Meanings (expects m)) → parts (instr_of m xs) ≡ (m, operands (expects m) xs)
+parts_made : (m : Mnemonic) (xs : Meanings (expects m)) → instruction_parts (instr_of m xs) ≡ (m, operands (expects m) xs)
 parts_made (Flag SetTest) xs = refl
 parts_made (News news.Get) xs = refl
 parts_made _ xs = refl
 
 -- the meanings that an instruction is made of
 record Made (i : Instruction) : Type 0 where
-  means : Meanings (expects (parts i).0)
-  whole : instr_of (parts i).0 means ≡ i
-  same : operands (expects (parts i).0) means ≡ (parts i).1
+  means : Meanings (expects (instruction_parts i).0)
+  whole : instr_of (instruction_parts i).0 means ≡ i
+  same : operands (expects (instruction_parts i).0) means ≡ (instruction_parts i).1
 
 made : (i : Instruction) → Made i
 made (OnSelected (conditional.Binary o a b c d)) = record { means = (a, (b, (c, (d, tt)))); whole = refl; same = refl }
@@ -148,33 +148,33 @@ words_back m xs fit c = rw (text_found m, all_back (expects m) xs fit (c + lengt
 
 -- an instruction's words are the words of its meanings, and these fit
 abbrev MadeWords : Instruction → Type 0
-MadeWords i = (xs : Meanings (expects (parts i).0)) × (instr_of (parts i).0 xs ≡ i) × (words_of i ≡ text (parts i).0 ∷ texts (expects (parts i).0) xs) × MeaningsFit (expects (parts i).0) xs
+MadeWords i = (xs : Meanings (expects (instruction_parts i).0)) × (instr_of (instruction_parts i).0 xs ≡ i) × (words_of i ≡ text (instruction_parts i).0 ∷ texts (expects (instruction_parts i).0) xs) × MeaningsFit (expects (instruction_parts i).0) xs
 
 made_words : (i : Instruction) → IsInBounds i → MadeWords i
 made_words i fit =
-    let ks = expects (parts i).0 in
+    let ks = expects (instruction_parts i).0 in
     let xs = (made i).means in
-    let same : operands ks xs ≡ (parts i).1 = (made i).same in
+    let same : operands ks xs ≡ (instruction_parts i).1 = (made i).same in
     let all : AllByRecursion (λ (o : Operand). Fits o.0 o.1) (operands ks xs) = subst (AllByRecursion (λ (o : Operand). Fits o.0 o.1)) (sym same) fit in
-    let spelt : words_of i ≡ text (parts i).0 ∷ texts ks xs =
-    ap (λ (os : List Operand). text (parts i).0 ∷ map (λ (o : Operand). spelled o.0 o.1) os) (sym same) ∙ ap (λ (ws : List (List ℕ)). text (parts i).0 ∷ ws) (operands_spelled ks xs) in
+    let spelt : words_of i ≡ text (instruction_parts i).0 ∷ texts ks xs =
+    ap (λ (os : List Operand). text (instruction_parts i).0 ∷ map (λ (o : Operand). spelled o.0 o.1) os) (sym same) ∙ ap (λ (ws : List (List ℕ)). text (instruction_parts i).0 ∷ ws) (operands_spelled ks xs) in
     (xs, (made i).whole, spelt, fit_operands ks xs all)
 
 pub instr_back : (i : Instruction) → IsInBounds i → (c : ℕ) → instr_at (c, words_of i) ≡ Ok i
 instr_back i fit c =
     let h = made_words i fit in
-    subst (λ (ws : List (List ℕ)). instr_at (c, ws) ≡ Ok i) (sym h.2) (words_back (parts i).0 h.0 h.3 c ∙ ap Ok h.1)
+    subst (λ (ws : List (List ℕ)). instr_at (c, ws) ≡ Ok i) (sym h.2) (words_back (instruction_parts i).0 h.0 h.3 c ∙ ap Ok h.1)
 
 pub instr_spaceless : (i : Instruction) → IsInBounds i → list_all is_spaceless (words_of i) ≡ true
 instr_spaceless i fit =
     let h = made_words i fit in
-    let m = (parts i).0 in
+    let m = (instruction_parts i).0 in
     let plain : list_all is_spaceless (text m ∷ texts (expects m) h.0) ≡ true = rw (text_spaceless m, texts_spaceless (expects m) h.0 h.3) refl in
     subst (λ (ws : List (List ℕ)). list_all is_spaceless ws ≡ true) (sym h.2) plain
 
 pub words_spelled : (i : Instruction) → IsInBounds i → words (spelling i) ≡ words_of i
 unfolding spelling
-words_spelled i fit = split_joined 32 (text (parts i).0) (operand_words (parts i).1) (instr_spaceless i fit)
+words_spelled i fit = split_joined 32 (text (instruction_parts i).0) (operand_words (instruction_parts i).1) (instr_spaceless i fit)
 
 -- what a reader of the code gave of a line, in the words of the line
 pub gave_spelled : (r : Result Instruction Syntax) (line : List ℕ) → Gives (λ (x : Instruction). x) r (instr_at (place line 0)) → IfOk r (λ i. line ≡ spelling i)

@@ -15,15 +15,17 @@ use Rattle.std.proofs.lemmas.Slice.Eq.{bytes_eq-Decides}
 use Rattle.std.proofs.Math.ListN.{get_or-append}
 use Rattle.paris_names.specs.Names.{is_name, is_name_byte}
 use Rattle.paris_names.specs.declared.names.KeyName.{KeyName}
+use Rattle.paris_names.specs.declared.profiles.Profile.{Profile}
+use Rattle.paris_names.specs.declared.profiles.Profile.TheVariants.{One as ProfileOne, Two as ProfileTwo}
 use Rattle.paris_names.specs.declared.keys.FlagName.{FlagName}
 use Rattle.paris_names.specs.declared.keys.FlagName.TheVariants.{Context, Test, Carry, Overflow}
 use Rattle.paris_geometry.specs.declared.direction.Direction.{Direction}
 use Rattle.paris_geometry.specs.declared.direction.Direction.TheVariants.{Upward, Downward}
 use Rattle.paris_model.specs.declared.operators.Inclusion.{Inclusion}
 use Rattle.paris_model.specs.declared.operators.Inclusion.TheVariants.{Inclusive, Exclusive}
-use Rattle.paris_text.specs.Words.{is_digit, is_number, value_from, number_below, name_word, number_word, flag_word, dot_place, plain_key, flag_key, key_word, with_first, numbers_of_words, axes_word}
+use Rattle.paris_text.specs.Words.{is_digit, is_number, value_from, number_below, name_word, number_word, flag_word, dot_place, plain_key, flag_key, key_word, with_first, numbers_of_words, axes_word, profile_word}
 use Rattle.paris_text.specs.Kinds.{Kind, Meaning, meaning, spelled, Fits, direction_word, inclusion_word, option_word, flag_name_text, dotted, key_text, axes_text}
-use Rattle.paris_text.specs.Kinds.Kind.{NameWord, NumberWord, ValueWord, DirectionWord, InclusionWord, OptionWord, KeyWord, AxesWord}
+use Rattle.paris_text.specs.Kinds.Kind.{NameWord, NumberWord, ValueWord, DirectionWord, InclusionWord, OptionWord, KeyWord, AxesWord, ProfileWord}
 use Rattle.paris_text.proofs.NumberLemmas.{spelled_back}
 use Rattle.paris_text.proofs.JoinLemmas.{is_without, and_parts, split_joined, joined_without}
 use Rattle.paris_text.proofs.MnemonicLemmas.{is_spaceless}
@@ -66,6 +68,11 @@ inclusion_spells : (w : List ℕ) → SpellsIt InclusionWord w (inclusion_word w
 inclusion_spells w =
     let P : Option Inclusion → Type 0 = λ o. SpellsIt InclusionWord w o in
     chosen w (codes "inclusive") Inclusive _ P (λ e. (sym e, tt)) (chosen w (codes "exclusive") Exclusive None P (λ e. (sym e, tt)) tt)
+
+profile_spells : (w : List ℕ) → SpellsIt ProfileWord w (profile_word w)
+profile_spells w =
+    let P : Option Profile → Type 0 = λ o. SpellsIt ProfileWord w o in
+    chosen w (codes "1") ProfileOne _ P (λ e. (sym e, tt)) (chosen w (codes "2") ProfileTwo None P (λ e. (sym e, tt)) tt)
 
 option_spells : (w : List ℕ) → SpellsIt OptionWord w (option_word w)
 option_spells w =
@@ -151,6 +158,7 @@ meaning_spells InclusionWord w = inclusion_spells w
 meaning_spells OptionWord w = option_spells w
 meaning_spells KeyWord w = key_spells w
 meaning_spells AxesWord w = axes_spells w
+meaning_spells ProfileWord w = profile_spells w
 
 -- the text of a number
 record IsText (n : ℕ) (ds : List ℕ) : Type 0 where
@@ -300,6 +308,8 @@ meaning_back InclusionWord Inclusive h = refl
 meaning_back InclusionWord Exclusive h = refl
 meaning_back KeyWord key h = key_back key h
 meaning_back AxesWord ns h = axes_back ns h
+meaning_back ProfileWord ProfileOne h = refl
+meaning_back ProfileWord ProfileTwo h = refl
 meaning_back OptionWord None h = refl
 meaning_back OptionWord (Some n) h = rw (name_is_not_none n h, h) refl
 
@@ -327,6 +337,8 @@ spelled_spaceless InclusionWord Inclusive h = refl
 spelled_spaceless InclusionWord Exclusive h = refl
 spelled_spaceless KeyWord key h = key_spaceless key h
 spelled_spaceless AxesWord ns h = axes_spaceless ns h
+spelled_spaceless ProfileWord ProfileOne h = refl
+spelled_spaceless ProfileWord ProfileTwo h = refl
 spelled_spaceless OptionWord None h = refl
 spelled_spaceless OptionWord (Some n) h = name_spaceless n h
 
@@ -341,3 +353,4 @@ sample InclusionWord = (codes "inclusive", refl)
 sample OptionWord = (codes "none", refl)
 sample KeyWord = (97 ∷ [], refl)
 sample AxesWord = (49 ∷ [], refl)
+sample ProfileWord = (49 ∷ [], refl)

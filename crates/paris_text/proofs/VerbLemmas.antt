@@ -6,7 +6,6 @@ use Rattle.std.proofs.lemmas.Slice.Eq.{bytes_eq-Decides}
 use Rattle.paris_text.specs.declared.verbs.Verb.{Verb}
 use Rattle.paris_text.specs.declared.verbs.Verb.TheVariants.{Set, Take}
 use Rattle.paris_text.specs.declared.verbs.Setting.{Setting}
-use Rattle.paris_text.specs.declared.verbs.Setting.TheVariants.{OwnBook, SharedBook}
 use Rattle.paris_text.specs.declared.verbs.TheConstants.{VERBS}
 use Rattle.paris_text.specs.Verbs.{verb_text, verb_word, verb_in, allows, if_allowed}
 use Rattle.paris_text.proofs.MnemonicLemmas.{is_spaceless, find_passes, find_has}
@@ -53,5 +52,4 @@ found_verb_in s w v h =
 
 -- one verb may stand anywhere
 pub take_is_allowed : (s : Setting) → allows s Take ≡ true
-take_is_allowed OwnBook = refl
-take_is_allowed SharedBook = refl
+take_is_allowed s = refl

@@ -1,5 +1,5 @@
 -- Reading a command from the left: the command, or the column of the first word that does not fit.
-use Rattle.std.specs.Prelude.{◌≡◌, ℕ, ◌+◌, List, [], ◌∷◌, length, Result, Ok, Err, codes, if◌then◌else◌}
+use Rattle.std.specs.Prelude.{◌≡◌, ℕ, ◌+◌, List, [], ◌∷◌, length, Bool, false, Result, Ok, Err, codes, if◌then◌else◌}
 use Rattle.std.specs.Str.{bytes_eq}
 use Rattle.paris_names.specs.declared.faults.Fault.{Fault}
 use Rattle.paris_names.specs.declared.faults.Fault.TheVariants.{NoMemory, Syntax}
@@ -9,7 +9,6 @@ use Rattle.paris_events.specs.declared.edits.Edit.TheVariants as edit
 use Rattle.paris_text.specs.declared.verbs.Verb.{Verb}
 use Rattle.paris_text.specs.declared.verbs.Verb.TheVariants as verb
 use Rattle.paris_text.specs.declared.verbs.Setting.{Setting}
-use Rattle.paris_text.specs.declared.verbs.Setting.TheVariants.{OwnBook}
 use Rattle.paris_text.specs.declared.commands.Command.{Command}
 use Rattle.paris_text.specs.declared.commands.Command.TheVariants as command
 use Rattle.paris_text.specs.Words.{words}
@@ -80,6 +79,7 @@ command_from verb.Show (key, (spot, end)) = command.Show key spot
 command_from verb.List end = command.List
 command_from verb.Faults end = command.Faults
 command_from verb.Settle end = command.Settle
+command_from verb.Paris (profile, end) = command.Paris profile
 
 unfoldable pub rest_at : Verb → Place → Result Command ℕ
 rest_at v p = shape_at (shape_of v) p >>= λ xs. Ok (command_from v xs)
@@ -91,9 +91,9 @@ command_at s p = verb_at s p >>= λ first. rest_at first.0 first.1
 unfoldable pub command_in : Setting → List ℕ → Result Command ℕ
 command_in s line = command_at s (1, words line)
 
--- the same of a line of a script, whose book is its own
-abbrev pub command_of : List ℕ → Result Command ℕ
-command_of line = command_in OwnBook line
+-- the same of a line of a script, whose book is its own, and of which the line may be the first command
+abbrev pub command_of : Bool → List ℕ → Result Command ℕ
+command_of first line = command_in (record { is_shared = false; is_first = first }) line
 
 -- the fault that is due: the column where reading stops; want of memory where nothing stops it
 abbrev pub IsRefusal : {X : Type 0} → Result X ℕ → Fault → Type 0

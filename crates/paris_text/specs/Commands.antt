@@ -10,7 +10,7 @@ use Rattle.paris_text.specs.declared.verbs.Setting.{Setting}
 use Rattle.paris_text.specs.Verbs.{allows}
 use Rattle.paris_text.specs.declared.commands.Command.{Command}
 use Rattle.paris_text.specs.declared.commands.Command.TheVariants as command
-use Rattle.paris_text.specs.Kinds.{key_text, axes_text, Fits}
+use Rattle.paris_text.specs.Kinds.{key_text, axes_text, profile_text, Fits}
 use Rattle.paris_text.specs.Kinds.Kind.{NameWord, NumberWord, ValueWord, KeyWord, AxesWord}
 use Rattle.paris_text.specs.Spelling.{words_of, IsInBounds}
 use Rattle.paris_text.specs.Shapes.{spot_words, SpotFits}
@@ -34,6 +34,7 @@ command_words (command.Show key spot) = codes "show" ∷ key_text key ∷ spot_w
 command_words command.List = codes "list" ∷ []
 command_words command.Faults = codes "faults" ∷ []
 command_words command.Settle = codes "settle" ∷ []
+command_words (command.Paris profile) = codes "paris" ∷ profile_text profile ∷ []
 
 -- the words with one space between each two
 unfoldable pub command_spelling : Command → List ℕ
@@ -58,6 +59,7 @@ IsCommandInBounds command.Release = Unit {0}
 IsCommandInBounds command.List = Unit {0}
 IsCommandInBounds command.Faults = Unit {0}
 IsCommandInBounds command.Settle = Unit {0}
+IsCommandInBounds (command.Paris profile) = Unit {0}
 
 -- the verb of an edit and of a command
 abbrev pub edit_verb : Edit → Verb
@@ -77,6 +79,7 @@ verb_of (command.Show key spot) = verb.Show
 verb_of command.List = verb.List
 verb_of command.Faults = verb.Faults
 verb_of command.Settle = verb.Settle
+verb_of (command.Paris profile) = verb.Paris
 
 -- a command that may stand there, with names and numbers within their bounds
 abbrev pub MayStand : Setting → Command → Type 0

@@ -5,13 +5,15 @@ use Rattle.std.specs.Fmt.{decimal}
 use Rattle.std.specs.List.{join_with_byte, AllByRecursion}
 use Rattle.paris_names.specs.Names.{is_name}
 use Rattle.paris_names.specs.declared.names.KeyName.{KeyName}
+use Rattle.paris_names.specs.declared.profiles.Profile.{Profile}
+use Rattle.paris_names.specs.declared.profiles.Profile.TheVariants.{One as ProfileOne, Two as ProfileTwo}
 use Rattle.paris_names.specs.declared.keys.FlagName.{FlagName}
 use Rattle.paris_names.specs.declared.keys.FlagName.TheVariants.{Context, Test, Carry, Overflow}
 use Rattle.paris_geometry.specs.declared.direction.Direction.{Direction}
 use Rattle.paris_geometry.specs.declared.direction.Direction.TheVariants.{Upward, Downward}
 use Rattle.paris_model.specs.declared.operators.Inclusion.{Inclusion}
 use Rattle.paris_model.specs.declared.operators.Inclusion.TheVariants.{Inclusive, Exclusive}
-use Rattle.paris_text.specs.Words.{name_word, number_word, value_word, key_word, axes_word}
+use Rattle.paris_text.specs.Words.{name_word, number_word, value_word, key_word, axes_word, profile_word}
 
 pub data Kind : Type 0 where
   -- a name
@@ -30,6 +32,8 @@ pub data Kind : Type 0 where
   KeyWord : Kind
   -- the lengths of axes, one or more
   AxesWord : Kind
+  -- the number of a profile
+  ProfileWord : Kind
 
 -- what words of a kind stand for
 abbrev pub Meaning : Kind → Type 0
@@ -41,6 +45,7 @@ Meaning InclusionWord = Inclusion
 Meaning OptionWord = Option (List ℕ)
 Meaning KeyWord = KeyName
 Meaning AxesWord = List ℕ
+Meaning ProfileWord = Profile
 
 abbrev pub direction_text : Direction → List ℕ
 direction_text Upward = codes "upward"
@@ -72,6 +77,10 @@ key_text key = key.name ++ dotted key.flag
 abbrev pub axes_text : List ℕ → List ℕ
 axes_text axes = join_with_byte 120 (map decimal axes)
 
+abbrev pub profile_text : Profile → List ℕ
+profile_text ProfileOne = codes "1"
+profile_text ProfileTwo = codes "2"
+
 -- how it is spelled
 abbrev pub spelled : (k : Kind) → Meaning k → List ℕ
 spelled NameWord name = name
@@ -82,6 +91,7 @@ spelled InclusionWord inclusion = inclusion_text inclusion
 spelled OptionWord option = option_text option
 spelled KeyWord key = key_text key
 spelled AxesWord axes = axes_text axes
+spelled ProfileWord profile = profile_text profile
 
 abbrev pub IsOptionalName : Option (List ℕ) → Type 0
 IsOptionalName None = Unit {0}
@@ -97,6 +107,7 @@ Fits InclusionWord inclusion = Unit {0}
 Fits OptionWord option = IsOptionalName option
 Fits KeyWord key = is_name key.name ≡ true
 Fits AxesWord axes = (axes ≢ []) × AllByRecursion (λ n. n < 2 ^ 64) axes
+Fits ProfileWord profile = Unit {0}
 
 abbrev pub direction_word : List ℕ → Option Direction
 direction_word w = if bytes_eq w (codes "upward") then Some Upward else if bytes_eq w (codes "downward") then Some Downward else None
@@ -117,6 +128,7 @@ meaning InclusionWord w = inclusion_word w
 meaning OptionWord w = option_word w
 meaning KeyWord w = key_word w
 meaning AxesWord w = axes_word w
+meaning ProfileWord w = profile_word w
 
 -- an operand of an instruction, with its kind
 abbrev pub Operand : Type 0

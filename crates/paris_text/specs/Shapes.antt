@@ -9,7 +9,7 @@ use Rattle.paris_text.specs.declared.verbs.Verb.TheVariants as verb
 use Rattle.paris_text.specs.declared.verbs.Setting.{Setting}
 use Rattle.paris_text.specs.Verbs.{verb_text, allows}
 use Rattle.paris_text.specs.Kinds.{Kind, meaning}
-use Rattle.paris_text.specs.Kinds.Kind.{NameWord, NumberWord, ValueWord, KeyWord, AxesWord}
+use Rattle.paris_text.specs.Kinds.Kind.{NameWord, NumberWord, ValueWord, KeyWord, AxesWord, ProfileWord}
 use Rattle.paris_text.specs.Columns.{IsInstructionLine, Grammar}
 
 -- what some words have to be, from the left
@@ -40,6 +40,7 @@ shape_of verb.Show = One KeyWord (AtSpot Done)
 shape_of verb.List = Done
 shape_of verb.Faults = Done
 shape_of verb.Settle = Done
+shape_of verb.Paris = One ProfileWord Done
 
 -- the words of a place of the program
 abbrev pub spot_words : Spot → List (List ℕ)

@@ -70,19 +70,19 @@ mail_parts (mail.Send to addresses from length notify) = (Send, name to ∷ name
 mail_parts (mail.CombiningSend combiner to addresses from length notify) =
     (CombiningSend combiner, name to ∷ name addresses ∷ name from ∷ number length ∷ optional notify ∷ [])
 
-abbrev pub parts : Instruction → Parts
-parts (OnSelected action) = conditional_parts action
-parts (OnAll action) = unconditional_parts action
-parts (ByNews action) = news_parts action
-parts (AlongLine action) = line_parts action
-parts (ByMail action) = mail_parts action
+abbrev pub instruction_parts : Instruction → Parts
+instruction_parts (OnSelected action) = conditional_parts action
+instruction_parts (OnAll action) = unconditional_parts action
+instruction_parts (ByNews action) = news_parts action
+instruction_parts (AlongLine action) = line_parts action
+instruction_parts (ByMail action) = mail_parts action
 
 abbrev pub operand_words : List Operand → List (List ℕ)
 operand_words os = map (λ o. spelled o.0 o.1) os
 
 -- the words of an instruction
 abbrev pub words_of : Instruction → List (List ℕ)
-words_of i = text (parts i).0 ∷ operand_words (parts i).1
+words_of i = text (instruction_parts i).0 ∷ operand_words (instruction_parts i).1
 
 -- the words with one space between each two
 unfoldable pub spelling : Instruction → List ℕ
@@ -93,4 +93,4 @@ OperandsFit os = AllByRecursion (λ o. Fits o.0 o.1) os
 
 -- the names are names, and the numbers are below the bounds of their kinds
 abbrev pub IsInBounds : Instruction → Type 0
-IsInBounds i = OperandsFit (parts i).1
+IsInBounds i = OperandsFit (instruction_parts i).1

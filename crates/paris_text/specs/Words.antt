@@ -4,6 +4,8 @@ use Rattle.std.specs.List.{slice_split, list_all, position_or_len}
 use Rattle.std.specs.Str.{bytes_eq}
 use Rattle.paris_names.specs.Names.{is_name}
 use Rattle.paris_names.specs.declared.names.KeyName.{KeyName}
+use Rattle.paris_names.specs.declared.profiles.Profile.{Profile}
+use Rattle.paris_names.specs.declared.profiles.Profile.TheVariants.{One as ProfileOne, Two as ProfileTwo}
 use Rattle.paris_names.specs.declared.keys.FlagName.{FlagName}
 use Rattle.paris_names.specs.declared.keys.FlagName.TheVariants.{Context, Test, Carry, Overflow}
 
@@ -58,6 +60,13 @@ abbrev pub flag_key : Option (List ℕ) → Option FlagName → Option KeyName
 flag_key None flag = None
 flag_key (Some name) None = None
 flag_key (Some name) (Some flag) = Some (record { name = name; flag = Some flag })
+
+-- a profile, by its number
+abbrev pub profile_word : List ℕ → Option Profile
+profile_word w =
+    if bytes_eq w (codes "1") then Some ProfileOne
+    else if bytes_eq w (codes "2") then Some ProfileTwo
+    else None
 
 -- a name, or a name with a dot and a flag after it
 abbrev pub key_word : List ℕ → Option KeyName

@@ -6,12 +6,12 @@ ghost use Rattle.paris_text.specs.CommandReading.{GivesIfRoom, IsRefusal, alone_
 
 use crate::instructions::next_instr;
 use crate::reader::{
-    Syntax, last_axes, line_end, next_key, next_name, next_number, next_spot, next_values,
-    next_verb,
+    Syntax, last_axes, line_end, next_key, next_name, next_number, next_profile, next_spot,
+    next_values, next_verb,
 };
 use crate::verbs::{Setting, Verb};
 use paris_events::Edit;
-use paris_names::{Fault, KeyName, RowId, Spot};
+use paris_names::{Fault, KeyName, Profile, RowId, Spot};
 use std::alloc::Global;
 
 /// What a line of a script asks for.
@@ -33,6 +33,8 @@ pub enum Command {
     Faults,
     /// Runs orders until all rows are settled.
     Settle,
+    /// Chooses the profile. It is the first command of a script, or none.
+    Paris(Profile),
 }
 
 #[tactic(auto, unfolding(crate::specs::CommandReading::rest_at))]
@@ -122,6 +124,16 @@ fn show_command(line: &[u8], at: usize) -> Result<Command, Syntax>
     Ok(Command::Show { key, spot })
 }
 
+#[tactic(auto, unfolding(crate::specs::CommandReading::rest_at))]
+fn paris_command(line: &[u8], at: usize) -> Result<Command, Syntax>
+    requires { at ≤ length line.now + 1 }
+    ensures { Gives (λ x. x) result (rest_at Verb.Paris (place line.now at)) }
+{
+    let (profile, at) = next_profile(line, at)?;
+    line_end(line, at)?;
+    Ok(Command::Paris(profile))
+}
+
 /// A command that is one word alone.
 fn bare_command(command: Command, line: &[u8], at: usize) -> Result<Command, Syntax>
     requires { at ≤ length line.now + 1 }
@@ -151,6 +163,7 @@ fn rest_of_command(alloc: Global, verb: Verb, line: &[u8], at: usize) -> Result<
         Verb::List => bare_command(Command::List, line, at),
         Verb::Faults => bare_command(Command::Faults, line, at),
         Verb::Settle => bare_command(Command::Settle, line, at),
+        Verb::Paris => paris_command(line, at),
     };
     Ok(command?)
 }
@@ -164,10 +177,15 @@ pub fn read_command_in(alloc: Global, setting: Setting, line: &[u8]) -> Result<C
     rest_of_command(alloc, verb, line, at)
 }
 
-/// The command that a line of a script spells, or the column at which the line leaves the grammar of commands.
-pub fn read_command(alloc: Global, line: &[u8]) -> Result<Command, Fault>
-    ensures ok { IfOk result (λ c. command_of line.now ≡ Ok c) }
-    ensures err { IfErr result (λ fault. IsRefusal (command_of line.now) fault) }
+/// The command that a line of a script spells, or the column at which the line leaves the grammar of commands. The first command of a
+/// script may choose its profile, and `first` says whether the line is that.
+pub fn read_command(alloc: Global, line: &[u8], first: bool) -> Result<Command, Fault>
+    ensures ok { IfOk result (λ c. command_of first line.now ≡ Ok c) }
+    ensures err { IfErr result (λ fault. IsRefusal (command_of first line.now) fault) }
 {
-    read_command_in(alloc, Setting::OwnBook, line)
+    let setting = Setting {
+        is_shared: false,
+        is_first: first,
+    };
+    read_command_in(alloc, setting, line)
 }

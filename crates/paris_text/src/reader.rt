@@ -5,7 +5,7 @@
 ghost use Rattle.std.specs.Prelude.{◌≡◌, ◌+◌, ◌<◌, ◌≤◌, length, IfOk};
 ghost use Rattle.paris_names.specs.declared.faults.Fault.TheVariants.{Syntax as SyntaxFault};
 ghost use Rattle.paris_text.specs.Kinds.{direction_word, inclusion_word, option_word};
-ghost use Rattle.paris_text.specs.Kinds.Kind.{NameWord, NumberWord, ValueWord, DirectionWord, InclusionWord, OptionWord, KeyWord, AxesWord};
+ghost use Rattle.paris_text.specs.Kinds.Kind.{NameWord, NumberWord, ValueWord, DirectionWord, InclusionWord, OptionWord, KeyWord, AxesWord, ProfileWord};
 ghost use Rattle.paris_text.specs.Reading.{place, Gives, word_at, mnemonic_at, kind_at, end_at};
 ghost use Rattle.paris_text.specs.Shapes.Shape.{Done, One};
 ghost use Rattle.paris_text.specs.CommandReading.{GivesIfRoom, verb_at, spot_at, many_at, shape_at};
@@ -16,7 +16,7 @@ use crate::verbs::{Setting, Verb};
 use crate::words;
 use paris_geometry::Direction;
 use paris_model::Inclusion;
-use paris_names::{Fault, Items, KeyName, Name, RowId, Spot};
+use paris_names::{Fault, Items, KeyName, Name, Profile, RowId, Spot};
 use std::alloc::Global;
 
 /// A line is not in the grammar: the column, from 1, at which it leaves it.
@@ -158,6 +158,19 @@ pub fn next_key(line: &[u8], at: usize) -> Result<(KeyName, usize), Syntax>
     let (word, next) = next_word(line, at)?;
     match words::key_of_word(word) {
         Some(key) => Ok((key, next)),
+        None => Err(Syntax(at as u64 + 1)),
+    }
+}
+
+/// The next word as the number of a profile.
+pub fn next_profile(line: &[u8], at: usize) -> Result<(Profile, usize), Syntax>
+    requires { at ≤ length line.now + 1 }
+    ensures gives { Gives (λ x. (x.0, place line.now x.1)) result (kind_at ProfileWord (place line.now at)) }
+    ensures within { IfOk result (λ x. x.1 ≤ length line.now + 1) }
+{
+    let (word, next) = next_word(line, at)?;
+    match words::profile_of_word(word) {
+        Some(profile) => Ok((profile, next)),
         None => Err(Syntax(at as u64 + 1)),
     }
 }

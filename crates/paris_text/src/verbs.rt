@@ -20,31 +20,34 @@ pub enum Verb {
     List,
     Faults,
     Settle,
+    Paris,
 }
 
-/// Whose book a line is for.
+/// Where a line stands.
 #[derive(Clone, Copy, PartialEq, Eq, Debug)]
-pub enum Setting {
-    /// A book of the script's own.
-    OwnBook,
-    /// A book that sessions share.
-    SharedBook,
+pub struct Setting {
+    /// Whether the book that it is for is one that sessions share.
+    pub is_shared: bool,
+    /// Whether it is the first command of its script.
+    pub is_first: bool,
 }
 
 impl Setting {
-    /// Whether a command with this first word may stand there: of a book that sessions share no line settles all rows.
+    /// Whether a command with this first word may stand there: of a book that sessions share no line settles all rows, and the
+    /// profile is chosen by the first command alone.
     fn allows(self, verb: Verb) -> bool
         ensures { result ≡ allows self verb }
     {
-        match self {
-            Setting::OwnBook => true,
-            Setting::SharedBook => !matches!(verb, Verb::Settle),
+        match verb {
+            Verb::Settle => !self.is_shared,
+            Verb::Paris => self.is_first,
+            _ => true,
         }
     }
 }
 
 /// All verbs.
-const VERBS: [Verb; 13] = [
+const VERBS: [Verb; 14] = [
     Verb::Set,
     Verb::Field,
     Verb::Input,
@@ -58,6 +61,7 @@ const VERBS: [Verb; 13] = [
     Verb::List,
     Verb::Faults,
     Verb::Settle,
+    Verb::Paris,
 ];
 
 impl Verb {
@@ -80,6 +84,7 @@ impl Verb {
             Verb::List => b"list",
             Verb::Faults => b"faults",
             Verb::Settle => b"settle",
+            Verb::Paris => b"paris",
         }
     }
 

@@ -4,10 +4,10 @@ ghost use Rattle.std.specs.Prelude.{◌≡◌, ℕ, ◌+◌, ◌-◌, ◌^◌, �
 ghost use Rattle.std.specs.Fmt.{decimal};
 ghost use Rattle.std.specs.List.{position_or_len, list_all};
 ghost use Rattle.std.specs.Option.{IfSome};
-ghost use Rattle.paris_text.specs.Words.{is_digit, is_number, value_from, value_word, number_word, flag_word, key_word, axes_word};
+ghost use Rattle.paris_text.specs.Words.{is_digit, is_number, value_from, value_word, number_word, flag_word, key_word, axes_word, profile_word};
 ghost use Rattle.paris_text.specs.Room.{axes_room};
 
-use paris_names::{FlagName, Items, KeyName, Name};
+use paris_names::{FlagName, Items, KeyName, Name, Profile};
 use std::alloc::{AllocError, Global};
 
 /// How many bytes come before the first one that is equal to `stop`.
@@ -130,6 +130,19 @@ pub fn key_of_word(word: &[u8]) -> Option<KeyName>
         name,
         flag: Some(flag),
     })
+}
+
+/// The profile that a word is the number of.
+pub fn profile_of_word(word: &[u8]) -> Option<Profile>
+    ensures { result ≡ profile_word word.now }
+{
+    if word == b"1".as_slice() {
+        Some(Profile::One)
+    } else if word == b"2".as_slice() {
+        Some(Profile::Two)
+    } else {
+        None
+    }
 }
 
 fn is_joint(byte: u8) -> bool

@@ -5,7 +5,7 @@ ghost use Rattle.std.specs.Fmt.{decimal};
 ghost use Rattle.std.specs.List.{AllByRecursion};
 ghost use Rattle.paris_names.specs.Names.{is_name};
 ghost use Rattle.paris_text.specs.Kinds.{direction_text, inclusion_text, option_text, IsOptionalName};
-ghost use Rattle.paris_text.specs.Spelling.{parts, conditional_parts, unconditional_parts, news_parts, line_parts, mail_parts, operand_words, OperandsFit, spelling, IsInBounds};
+ghost use Rattle.paris_text.specs.Spelling.{instruction_parts, conditional_parts, unconditional_parts, news_parts, line_parts, mail_parts, operand_words, OperandsFit, spelling, IsInBounds};
 ghost use Rattle.paris_text.specs.Writing.{tail_text};
 
 use crate::mnemonics::{FlagAction, Mnemonic, NewsMove};
@@ -62,7 +62,7 @@ fn line_mnemonic(action: &Line<Name>) -> Mnemonic
 
 /// The first word of an instruction.
 fn mnemonic_of(instr: &Instr) -> Mnemonic
-    ensures { result ≡ (parts instr.now).0 }
+    ensures { result ≡ (instruction_parts instr.now).0 }
 {
     match instr {
         Action::OnSelected(action) => conditional_mnemonic(action),
@@ -401,7 +401,7 @@ fn push_mail(alloc: Global, line: &mut Vec<u8>, action: Mail<Name>) -> Result<()
 
 /// Adds the words behind an instruction's first word.
 fn push_operands(alloc: Global, line: &mut Vec<u8>, instr: &Instr) -> Result<(), AllocError>
-    ensures text { OnOk result (line.new.items ≡ line.old.items ++ tail_text (operand_words (parts instr.now).1)) }
+    ensures text { OnOk result (line.new.items ≡ line.old.items ++ tail_text (operand_words (instruction_parts instr.now).1)) }
     ensures fits { OnOk result (IsInBounds instr.now) }
 {
     match *instr {

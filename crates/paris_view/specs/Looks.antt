@@ -5,33 +5,34 @@ use Rattle.paris_names.specs.declared.faults.Fault.{Fault}
 use Rattle.paris_names.specs.declared.faults.Fault.TheVariants.{StrangeSeat, NoEntry}
 use Rattle.paris_names.specs.declared.ids.Spot.{Spot}
 use Rattle.paris_names.specs.declared.names.KeyName.{KeyName}
+use Rattle.paris_names.specs.declared.profiles.Profile.{Profile}
 use Rattle.paris_machine.specs.Show.{show_reply}
 use Rattle.paris_machine.specs.declared.events.Shown.{Shown}
 use Rattle.paris_records.specs.History.{Legal, state_of}
-use Rattle.paris_desk.specs.Seats.{Sitting}
+use Rattle.paris_desk.specs.Seats.{SeatState}
 
 -- a seat while it looks, and the answer of the look
 pub record Held : Type 0 where
-  pub seat : Sitting
+  pub seat : SeatState
   pub answer : Result Shown Fault
 
 -- a seat meets a legal history that begins with its past and has no fewer entries than it was told. That is its past then
-pub record Looked (s s' : Sitting) : Type 0 where
+pub record Looked (profile : Profile) (s s' : SeatState) : Type 0 where
   pub begins : IsPrefix s.past s'.past
-  pub legal : Legal s'.past
+  pub legal : Legal profile s'.past
   pub front : (s.front ≤ s'.front) × (s'.front ≡ length s'.past)
   pub same : (s'.number ≡ s.number) × (s'.receipts ≡ s.receipts)
 
 -- a seat meets a legal history that begins with its past and has so many entries, fewer than it was told. That is its past then
-pub record IsShort (f l : ℕ) (s s' : Sitting) : Type 0 where
+pub record FallsShort (profile : Profile) (f l : ℕ) (s s' : SeatState) : Type 0 where
   pub told : (f ≡ s.front) × (l < s.front)
   pub begins : IsPrefix s.past s'.past
-  pub legal : Legal s'.past
+  pub legal : Legal profile s'.past
   pub len : l ≡ length s'.past
   pub same : (s'.number ≡ s.number) × (s'.receipts ≡ s.receipts) × (s'.front ≡ s.front)
 
 -- why a seat doesn't look at a key: it meets no history, or one after which the machine shows nothing
-abbrev pub Missed : KeyName → Spot → Sitting → Sitting → Fault → Type 0
-Missed name spot s s' NoEntry = s' ≡ s
-Missed name spot s s' (StrangeSeat f l) = IsShort f l s s'
-Missed name spot s s' fault = Looked s s' × (Err fault ≡ show_reply (state_of s'.past) name spot)
+abbrev pub Missed : Profile → KeyName → Spot → SeatState → SeatState → Fault → Type 0
+Missed p name spot s s' NoEntry = s' ≡ s
+Missed p name spot s s' (StrangeSeat f l) = FallsShort p f l s s'
+Missed p name spot s s' fault = Looked p s s' × (Err fault ≡ show_reply (state_of p s'.past) name spot)

@@ -3,7 +3,7 @@
 ghost use Rattle.std.specs.Prelude.{◌≡◌, length, Err, IsOk, MatchOption, MatchResult};
 ghost use Rattle.paris_machine.specs.Show.{show_reply};
 ghost use Rattle.paris_records.specs.History.{state_of};
-ghost use Rattle.paris_desk.specs.Seats.{Sitting, sitting};
+ghost use Rattle.paris_desk.specs.Seats.{SeatState, sitting};
 ghost use Rattle.paris_view.specs.Entering.{IsUnmet};
 ghost use Rattle.paris_view.specs.Looks.{Looked};
 
@@ -33,18 +33,19 @@ pub(crate) struct Entered<L: Office> {
 impl<L: Office> Model for Entered<L> {
     ghost use Rattle.std.specs.Prelude.{◌≡◌, ◌≤◌, length};
     ghost use mathlib.Core.List.{IsPrefix};
-    ghost use Rattle.paris_desk.specs.Seats.{Sitting, sitting};
+    ghost use Rattle.paris_records.specs.History.{state_of};
+    ghost use Rattle.paris_desk.specs.Seats.{SeatState, sitting};
 
-    ghost Value = { Sitting };
+    ghost Value = { SeatState };
 
     ghost view = { λ s. sitting s.rest.number s.rest.receipts (length s.known) s.known };
 
-    ghost invariant = { λ s. (s.number ≡ s.rest.number) × (s.rest.front ≤ length s.known) × IsPrefix s.rest.past s.known × (s.reading.part.value.history ≡ s.known) };
+    ghost invariant = { λ s. (s.number ≡ s.rest.number) × (s.rest.front ≤ length s.known) × IsPrefix s.rest.past s.known × (s.reading.part.value.history ≡ s.known) × (s.reading.part.value.state ≡ state_of L.profile s.known) };
 }
 
 /// Begins to read.
 pub(crate) fn enter<L: Office>(seat: Seat<L>) -> Result<Entered<L>, (Seat<L>, Unmet)>
-    ensures { MatchResult result (λ entered. Looked seat entered) (λ e. IsUnmet seat e.0 e.1) }
+    ensures { MatchResult result (λ entered. Looked L.profile seat entered) (λ e. IsUnmet L.profile seat e.0 e.1) }
 {
     let (looker, rest) = seat.part();
     let Looker {
@@ -94,14 +95,14 @@ pub(crate) fn enter<L: Office>(seat: Seat<L>) -> Result<Entered<L>, (Seat<L>, Un
 impl<L: Office> Entered<L> {
     /// The book.
     pub(crate) fn book(&self) -> &Book
-        ensures { result.now ≡ state_of self.now.past }
+        ensures { result.now ≡ state_of L.profile self.now.past }
     {
         self.reading.get().book()
     }
 
     /// Why there is nothing to look at.
     pub(crate) fn refusal(&self, name: &KeyName, spot: Spot) -> Option<Fault>
-        ensures { MatchOption result (IsOk (show_reply (state_of self.now.past) name.now spot)) (λ fault. Err fault ≡ show_reply (state_of self.now.past) name.now spot) }
+        ensures { MatchOption result (IsOk (show_reply (state_of L.profile self.now.past) name.now spot)) (λ fault. Err fault ≡ show_reply (state_of L.profile self.now.past) name.now spot) }
     {
         match self.book().show(*name, spot) {
             Ok(_) => None,

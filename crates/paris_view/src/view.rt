@@ -35,9 +35,9 @@ impl<'a, L: Office> Model for Held<'a, L> {
 
     ghost Value = { HeldSeat };
 
-    ghost view = { λ h. record { seat = h.entered; answer = show_reply (state_of h.entered.past) h.name h.spot } };
+    ghost view = { λ h. record { seat = h.entered; answer = show_reply (state_of L.profile h.entered.past) h.name h.spot } };
 
-    ghost invariant = { λ h. IsOk (show_reply (state_of h.entered.past) h.name h.spot) };
+    ghost invariant = { λ h. IsOk (show_reply (state_of L.profile h.entered.past) h.name h.spot) };
 }
 
 /// The fault of a seat that doesn't read.
@@ -66,9 +66,9 @@ impl<'a, L: Office> View<'a, L> {
         name: KeyName,
         spot: Spot,
     ) -> Result<Held<'a, L>, (Seat<L>, Fault)>
-        ensures met { IfOk result (λ held. Looked seat held.seat) }
-        ensures answer { IfOk result (λ held. held.answer ≡ show_reply (state_of held.seat.past) name spot) }
-        ensures missed { IfErr result (λ e. Missed name spot seat e.0 e.1) }
+        ensures met { IfOk result (λ held. Looked L.profile seat held.seat) }
+        ensures answer { IfOk result (λ held. held.answer ≡ show_reply (state_of L.profile held.seat.past) name spot) }
+        ensures missed { IfErr result (λ e. Missed L.profile name spot seat e.0 e.1) }
     {
         let entered = match enter(seat) {
             Ok(entered) => entered,

@@ -4,13 +4,13 @@ ghost use Rattle.std.specs.Prelude.{◌≡◌, ◌≤◌};
 ghost use Rattle.paris_records.specs.declared.limits.TheConstants.{MAX_HISTORY, MAX_SEATS};
 
 use crate::spellings::{Text, instr_of, key, name};
-use paris_audit::audit;
+use paris_audit::audit_with;
 use paris_book::Look;
 use paris_desk::{CloseFault, Closed, Desk, Front, Office, Opening, Seat, close};
 use paris_events::{Edit, Verdict};
 use paris_exec::execute;
 use paris_names::Spot::{After, End};
-use paris_names::{Fault, Items, KeyName, RowId, Spot};
+use paris_names::{Fault, Items, KeyName, Profile, RowId, Spot};
 use paris_view::View;
 use std::alloc::{AllocError, Global};
 use std::marker::Brand;
@@ -91,20 +91,21 @@ fn input_of(
     })
 }
 
-fn field_of(rt: &impl Abort, field: Text) -> Edit {
+fn field_of(rt: &impl Abort, field: Text, width: u64) -> Edit {
     Edit::AddField {
         name: name(rt, field),
         set: name(rt, b"S"),
-        width: 8,
+        width,
     }
 }
 
-/// A seat declares a set of four processors with fields of width 8.
+/// A seat declares a set of four processors with fields as wide as they may be.
 fn declares<L: Office>(
     rt: &(impl Abort + Wait),
     alloc: Global,
     desk: &Desk<L>,
     seat: &mut Seat<L>,
+    profile: Profile,
 ) -> Result<(), Fault> {
     let set = Edit::AddSet {
         name: name(rt, b"S"),
@@ -112,7 +113,7 @@ fn declares<L: Office>(
     };
     desk.edit(rt, seat, set)?;
     for field in [b"a", b"b", b"c"] {
-        desk.edit(rt, seat, field_of(rt, field))?;
+        desk.edit(rt, seat, field_of(rt, field, profile.max_width()))?;
     }
     Ok(())
 }
@@ -145,14 +146,16 @@ fn adds<L: Office>(
     Ok(())
 }
 
-/// A seat declares a set of four processors with fields of width 8, gives two of them numbers, and puts in a row that adds them.
+/// A seat declares a set of four processors with fields as wide as they may be, gives two of them numbers, and puts in a row that adds
+/// eight bits of them.
 fn begins<L: Office>(
     rt: &(impl Abort + Wait),
     alloc: Global,
     desk: &Desk<L>,
     seat: &mut Seat<L>,
+    profile: Profile,
 ) -> Result<(), Fault> {
-    declares(rt, alloc, desk, seat)?;
+    declares(rt, alloc, desk, seat, profile)?;
     gives(rt, alloc, desk, seat, b"a", &[10, 20, 30, 250])?;
     gives(rt, alloc, desk, seat, b"b", &[1, 2, 3, 10])?;
     adds(rt, desk, seat)
@@ -196,11 +199,12 @@ fn looks<L: Office>(
     desk: &Desk<L>,
     first: Seat<L>,
     second: Seat<L>,
+    profile: Profile,
 ) -> (Seat<L>, Seat<L>) {
     let (mut first, mut second) = (first, second);
     let unknown = Sight::Refused(Fault::NoField);
     second = sees(rt, desk, second, (b"c", End), unknown, 0);
-    assert!(rt; begins(rt, alloc, desk, &mut first).is_ok());
+    assert!(rt; begins(rt, alloc, desk, &mut first, profile).is_ok());
     first = sees(rt, desk, first, (b"c", End), Sight::Pending(1), 7);
     second.learn_from(&first);
     assert!(rt; second.front() == Front(7));
@@ -239,8 +243,8 @@ fn has_counts(closed: &Closed, counts: [usize; 2]) -> bool {
 }
 
 /// Whether of two seats one made seven calls and the other two, and history and receipts agree.
-fn agrees(alloc: Global, closed: &Closed) -> Result<bool, AllocError> {
-    let is_agreed = audit(alloc, &closed.history, &closed.receipts)?;
+fn agrees(alloc: Global, closed: &Closed, profile: Profile) -> Result<bool, AllocError> {
+    let is_agreed = audit_with(alloc, profile, &closed.history, &closed.receipts)?;
     Ok(is_agreed && closed.history.len() == 9 && has_counts(closed, [7, 2]))
 }
 
@@ -261,10 +265,11 @@ fn looks_and_closes<L: Office>(
     alloc: Global,
     desk: Desk<L>,
     all: Vec<Seat<L>>,
+    profile: Profile,
 ) -> Closed {
     let mut all = all;
     let (first, second) = both_of(rt, &mut all);
-    let (first, second) = looks(rt, alloc, &desk, first, second);
+    let (first, second) = looks(rt, alloc, &desk, first, second, profile);
     gives_back(rt, &mut all, first);
     gives_back(rt, &mut all, second);
     left_of(rt, desk, all)
@@ -275,25 +280,33 @@ fn opens<L: Office, R: Abort + Wait>(
     rt: &R,
     alloc: Global,
     opening: Opening,
+    profile: Profile,
     seats: u64,
     limit: u64,
 ) -> Result<bool, AllocError>
     requires opening { (opening.blank.name ≡ L.name) × (opening.blank.parts ≡ L.parts) × (opening.seen.book ≡ L.log) }
+    requires profile { profile ≡ L.profile }
     requires seats { (seats ≡ L.parts) × (seats ≡ L.seats) }
     requires few { (1 ≤ seats) × (seats ≤ MAX_SEATS) }
     requires limit { (limit ≡ L.limit) × (limit ≤ MAX_HISTORY) }
 {
-    let (desk, all) = Desk::<L>::new(rt, alloc, opening, seats, limit)?;
-    agrees(alloc, &looks_and_closes(rt, alloc, desk, all))
+    let (desk, all) = Desk::<L>::with_profile(rt, alloc, opening, profile, seats, limit)?;
+    let closed = looks_and_closes(rt, alloc, desk, all, profile);
+    agrees(alloc, &closed, profile)
 }
 
-fn tries<R: Abort + Wait>(rt: &R, alloc: Global) -> Result<(), AllocError> {
-    let is_right = opens::<Brand, R>(rt, alloc, Opening::new(2), 2, 100)?;
+fn tries<R: Abort + Wait>(rt: &R, alloc: Global, profile: Profile) -> Result<(), AllocError> {
+    let is_right = opens::<Brand, R>(rt, alloc, Opening::new(2), profile, 2, 100)?;
     assert!(rt; is_right);
     Ok(())
 }
 
 #[test]
 fn two_seats_look(rt: HostRuntime) -> Result<(), AllocError> {
-    tries(&rt, rt.alloc())
+    tries(&rt, rt.alloc(), Profile::One)
+}
+
+#[test]
+fn two_seats_look_in_profile_two(rt: HostRuntime) -> Result<(), AllocError> {
+    tries(&rt, rt.alloc(), Profile::Two)
 }

@@ -16,6 +16,9 @@ syntax match parisFlag / \@<=\a[0-9A-Za-z_-]*\.\%(overflow\|context\|carry\|test
 syntax match parisWord / \@<=\%(exclusive\|inclusive\|downward\|upward\|none\)\%( \|$\)\@=/
 syntax match parisNumber / \@<=\d\+\%(x\d\+\)*\%( \|$\)\@=/
 syntax match parisError /  \+\| $\|[\t\r]/
+syntax match parisCommand /^paris\%( \|$\)\@=/ contained
+syntax match parisHead /\%^\%(\%(#.*\)\=\n\)*paris\%( .*\)\=$/ contains=parisError,parisComment,parisCommand,parisNumber
+syntax sync minlines=200
 
 highlight default link parisError Error
 highlight default link parisComment Comment

@@ -8,14 +8,16 @@ from typing import TypeVar
 
 from pevudlo.document.differences import aligned, differing_ranges, ends, matched
 from pevudlo.document.meaning import FileRow, Hunk, Shown
-from pevudlo.document.pieces import DECLARING, Kind, Piece
+from pevudlo.document.pieces import DECLARING, HEADING, Kind, Piece
 from pevudlo.document.update import Update
 from pevudlo.document.verdicts import NewBook, Verdicts, refusal_in
 from pevudlo.hints.explanation import Refusal
 from pevudlo.hints.meanings import Where
 from pevudlo.lang.board import Board
 from pevudlo.lang.causes import causes
+from pevudlo.lang.grammar import PROFILE_COMMAND
 from pevudlo.lang.keys import axes_of
+from pevudlo.lang.profiles import USUAL
 from pevudlo.lang.replies import NoReply, Ok, Reply, RowAdded, RowFault, Settled
 from pevudlo.record.earlier import Numbers
 from pevudlo.record.looks import Looker
@@ -34,7 +36,10 @@ MOST_EDITS = 256
 
 
 class Book:
-    """A book, and a second one with the same declarations that gives the verdicts."""
+    """A book, and a second one with the same declarations that gives the verdicts.
+
+    Both are told a profile first, whether the text says one or not, so that no line behind it may choose it.
+    """
 
     def __init__(self, begin: Callable[[], Peer], begin_second: Callable[[], Peer]) -> None:
         self.peer, self._second = begin(), begin_second()
@@ -44,6 +49,7 @@ class Book:
         self.faults: dict[int, RowFault] = {}
         self.editions: dict[int, int] = {}
         self.refused: dict[int, str] = {}
+        self.header = ""
         self._looker = Looker(self.peer, self.board)
         self._listed: list[str] = []
         self._rows: Sequence[FileRow] = []
@@ -60,12 +66,16 @@ class Book:
         """Tells whole lines as a fresh run has them, in one write, and gives those that change something."""
         told = told_first(pieces)
         lines = [f"show {piece.key} end" if piece.kind is Kind.SHOW else piece.line for piece in told]
-        replies = [reply[0] for reply in self.peer.ask_all(lines)]
+        has_header = any(piece.kind is Kind.PROFILE for piece in told[:1])
+        first = [] if has_header else [profile_line(USUAL)]
+        replies = [reply[0] for reply in self.peer.ask_all([*first, *lines])][len(first) :]
         for piece, reply in zip(told, replies):
-            if piece.kind in DECLARING:
+            if piece.kind in HEADING:
                 self.board.note(piece.line, reply)
+        self.header = refusal_in(replies[0]) if has_header else ""
         declared = [(piece, refusal_in(reply)) for piece, reply in zip(told, replies) if piece.kind in DECLARING]
-        self._second.ask_all([piece.line for piece, refused in declared if not refused])
+        accepted = [piece.line for piece, refused in declared if not refused]
+        self._second.ask_all([profile_line(self.board.profile), *accepted])
         self.refused = {at: refused for at, (_, refused) in enumerate(declared) if refused}
         above: set[str] = set()
         for piece, reply in zip(told, replies):
@@ -181,6 +191,11 @@ class Book:
                 touched.append(row.book)
         self._listed, self._rows = listed, rows
         return touched
+
+
+def profile_line(profile: int) -> str:
+    """The command that chooses a profile."""
+    return f"{PROFILE_COMMAND} {profile}"
 
 
 def told_first(pieces: Sequence[Piece]) -> list[Piece]:

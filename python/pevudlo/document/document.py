@@ -13,7 +13,16 @@ from dataclasses import replace
 from pevudlo.document.book import Book, short_line
 from pevudlo.document.differences import ends
 from pevudlo.document.meaning import FileRow, Meaning, Reader, Shown, spliced
-from pevudlo.document.pieces import DECLARING, FIRM, Kind, piece_of
+from pevudlo.document.pieces import (
+    DECLARING,
+    FIRM,
+    HEADING,
+    Kind,
+    first_command,
+    header_of,
+    piece_of,
+    pieces_of,
+)
 from pevudlo.document.states import Mark
 from pevudlo.document.update import Update
 from pevudlo.document.verdicts import NO_ROW, NewBook
@@ -22,6 +31,7 @@ from pevudlo.hints.explanation import SYNTAX, Explanation, explained
 from pevudlo.hints.meanings import Where
 from pevudlo.lang.board import Board
 from pevudlo.lang.faults import FAULTS
+from pevudlo.lang.grammar import wrong_column
 from pevudlo.lang.replies import NoReply, Refused, parse
 from pevudlo.progress import PROGRESS, Progress
 from pevudlo.record.earlier import Numbers
@@ -110,10 +120,12 @@ class Document:
         had, was = self.lines, self.meaning.lines
         low, high = ends(had, lines)
         olds, news = self.meaning.shown[low : len(was) - high], lines[low : len(lines) - high]
-        if self._typed is None and not any(old.kind in DECLARING for old in olds):
+        if self._typed is None and not any(old.kind in HEADING for old in olds):
             return lines
+        first = first_command(lines)
         if len(olds) == len(news):
-            news = [was[low + at] if is_half_typed(old, new) else new for at, (old, new) in enumerate(zip(olds, news))]
+            both = enumerate(zip(olds, news), low)
+            news = [was[at] if is_half_typed(old, new, at == first) else new for at, (old, new) in both]
         return [*was[:low], *news, *was[len(was) - high :]]
 
     def _see_typed(self, lines: list[str]) -> list[int]:
@@ -123,15 +135,19 @@ class Document:
             return []
         typed = [at for at, (line, as_told) in enumerate(zip(lines, told)) if line != as_told]
         if typed:
-            shown = self.meaning.shown.copy()
+            shown, first = self.meaning.shown.copy(), first_command(lines)
             for at in typed:
                 piece = piece_of(lines[at])
-                shown[at] = Shown(piece, self.book.verdicts.of(piece, frozenset()))
+                column = wrong_column(lines[at], is_first=True) if at == first else None
+                refused = f"refused {SYNTAX} {column}" if column else self.book.verdicts.of(piece, frozenset())
+                shown[at] = Shown(piece, refused)
             self._typed = lines, shown
         return typed
 
     def _step(self, book: Book, lines: list[str], hold: bool, done: Update) -> None:
         """Leads the book to a text by edits. Raises NewBook where that can't be."""
+        if header_of(lines) != header_of(self.meaning.lines):
+            raise NewBook("the command for the profile is changed, new or gone")
         same = ends(self.meaning.lines, lines)
         declared, added = self._declarations(lines, same)
         book.declare(added, done)
@@ -140,7 +156,7 @@ class Document:
             above = {*book.board.sets, *book.board.fields}
             meaning = spliced(self.meaning, lines, same, book.verdicts, above, hold)
         if meaning is None:
-            meaning = Reader(book.verdicts, book.refused).read(lines)
+            meaning = Reader(book.verdicts, book.refused, book.header).read(lines)
         book.to_rows(self.meaning.rows, meaning.rows, meaning.hunk, done)
         if meaning.has_inputs:
             book.to_inputs(meaning.shown, done)
@@ -194,9 +210,9 @@ class Document:
         book = self._book = Book(self._begin, self._begin_second)
         done = Update(fresh=why)
         self.told.say(f"tells {len(lines):,} lines")
-        done.sent = book.begin([piece_of(line) for line in lines])
+        done.sent = book.begin(pieces_of(lines))
         try:
-            meaning = Reader(book.verdicts, book.refused).read(lines)
+            meaning = Reader(book.verdicts, book.refused, book.header).read(lines)
             for number, row in zip(meaning.ids, meaning.rows):
                 row.book = number
             self.told.say(f"settles {len(meaning.rows):,} row{'s' * (len(meaning.rows) != 1)}")
@@ -257,13 +273,15 @@ class Document:
     def board_above(self, number: int) -> Board:
         """What is declared above a line, and the rows by the ids of a fresh run where the line has lost its row."""
         board, count = Board(), 0
-        is_of_rows = self.shown[number].refused == NO_ROW
+        is_of_rows = number < len(self.shown) and self.shown[number].refused == NO_ROW
         for each in self.meaning.shown[: number if is_of_rows else min(number, self.meaning.head)]:
-            if each.refused or each.kind not in (*FIRM, Kind.ROW):
+            if each.refused or each.kind not in (Kind.PROFILE, *FIRM, Kind.ROW):
                 continue
             count += each.kind is Kind.ROW
-            if is_of_rows or each.kind in DECLARING:
+            if is_of_rows or each.kind in HEADING:
                 board.note(each.piece.line, f"row {count}" if each.kind is Kind.ROW else "ok")
+        first = first_command(self.lines)
+        board.is_begun = first is not None and first < number
         return board
 
     def look(self, number: int) -> Numbers:
@@ -289,9 +307,10 @@ class Document:
         return self._before.get((row.book, key))
 
 
-def is_half_typed(old: Shown, new: str) -> bool:
-    """Whether a line declared something, and is none of the grammar now."""
-    return old.kind in DECLARING and not old.refused and piece_of(new).kind is Kind.WRONG
+def is_half_typed(old: Shown, new: str, is_first: bool) -> bool:
+    """Whether a line declared something, and is none of the grammar now. `is_first`: it is the first command."""
+    is_wrong = piece_of(new).kind is Kind.WRONG and wrong_column(new, is_first) is not None
+    return is_wrong and old.kind in HEADING and not old.refused
 
 
 def declarations_in(lines: list[str]) -> list[str]:

@@ -16,11 +16,15 @@ NAMES_ROWS = "the text names rows by their ids, and an edit shifts those: change
 def edited(document: Document, command: str) -> Edited:
     """The lines behind an edit: `set`, `field`, `input`, `insert`, `delete` or `replace`, in the grammar.
 
+    `paris` is one of a text without a command.
+
     Raises ValueError where the text can't say it.
     """
     word, first, *rest = command.split(" ")
     lines = document.lines.copy()
     match word:
+        case "paris":
+            return put(lines, len(lines), command)
         case "set" | "field":
             return put(lines, document.meaning.head, command)
         case "input":

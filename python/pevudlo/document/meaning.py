@@ -7,7 +7,7 @@ from collections.abc import Mapping, Sequence
 from dataclasses import dataclass, field
 from typing import NamedTuple
 
-from pevudlo.document.pieces import DECLARING, Kind, Piece, piece_of
+from pevudlo.document.pieces import DECLARING, HEADING, Kind, Piece, piece_of, pieces_of
 from pevudlo.document.verdicts import NO_ROW, ROWS_FULL, Verdicts
 from pevudlo.lang.grammar import wrong_column
 from pevudlo.lang.order import RowOrder
@@ -58,8 +58,9 @@ class Hunk(NamedTuple):
 class Meaning:
     """What lines mean. `ids` are those that a fresh run gives the rows, where all lines were read.
 
-    `head` is how many lines there are up to the last declaration, and `row_lines` are those that have a row. `hunk`
-    says where the rows are others than before, where that is known, and `has_inputs` whether input data may be.
+    `head` is how many lines there are up to the last declaration, or the profile where there is none, and `row_lines`
+    are those that have a row. `hunk` says where the rows are others than before, where that is known, and `has_inputs`
+    whether input data may be.
     `is_held`: a refused line keeps its old row. `is_full`: a row is refused since there are too many.
     """
 
@@ -82,10 +83,13 @@ class Meaning:
 
 
 class Reader:
-    """Reads lines from above to below. `refused` are the refusals of declarations, by how many stand above them."""
+    """Reads lines from above to below. `refused` are the refusals of declarations, by how many stand above them.
 
-    def __init__(self, verdicts: Verdicts, refused: Mapping[int, str]) -> None:
-        self._verdicts, self._refused = verdicts, refused
+    `header` is that of a first command for the profile.
+    """
+
+    def __init__(self, verdicts: Verdicts, refused: Mapping[int, str], header: str = "") -> None:
+        self._verdicts, self._refused, self._header = verdicts, refused, header
         self._order, self._rows = RowOrder(), dict[int, FileRow]()
         self._above: set[str] = set()
         self._alive = self._declared = 0
@@ -93,7 +97,7 @@ class Reader:
 
     def read(self, lines: list[str]) -> Meaning:
         """What these lines mean. Raises NewBook where only a fresh run can say it."""
-        pieces = [piece_of(line) for line in lines]
+        pieces = pieces_of(lines)
         shown = [self._line(piece) for piece in pieces]
         order = [(row, self._rows[row]) for row in self._order]
         if self._alive < len(order):
@@ -101,7 +105,7 @@ class Reader:
             shown = [each if each.anchor is None else each._replace(anchor=stands[each.anchor]) for each in shown]
             order = [(at, row) for at, row in order if row.is_alive]
         meaning = Meaning(lines, shown, [row for _, row in order], [at for at, _ in order])
-        meaning.head = 1 + max((at for at, piece in enumerate(pieces) if piece.kind in DECLARING), default=-1)
+        meaning.head = 1 + max((at for at, piece in enumerate(pieces) if piece.kind in HEADING), default=-1)
         meaning.row_lines = [at for at, each in enumerate(shown) if each.row is not None]
         meaning.is_straight = all(piece.is_straight for piece in pieces)
         meaning.is_full = self._is_full
@@ -118,6 +122,8 @@ class Reader:
                 return self._edit(piece)
             case Kind.SHOW:
                 return self._look(piece)
+            case Kind.PROFILE:
+                return Shown(piece, self._header)
             case Kind.INPUT | Kind.WRONG:
                 return Shown(piece, self._verdicts.of(piece, self._above))
         return Shown(piece)

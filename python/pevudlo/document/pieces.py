@@ -7,7 +7,7 @@ from dataclasses import dataclass
 from enum import Enum
 from functools import lru_cache
 
-from pevudlo.lang.grammar import wrong_column
+from pevudlo.lang.grammar import PROFILE_COMMAND, wrong_column
 from pevudlo.lang.instructions import FIELDS, INSTRUCTIONS, NONE, Operand, read
 from pevudlo.wire.pipe import is_comment
 
@@ -23,6 +23,7 @@ class Kind(Enum):
 
     NOTHING = "a comment, or an empty line"
     WRONG = "a line that isn't in the grammar"
+    PROFILE = "the first command, where it is one for the profile"
     SET = "a set"
     FIELD = "a field"
     INPUT = "input data"
@@ -34,6 +35,9 @@ class Kind(Enum):
 
 
 DECLARING = (Kind.SET, Kind.FIELD)
+HEADING = (Kind.PROFILE, *DECLARING)
+"""Kinds of lines that say what the others may name, and how wide that is."""
+
 FIRM = (*DECLARING, Kind.DELETE, Kind.REPLACE)
 """Kinds of lines on which other lines hang."""
 
@@ -63,9 +67,34 @@ class Piece:
         return not (self.row or self.place == "after" or is_first or self.kind in (Kind.DELETE, Kind.REPLACE))
 
 
+def first_command(lines: Sequence[str]) -> int | None:
+    """The index of the first line that is a command of a script, or would be one; None where there is none."""
+    return next((at for at, line in enumerate(lines) if not is_comment(line)), None)
+
+
+def header_at(lines: Sequence[str]) -> int | None:
+    """The index of the first command where it is one for the profile, right or wrong; else None."""
+    at = first_command(lines)
+    return at if at is not None and lines[at].split(" ", 1)[0] == PROFILE_COMMAND else None
+
+
+def header_of(lines: Sequence[str]) -> str:
+    """The first command where it is one for the profile; else nothing."""
+    at = header_at(lines)
+    return "" if at is None else lines[at]
+
+
+def pieces_of(lines: Sequence[str]) -> list[Piece]:
+    """Reads a whole text."""
+    pieces, at = [piece_of(line) for line in lines], header_at(lines)
+    if at is not None:
+        pieces[at] = Piece(Kind.PROFILE, lines[at])
+    return pieces
+
+
 @lru_cache(maxsize=65_536)
 def piece_of(line: str) -> Piece:
-    """Reads a line."""
+    """Reads a line that isn't the first command for the profile."""
     if is_comment(line):
         return Piece(Kind.NOTHING, line)
     is_bare = line.split(" ", 1)[0] in INSTRUCTIONS

@@ -35,7 +35,7 @@ def array_of(values: Sequence[int]) -> Any:
 
 
 def numbers_in(text: str) -> Any:
-    """Numpy's array of many numbers below 2^64 with a space between each two; None where they are few or others."""
+    """Numpy's array of many numbers with a space between each two, each below 2^64. None where they are few."""
     numpy = numpy_here() if len(text) >= 2 * FEWEST else None
     if numpy is None or not text.isascii() or not text.replace(" ", "").isdigit():
         return None

@@ -9,6 +9,7 @@ from pevudlo.draw.grids import Grid, text_of
 from pevudlo.hints.explanation import MOST_SHOWN
 from pevudlo.lang.board import Board
 from pevudlo.lang.causes import MOST_NAMED, count_words, row_words
+from pevudlo.lang.profiles import WORD
 from pevudlo.lang.replies import Faults, OrderTaken, PendingReply, Refused, RowFault, Settled, Values, Verdict, Word
 from pevudlo.lang.same import same_words
 from pevudlo.talk import Answer
@@ -41,7 +42,7 @@ def values_text(line: str, values: Values, board: Board) -> tuple[str, list[str]
     where = f"after row {place[1]}" if len(place) == 2 else f"at the {place[0]}"
     axes, width = board.axes_of(key), board.width_of(key)
     assert axes is not None and width is not None
-    grid = Grid(key, axes, width, array("Q", values.numbers) if width <= 64 else values.numbers)
+    grid = Grid(key, axes, width, array("Q", values.numbers) if width <= WORD else values.numbers)
     shape = f"{board.set_of(key)} {'x'.join(map(str, axes))}"
     bits = "1 bit" if width == 1 else f"{width} bits"
     return f"values of {key} {where} ({shape}, {bits})", text_of(grid).split("\n")

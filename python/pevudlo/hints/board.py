@@ -7,6 +7,7 @@ from typing import Callable
 from pevudlo.hints.words import listed, nearest
 from pevudlo.lang.board import Board
 from pevudlo.lang.instructions import FIELDS, NONE, OPTIONAL, Instruction, Operand, read
+from pevudlo.lang.profiles import WIDEST
 
 MOST_PROCESSORS = 65_536
 MOST_ROWS_NAMED = 12
@@ -87,7 +88,10 @@ def field_hint(number: int, words: list[str], board: Board) -> str:
         return no_set(words[2], board)
     if number == 5:
         return "a run has at most 64 fields, over all sets"
-    return f"the width is {words[3]}, and a field has 1 to 64 bits"
+    said = f"the width is {words[3]}, and a field has 1 to {board.widest} bits"
+    if board.widest < int(words[3]) <= WIDEST:
+        said += f": where `paris 2` is the first command, it has up to {WIDEST}"
+    return said
 
 
 def input_hint(number: int, detail: int | None, words: list[str], board: Board) -> str:

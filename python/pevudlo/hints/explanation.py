@@ -64,7 +64,7 @@ def explained(line: str, refused: Refused, board: Board, where: Where = Where.SC
     is_syntax = refused.number == SYNTAX and refused.detail is not None
     column = refused.detail if is_syntax else None
     if column is not None:
-        hint = grammar_hint(line, column, where)
+        hint = grammar_hint(line, column, where, not board.is_begun)
     else:
         hint = board_hint(refused.number, refused.detail, line, board)
     return Explanation(refused.number, fault.name, fault.words(refused.detail), line, refused.detail, column, hint)

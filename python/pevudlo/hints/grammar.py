@@ -9,10 +9,11 @@ from pevudlo.hints.meanings import Where, begun_with, combined, direction_meant,
 from pevudlo.hints.odd import odd_bytes, odd_word
 from pevudlo.hints.words import listed, nearest
 from pevudlo.lang.grammar import (
-    COMMANDS,
     MOST_BYTES,
+    PROFILE_COMMAND,
     Kind,
     Slot,
+    commands,
     may_end,
     next_slots,
     operand_slots,
@@ -29,7 +30,7 @@ def slot_words(slot: Slot) -> str:
         return "an instruction, such as `u-add-3-1L D A B L`"
     if slot.kind is Kind.DIRECTION:
         return "the direction: upward to greater coordinates, or downward to lesser ones"
-    if slot.kind is Kind.INCLUSION:
+    if slot.kind in (Kind.INCLUSION, Kind.PROFILE):
         return f"{slot.role}, {slot.kind.value}"
     if slot.kind in (Kind.NUM, Kind.VAL):
         return f"{slot.role} (a number)"
@@ -49,22 +50,30 @@ def meant(word: str, slots: tuple[Slot, ...]) -> str | None:
     return nearest(word, known)
 
 
-def begin_hint(word: str, rest: str, where: Where) -> str:
-    """The hint for a line whose first word is no command."""
+def late_hint(where: Where) -> str:
+    """The hint for the command that chooses a profile where it isn't the first one."""
+    said = "`paris` is the first command or none: above it stand empty lines and comments alone"
+    return f"{said}. `new` begins anew" if where is Where.PROMPT else said
+
+
+def begin_hint(word: str, rest: str, where: Where, is_first: bool) -> str:
+    """The hint for a line whose first word is no command. `is_first`: no command stands above it."""
+    if word == PROFILE_COMMAND:
+        return late_hint(where)
     if said := begun_with(word, where):
         return said
     if word in INSTRUCTIONS:
         return f"an instruction becomes a row by insert: `insert end {visible(word + rest)}`"
     if said := meaning_of(word):
         return said if where is Where.FILE else f"{said}; an instruction becomes a row by insert: `insert end INSTR`"
-    if "-" not in word and (near := nearest(word, list(COMMANDS))):
+    if "-" not in word and (near := nearest(word, list(commands(is_first)))):
         return f"did you mean `{near}`?"
     near = combined(word) or nearest(word, list(INSTRUCTIONS))
     if near and where is Where.FILE:
         return f"did you mean `{near}`?"
     if near:
         return f"did you mean `{near}`? An instruction becomes a row by insert: `insert end {near}{visible(rest)}`"
-    return "a line begins with one of " + listed([f"`{c}`" for c in COMMANDS])
+    return "a line begins with one of " + listed([f"`{c}`" for c in commands(is_first)])
 
 
 def end_hint(words: list[str], word: str) -> str:
@@ -122,19 +131,22 @@ def meaning_hint(words: list[str], word: str, slots: tuple[Slot, ...]) -> str | 
     return said and f"{said}; here could stand {listed([slot_words(slot) for slot in slots])}"
 
 
-def grammar_hint(line: str, column: int, where: Where = Where.SCRIPT) -> str:
-    """Why a line leaves the grammar at a column, which counts bytes from 1, and what could stand there."""
+def grammar_hint(line: str, column: int, where: Where = Where.SCRIPT, is_first: bool = False) -> str:
+    """Why a line leaves the grammar at a column, which counts bytes from 1, and what could stand there.
+
+    `is_first` says that no command stands above it.
+    """
     if column > MOST_BYTES:
         return "a line has at most 65,536 bytes: cut it, as several `input` lines with a first processor each"
     words, word = words_before(line, column)
-    slots = next_slots(words)
+    slots = next_slots(words, is_first)
     if word is None:
         return wanted_hint(words, slots)
     said = odd_bytes(word)
     if said is None and not words:
-        return begin_hint(word, line[len(word) :], where)
+        return begin_hint(word, line[len(word) :], where, is_first)
     if said is None and not slots:
-        return (end_hint(words, word) if may_end(words) else "no command goes on so") + spelling_of(words)
+        return (end_hint(words, word) if may_end(words, is_first) else "no command goes on so") + spelling_of(words)
     could = "here could stand " + listed([slot_words(slot) for slot in slots]) if slots else ""
     if said is None and words == ["insert"]:
         said = insert_hint(line, word)

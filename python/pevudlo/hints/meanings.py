@@ -5,7 +5,7 @@ from __future__ import annotations
 import re
 from enum import Enum
 
-from pevudlo.lang.grammar import COMMANDS
+from pevudlo.lang.grammar import commands
 from pevudlo.lang.instructions import COMBINERS, INSTRUCTIONS
 
 
@@ -115,7 +115,7 @@ _EVERYWHERE = {
     "remove": "`delete ROW` takes a row out",
     "let": "`input KEY FROM VALUE ..` gives a key its values",
 }
-_COMMANDS = "the commands are " + ", ".join(COMMANDS)
+_COMMANDS = "the commands are " + ", ".join(commands(is_first=False))
 _THERE = {
     Where.SCRIPT: {
         **dict.fromkeys(("quit", "exit"), "the run ends with the end of the script"),

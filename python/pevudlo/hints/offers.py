@@ -48,7 +48,7 @@ def words_for(words: list[str], slot: Slot, board: Board) -> list[str]:
             return list(INSTRUCTIONS)
         case Kind.KEY:
             return board.keys()
-        case Kind.DIRECTION | Kind.INCLUSION:
+        case Kind.DIRECTION | Kind.INCLUSION | Kind.PROFILE:
             return str(slot.kind.value).split(" or ")
         case Kind.NUM:
             return numbers(words, slot, board)
@@ -63,5 +63,6 @@ def words_for(words: list[str], slot: Slot, board: Board) -> list[str]:
 
 def of_grammar(words: list[str], board: Board) -> list[str]:
     """Words of a command behind these words. One that more has to follow has a space behind it."""
-    found = [word for slot in next_slots(words) for word in words_for(words, slot, board)]
-    return [word if may_end([*words, word]) else f"{word} " for word in dict.fromkeys(found)]
+    is_first = not board.is_begun
+    found = [word for slot in next_slots(words, is_first) for word in words_for(words, slot, board)]
+    return [word if may_end([*words, word], is_first) else f"{word} " for word in dict.fromkeys(found)]

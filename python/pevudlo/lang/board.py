@@ -7,6 +7,7 @@ from math import prod
 
 from pevudlo.lang.instructions import FIELDS, FLAGS, Operand, read
 from pevudlo.lang.order import RowOrder
+from pevudlo.lang.profiles import PROFILES, USUAL
 
 
 @dataclass(frozen=True)
@@ -17,10 +18,20 @@ class Declared:
     width: int
 
 
+@dataclass(frozen=True)
+class Replaced:
+    """What an edit of a row takes away: the row's text, and the row before it."""
+
+    text: str = ""
+    before: int | None = None
+
+
 @dataclass
 class Board:
     """The sets with the lengths of their axes, the fields, the rows' ids in program order, their texts, how many orders
     were taken, and the row of each. Rows that were put in by who doesn't tell the board aren't known to it.
+
+    `profile` is that of the run, and `is_begun` says that it has had its first command, which alone may choose it.
     """
 
     sets: dict[str, tuple[int, ...]] = field(default_factory=dict)
@@ -29,14 +40,19 @@ class Board:
     texts: dict[int, str] = field(default_factory=dict)
     orders: int = 0
     ordered: dict[int, int] = field(default_factory=dict)
+    profile: int = USUAL
+    is_begun: bool = False
     _written: dict[str, tuple[str, ...]] = field(default_factory=dict)
 
     def note(self, line: str, reply: str) -> None:
-        """Takes in a command and the first line of its reply. A command that was refused changes nothing."""
+        """Takes in a command and the first line of its reply. A command that was refused declares nothing."""
         command = line.split(" ", 1)[0]
+        self.is_begun = True
         if reply.startswith("refused"):
             return
-        if command == "set":
+        if command == "paris":
+            self.profile = int(line.split(" ")[1])
+        elif command == "set":
             _, name, axes = line.split(" ")
             self.sets[name] = tuple(map(int, axes.split("x")))
         elif command == "field":
@@ -56,6 +72,56 @@ class Board:
             self.orders = int(order)
             self.ordered[self.orders] = int(row)
 
+    def replaced_by(self, line: str) -> Replaced:
+        """What an edit is about to take away."""
+        command, _, rest = line.partition(" ")
+        word = rest.split(" ", 1)[0]
+        if command not in ("delete", "replace") or not (word.isascii() and word.isdigit() and len(word) < 20):
+            return Replaced()
+        row = int(word)
+        return Replaced(self.texts.get(row, ""), self.order.before(row))
+
+    def take_back(self, line: str, reply: str, replaced: Replaced) -> None:
+        """Takes an accepted edit out again: the last that was noted, and wasn't taken out."""
+        command, _, rest = line.partition(" ")
+        word = rest.split(" ", 1)[0]
+        if command == "set":
+            del self.sets[word]
+        elif command == "field":
+            del self.fields[word]
+        elif command == "insert":
+            row = int(reply.split(" ")[1])
+            self.order.take_out(row)
+            self.texts.pop(row, None)
+        elif command == "replace":
+            self.texts[int(word)] = replaced.text
+        elif command == "delete":
+            self._put_back(int(word), replaced)
+        if command in ("set", "field"):
+            # An instruction of a name that is declared anew may write other keys.
+            self._written.clear()
+
+    def _put_back(self, row: int, replaced: Replaced) -> None:
+        """Puts a row that was deleted into its place."""
+        if replaced.before is None:
+            self.order.put_first(row)
+        else:
+            self.order.put_after(replaced.before, row)
+        self.texts[row] = replaced.text
+
+    def copy(self) -> Board:
+        """The same board, apart from this one."""
+        return Board(
+            dict(self.sets),
+            dict(self.fields),
+            self.order.copy(),
+            dict(self.texts),
+            self.orders,
+            dict(self.ordered),
+            self.profile,
+            self.is_begun,
+        )
+
     def _insert(self, line: str, row: int) -> None:
         """Puts a new row in its place."""
         _, place, rest = line.split(" ", 2)
@@ -67,6 +133,11 @@ class Board:
         else:
             self.order.put_last(row)
         self.texts[row] = rest
+
+    @property
+    def widest(self) -> int:
+        """The greatest width that a field may have, in bits."""
+        return PROFILES[self.profile]
 
     @property
     def rows(self) -> list[int]:

@@ -12,6 +12,7 @@ from enum import Enum
 from typing import Iterator, Sequence
 
 from pevudlo.lang.instructions import FLAGS, INSTRUCTIONS, NONE, Instruction, Operand
+from pevudlo.lang.profiles import PROFILES
 
 MOST_BYTES = 65_536
 NAME = re.compile(r"[A-Za-z][A-Za-z0-9_-]{0,15}")
@@ -31,6 +32,7 @@ class Kind(Enum):
     DIRECTION = "upward or downward"
     INCLUSION = "inclusive or exclusive"
     OPTIONAL_NAME = "a name or none"
+    PROFILE = "1 or 2"
 
 
 @dataclass(frozen=True)
@@ -79,6 +81,8 @@ def is_of_kind(kind: Kind, word: str) -> bool:
             return word == NONE or is_name(word)
         case Kind.INSTRUCTION:
             return word in INSTRUCTIONS
+        case Kind.PROFILE:
+            return word in map(str, PROFILES)
         case Kind.DIRECTION | Kind.INCLUSION:
             return word in kind.value.split(" or ")
         case Kind.WORD:
@@ -114,8 +118,11 @@ def _form(*parts: str | Slot) -> tuple[Slot, ...]:
     return tuple(Slot(Kind.WORD, word=part) if isinstance(part, str) else part for part in parts)
 
 
+# The command that may be a script's first one, and no other.
+FIRST = _form("paris", Slot(Kind.PROFILE, "the profile"))
 # Each command. Where the last slot is an instruction, its operands follow. Behind the value of `input` may stand more.
 FORMS = (
+    FIRST,
     _form("set", Slot(Kind.NAME, "the new set's name"), Slot(Kind.AXES, "the axes' lengths joined by x, as 4 or 2x2")),
     _form("field", Slot(Kind.NAME, "the new field's name"), Slot(Kind.NAME, "its set"), Slot(Kind.NUM, "its width")),
     _form("input", _KEY, Slot(Kind.NUM, "the first processor"), _VALUE),
@@ -134,7 +141,9 @@ FORMS = (
     _form("faults"),
     _form("settle"),
 )
+LATER = tuple(form for form in FORMS if form is not FIRST)
 COMMANDS = tuple(dict.fromkeys(form[0].word for form in FORMS))
+PROFILE_COMMAND = FIRST[0].word
 
 
 def operand_slots(instruction: Instruction) -> tuple[Slot, ...]:
@@ -155,22 +164,33 @@ def whole_form(form: tuple[Slot, ...], words: Sequence[str]) -> tuple[Slot, ...]
     return form
 
 
-def fitting(words: Sequence[str]) -> Iterator[tuple[Slot, ...]]:
-    """The forms that begin with these words."""
-    for form in FORMS:
+def forms(is_first: bool) -> tuple[tuple[Slot, ...], ...]:
+    """The commands that a script may have in a place: in that of its first command, or in another one."""
+    return FORMS if is_first else LATER
+
+
+def commands(is_first: bool) -> tuple[str, ...]:
+    """The words with which a command begins in such a place."""
+    return tuple(dict.fromkeys(form[0].word for form in forms(is_first)))
+
+
+def fitting(words: Sequence[str], is_first: bool = False) -> Iterator[tuple[Slot, ...]]:
+    """The forms that begin with these words. `is_first` says here and below that they are a script's first command."""
+    for form in forms(is_first):
         whole = whole_form(form, words)
         if len(words) <= len(whole) and all(slot.takes(word) for slot, word in zip(whole, words)):
             yield whole
 
 
-def next_slots(words: Sequence[str]) -> tuple[Slot, ...]:
+def next_slots(words: Sequence[str], is_first: bool = False) -> tuple[Slot, ...]:
     """What may stand behind these words, each once. None where no command goes on behind them."""
-    return tuple(dict.fromkeys(form[len(words)] for form in fitting(words) if len(form) > len(words)))
+    return tuple(dict.fromkeys(form[len(words)] for form in fitting(words, is_first) if len(form) > len(words)))
 
 
-def may_end(words: Sequence[str]) -> bool:
+def may_end(words: Sequence[str], is_first: bool = False) -> bool:
     """Whether these words are a whole command."""
-    return any(len(form) == len(words) or (form[-1] is _VALUE and len(words) >= 4) for form in fitting(words))
+    found = fitting(words, is_first)
+    return any(len(form) == len(words) or (form[-1] is _VALUE and len(words) >= 4) for form in found)
 
 
 def words_before(line: str, column: int) -> tuple[list[str], str | None]:
@@ -181,15 +201,15 @@ def words_before(line: str, column: int) -> tuple[list[str], str | None]:
     return before.split(" ")[:-1], line[len(before) :].split(" ", 1)[0]
 
 
-def wrong_column(line: str) -> int | None:
+def wrong_column(line: str, is_first: bool = False) -> int | None:
     """The column where a line leaves the grammar, which is that of fault 20, or None where it is a command."""
     if len(line.encode("utf-8", "surrogateescape")) > MOST_BYTES:
         return MOST_BYTES + 1
     words = line.split(" ")
-    right = max(count_right(whole_form(form, words), words) for form in FORMS)
+    right = max(count_right(whole_form(form, words), words) for form in forms(is_first))
     if right < len(words):
         return len(" ".join([*words[:right], ""]).encode("utf-8", "surrogateescape")) + 1
-    return None if may_end(words) else len(line.encode("utf-8", "surrogateescape")) + 1
+    return None if may_end(words, is_first) else len(line.encode("utf-8", "surrogateescape")) + 1
 
 
 def count_right(form: tuple[Slot, ...], words: Sequence[str]) -> int:

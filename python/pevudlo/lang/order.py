@@ -30,6 +30,16 @@ class RowOrder:
         """The last row, or None where there is none."""
         return self._preceding[_ENDS] or None
 
+    def before(self, row: int) -> int | None:
+        """The row before another one, or None where that is the first, or isn't known here."""
+        return self._preceding.get(row, _ENDS) or None
+
+    def copy(self) -> RowOrder:
+        """The same order, apart from this one."""
+        order = RowOrder()
+        order._following, order._preceding = dict(self._following), dict(self._preceding)
+        return order
+
     def put_first(self, row: int) -> None:
         """Puts a row before all others."""
         self._put(row, _ENDS)

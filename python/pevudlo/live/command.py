@@ -9,12 +9,14 @@ from argparse import ArgumentTypeError, Namespace
 from pathlib import Path
 from types import FrameType
 
-from pevudlo.arguments import Arguments, add_quiet, file_name
+from pevudlo.arguments import Arguments, add_program, add_quiet, file_name
 from pevudlo.draw.visible import visible
 from pevudlo.files import read_lines, why
 from pevudlo.live.followed import FollowedSession
+from pevudlo.live.running import RunningSession
 from pevudlo.live.server import Server
 from pevudlo.live.session import Session, Stopped
+from pevudlo.wire.library_places import find_library_or_none
 from pevudlo.wire.pipe import PipeError
 from pevudlo.wire.program import NotFound, find
 
@@ -36,6 +38,9 @@ def arguments() -> Arguments:
     parser = Arguments("live", DOES)
     parser.add_argument("file", nargs="?", type=file_name, metavar="FILE", help="a script that the program begins with")
     add_quiet(parser)
+    add_program(parser)
+    said = "several tabs edit at once; without it one does, and the others look"
+    parser.add_argument("--shared", action="store_true", help=said)
     said = "hold the page in step with FILE while it is edited, on the page as a text too, which is written into FILE"
     parser.add_argument("--follow", action="store_true", help=said)
     said = "the port; 0 is any that is free (default: %(default)s)"
@@ -60,13 +65,21 @@ def serve(session: Session, title: str, port: int) -> None:
 
 
 def begun(said: Namespace, lines: list[str]) -> Session:
-    """A session of a script, or of a file that is followed. Raises NotFound, Stopped and PipeError."""
+    """A session of a script, or of a file that is followed. Raises NotFound, Stopped and PipeError.
+
+    Rows run by themselves in the library where that is there, and the program isn't wanted.
+    """
     if said.follow:
         followed = FollowedSession(Path(said.file), find(), said.workers, said.quiet)
         followed.look()
         threading.Thread(target=followed.follow, daemon=True).start()
         return followed
-    session = Session(find(), said.workers, said.quiet)
+    library = None if said.program else find_library_or_none()
+    session = (
+        Session(find(), said.workers, said.quiet)
+        if library is None
+        else RunningSession(library, said.workers, said.quiet, said.shared)
+    )
     try:
         refused = session.load(lines)
     except BaseException:

@@ -35,6 +35,9 @@ def live_document(title: str, is_followed: bool = False) -> str:
 _BODY = """
 <div id="trouble"></div>
 <div id="head" class="head" aria-live="polite"></div>
+<div id="pen" hidden><p class="other">Another tab edits, and this one looks.
+<button data-act="pen">Edit here</button></p></div>
+<p id="why" class="why" role="status" hidden></p>
 <div id="note" aria-live="assertive"></div>
 <!-- text -->
 <section class="block" id="edit-part">

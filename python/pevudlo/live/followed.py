@@ -9,10 +9,11 @@ from pathlib import Path
 from pevudlo.document.document import Document
 from pevudlo.document.edits import edited
 from pevudlo.document.marks import headline, mark_of
-from pevudlo.document.pieces import Kind, piece_of
+from pevudlo.document.pieces import Kind, first_command, piece_of
 from pevudlo.document.update import Update
 from pevudlo.document.watched import Watched
 from pevudlo.files import write_text
+from pevudlo.lang.grammar import PROFILE_COMMAND, wrong_column
 from pevudlo.lang.replies import NoReply, parse
 from pevudlo.live.session import CHANGING, LISTED_A_STEP, Session, Stopped
 from pevudlo.record.recorder import LOOKS, Step
@@ -138,8 +139,11 @@ class FollowedSession(Session):
         with self.lock:
             self.look()
             self._check_row(line, was)
-            if word in CHANGING and word not in EDITING:
+            if word in CHANGING and word not in (PROFILE_COMMAND, *EDITING):
                 raise ValueError(BY_THEMSELVES)
+            is_first = word == PROFILE_COMMAND and first_command(self.document.lines) is None
+            if is_first and wrong_column(line, is_first) is None:
+                return self._edit(line)
             piece = piece_of(line)
             if word not in EDITING or piece.kind is Kind.WRONG:
                 return self._refused_step(line)

@@ -2,13 +2,16 @@
 
 from __future__ import annotations
 
+from collections.abc import Iterable
 from dataclasses import dataclass
 from functools import lru_cache
 
+from pevudlo.lang.board import Board
 from pevudlo.lang.instructions import read
 from pevudlo.lang.replies import Row, RowFault, Status
 from pevudlo.record.looks import Look, RowRun
 from pevudlo.record.recorder import Recorder, Step, Touched
+from pevudlo.wire.peers import Peer
 
 
 @dataclass(frozen=True)
@@ -48,6 +51,7 @@ class Seen:
         self._starts: dict[str, Look] = {}
         self._shown: dict[str, tuple[Row, Look]] = {}
         self._writers: dict[str, int] = {}
+        self._looked: dict[int, int] = {}
         self._writers_of: tuple[str, list[tuple[int, str]]] = ("", [])
 
     def note(self, step: Step) -> None:
@@ -64,6 +68,26 @@ class Seen:
             again = frozenset([row.row for row in step.ran.rows if row.row in kept and stores_all(row.text)])
             if again:
                 self._note_runs(self.recorder.looker.runs(step.ran.rows, again))
+
+    def turn_to(self, peer: Peer, board: Board) -> None:
+        """Looks at another peer from now on, which has the same program at another time."""
+        looker = self.recorder.looker
+        looker.peer = peer
+        looker.board = self.recorder.board = self.board = board
+        looker.changed()
+
+    def forget_starts(self, keys: Iterable[str]) -> None:
+        """Forgets input data that was given anew."""
+        for key in keys:
+            self._starts.pop(key, None)
+
+    def see_runs(self) -> None:
+        """Looks at what the rows did that weren't looked at since they settled."""
+        settled = {row.row: row.edition for row in self.rows if row.status is Status.SETTLED}
+        ran = frozenset(row for row, edition in settled.items() if self._looked.get(row) != edition)
+        self._looked = settled
+        if ran:
+            self._note_runs(self.recorder.looker.runs(self.rows, ran))
 
     def see_rows(self) -> None:
         """The rows as they are. What was seen of rows that are other now is forgotten."""

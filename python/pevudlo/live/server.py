@@ -20,8 +20,11 @@ from pevudlo.live.connections import ANSWER_SECONDS, LimitedServer, TimelyReader
 from pevudlo.files import why
 from pevudlo.live.document import live_document
 from pevudlo.live.followed import FollowedSession, OtherText
+from pevudlo.live.running import OtherTab, RunningSession
+from pevudlo.live.running_view import RunningView
 from pevudlo.live.session import OtherRow, Session, Stopped
 from pevudlo.live.view import View, other_row, told
+from pevudlo.record.recorder import LOOKS
 
 HOST = "127.0.0.1"
 MOST_BYTES = 65_536 + 1_024
@@ -52,6 +55,37 @@ def type_text(session: FollowedSession, asked: dict[str, str]) -> dict[str, obje
     return {"number": session.number}
 
 
+RUNNING = ("go", "stop", "undo", "redo", "history")
+"""What can be done with rows that run by themselves."""
+
+OTHER_TAB = '<p class="other">Another tab edits, and this one looks. <button data-act="pen">Edit here</button></p>'
+
+
+def run_by_itself(session: RunningSession, name: str, asked: dict[str, str]) -> dict[str, object] | None:
+    """Does what is of rows that run by themselves. A tab that looks is told so. None where something else is asked.
+
+    Raises KeyError and ValueError where nobody can do it.
+    """
+    if name == "pen":
+        session.take_pen(asked["tab"])
+    elif name in RUNNING or (name == "command" and asked["line"].split(" ")[0] not in LOOKS):
+        try:
+            session.check_tab(asked.get("tab", ""))
+        except OtherTab:
+            return {"reply": [], "refused": OTHER_TAB}
+        if name == "command":
+            return None
+        if name == "history":
+            if not is_number(asked["place"]):
+                raise ValueError("a place of the history is wanted")
+            session.go_to(int(asked["place"]))
+        else:
+            {"go": session.go_on, "stop": session.stop, "undo": session.undo, "redo": session.redo}[name]()
+    else:
+        return None
+    return {"reply": [], "refused": ""}
+
+
 class Unwelcome(Exception):
     """A request that is refused, with the status of the answer."""
 
@@ -66,7 +100,7 @@ class Server(LimitedServer):
     def __init__(self, session: Session, title: str, port: int = 0) -> None:
         super().__init__((HOST, port), Handler)
         self.session = session
-        self.view = View(session)
+        self.view = RunningView(session) if isinstance(session, RunningSession) else View(session)
         self.title = title
         self.token = secrets.token_urlsafe(24)
         self.listeners = 0
@@ -156,6 +190,10 @@ class Handler(BaseHTTPRequestHandler):
     def _act(self, name: str, asked: dict[str, str]) -> dict[str, object]:
         """Does what is asked, and says what came of it. Raises KeyError and ValueError where nobody can do it."""
         session = self.server.session
+        if isinstance(session, RunningSession):
+            done = run_by_itself(session, name, asked)
+            if done is not None:
+                return done
         if name == "command":
             try:
                 step = session.run(asked["line"], asked.get("was"))

@@ -30,16 +30,20 @@ LISTED_A_STEP = 1_000_000
 KEPT_STEPS = 60
 """How many commands are shown with their replies."""
 
-CHANGING = ("set", "field", "input", "insert", "delete", "replace", "take", "bring", "release", "settle")
+CHANGING = ("paris", "set", "field", "input", "insert", "delete", "replace", "take", "bring", "release", "settle")
 
 
 class OtherRow(Exception):
-    """A row isn't what it was when its edit began. `text` is its present instruction, None where the row is gone."""
+    """A row isn't what it was when its edit began. `text` is its present instruction, None where the row is gone.
 
-    def __init__(self, row: int, text: str | None) -> None:
+    `mine` is the instruction that it was to get.
+    """
+
+    def __init__(self, row: int, text: str | None, mine: str = "") -> None:
         super().__init__(row, text)
         self.row = row
         self.text = text
+        self.mine = mine
 
 
 class Stopped(Exception):
@@ -98,7 +102,8 @@ class Session:
         if row.isascii() and row.isdigit() and len(row) < 20 and int(row):
             text = self.board.texts.get(int(row))
             if text != was:
-                raise OtherRow(int(row), text)
+                mine = line.split(" ", 2)[2] if line.startswith("replace ") and line.count(" ") > 1 else ""
+                raise OtherRow(int(row), text, mine)
 
     @property
     def commands(self) -> int:

@@ -2,8 +2,9 @@
 
 from __future__ import annotations
 
-from collections.abc import Sequence
+from collections.abc import Reversible, Sequence
 from dataclasses import dataclass, field
+from typing import Protocol
 
 from pevudlo.draw.arrays import extent
 from pevudlo.draw.grids import Grid, html_of
@@ -26,11 +27,51 @@ _STATES = {
 }
 
 
+class Shown(Protocol):
+    """A session as it is drawn: itself, or how it was at a moment."""
+
+    @property
+    def version(self) -> int:
+        """Rises with each change."""
+
+    @property
+    def number(self) -> int:
+        """Counts the texts of a file that is followed."""
+
+    @property
+    def trouble(self) -> str:
+        """Why the program has ended, where it has."""
+
+    @property
+    def caret(self) -> str:
+        """The place of the caret."""
+
+    @property
+    def steps(self) -> Reversible[tuple[int, Step]]:
+        """The last commands with their numbers, the last one last."""
+
+    @property
+    def seen(self) -> Seen:
+        """What is known of the rows and the keys."""
+
+    @property
+    def board(self) -> Board:
+        """What is declared."""
+
+    @property
+    def commands(self) -> int:
+        """How many commands the program took."""
+
+    def keys(self) -> tuple[list[Look], list[Look]]:
+        """Every key at the start, and every key at the caret."""
+
+
 @dataclass
 class View:
     """The fragments of a session with the version at which each became what it is, and their order in lists."""
 
     session: Session
+    shown: Shown = field(init=False)
     fragments: dict[str, tuple[str, int]] = field(default_factory=dict)
     orders: dict[str, tuple[object, int]] = field(default_factory=dict)
     version: int = 0
@@ -39,27 +80,42 @@ class View:
     _keys: dict[str, tuple[Look, str]] = field(default_factory=dict)
     _edit: tuple[Edit | None, str] = (None, "")
 
+    def __post_init__(self) -> None:
+        self.shown = self.session
+
     def since(self, seen: int) -> dict[str, object]:
         """What a tab that has seen a version wants to know: fragments and orders that are other since."""
         with self.session.lock:
             self._renew()
-            return {
-                "version": self.version,
-                "caret": self.session.caret,
-                "text": self.session.number,
-                "orders": {name: order for name, (order, version) in self.orders.items() if version > seen},
-                "html": {name: html for name, (html, version) in self.fragments.items() if version > seen},
-            }
+            return self._news(seen)
+
+    def _news(self, seen: int) -> dict[str, object]:
+        """The fragments and orders that are other since a version."""
+        return {
+            "version": self.version,
+            "caret": self.shown.caret,
+            "text": self.shown.number,
+            "orders": {name: order for name, (order, version) in self.orders.items() if version > seen},
+            "html": {name: html for name, (html, version) in self.fragments.items() if version > seen},
+        }
+
+    def _head(self) -> str:
+        """The head of the page."""
+        return head(self.session)
+
+    def _card(self, row: Row, run: RowRun | None, cause: str) -> str:
+        """A row."""
+        return card(row, run, cause, self.shown.board)
 
     def _renew(self) -> None:
         """Brings the fragments up to date. A program that ends on the way leaves what isn't asked of it."""
-        if self.version == self.session.version:
+        if self.version == self.shown.version:
             return
-        version, session = self.session.version, self.session
+        version, session = self.shown.version, self.shown
         if self._edit[0] is not session.seen.edit:
             self._edit = (session.seen.edit, last_edit(session.seen.edit))
-        parts = {"head": head(session), "trouble": trouble(session), "edit": self._edit[1]}
-        parts |= {f"log-{number}": told(step) for number, step in session.steps}
+        parts = {"head": self._head(), "trouble": trouble(session), "edit": self._edit[1]}
+        parts |= {f"log-{number}": told(step) for number, step in reversed(session.steps)}
         orders: dict[str, object] = {"log": [f"log-{number}" for number, _ in reversed(session.steps)]}
         self._renew_rows(parts, orders)
         try:
@@ -77,13 +133,13 @@ class View:
 
     def _renew_rows(self, parts: dict[str, str], orders: dict[str, object]) -> None:
         """The rows of which something is other than it was."""
-        seen = self.session.seen
+        seen = self.shown.seen
         rows = [row.row for row in seen.rows]
         fresh = seen.fresh if seen is self._seen else set(rows)
         for row in seen.rows if fresh else ():
             if row.row in fresh:
                 run, cause = seen.runs.get(row.row), seen.causes.get(row.row, "")
-                parts[f"row-{row.row}"] = card(row, run, cause, self.session.board)
+                parts[f"row-{row.row}"] = self._card(row, run, cause)
         if rows != self._rows:
             orders["rows"] = ranges_of(rows)
         self._rows, self._seen = rows, seen
@@ -99,7 +155,7 @@ class View:
 
     def _add_keys(self, parts: dict[str, str], orders: dict[str, object]) -> None:
         """Input data, and what the keys are at the caret."""
-        for kind, looks in zip(("input", "value"), self.session.keys()):
+        for kind, looks in zip(("input", "value"), self.shown.keys()):
             grids = {f"{kind}-{look.key}": self._key(f"{kind}-{look.key}", look, kind == "input") for look in looks}
             orders[f"{kind}s"] = list(grids)
             parts |= grids
@@ -109,7 +165,7 @@ class View:
         kept = self._keys.get(name)
         if kept is not None and (kept[0] is look or is_same(kept[0], look)):
             return kept[1]
-        html = key_html(look, self.session.board, is_input)
+        html = key_html(look, self.shown.board, is_input)
         self._keys[name] = (look, html)
         return html
 
@@ -136,11 +192,12 @@ def ranges_of(rows: Sequence[int]) -> list[list[int]]:
     return ranges
 
 
-def card(row: Row, run: RowRun | None, cause: str, board: Board) -> str:
-    """A row with its buttons, and what it wrote, that it is pending, or why it is refused."""
+def card(row: Row, run: RowRun | None, cause: str, board: Board, more: str = "") -> str:
+    """A row with its buttons, and what it wrote, that it is pending, or why it is refused. It has `more` attributes."""
     kind, mark, word = ("refused", "✕", "refused for its data") if cause else _STATES[row.status]
     return (
-        f'<article class="row {kind}" data-row="{row.row}" aria-label="row {row.row}"><header>{row_id(row.row)}'
+        f'<article class="row {kind}" data-row="{row.row}"{more} aria-label="row {row.row}">'
+        f"<header>{row_id(row.row)}"
         f'<button class="text" data-act="edit" title="Edit this row">{command(row.text)}</button>'
         f'<span class="state">{sign(mark)} {word}</span>'
         f'<span class="acts"><button data-act="after" title="Move the caret behind this row">caret</button>'
@@ -234,13 +291,14 @@ def told(step: Step) -> str:
 
 def other_row(error: OtherRow) -> str:
     """That a row is another than it was when its edit began."""
+    mine = f" Yours was {command(error.mine)}." if error.mine else ""
     if error.text is None:
-        return f'<p class="other">{sign("✕")} Row {error.row} was deleted meanwhile. Nothing was changed.</p>'
-    now = f"Row {error.row} was changed meanwhile, and is now {command(error.text)}."
+        return f'<p class="other">{sign("✕")} Row {error.row} was deleted meanwhile.{mine} Nothing was changed.</p>'
+    now = f"Row {error.row} was changed meanwhile, and is now {command(error.text)}.{mine}"
     return f'<p class="other">{sign("✕")} {now} Nothing was changed. Enter once more replaces it.</p>'
 
 
-def trouble(session: Session) -> str:
+def trouble(session: Shown) -> str:
     """That the program has ended, and a way to start it again."""
     if not session.trouble:
         return ""

@@ -7,7 +7,7 @@ from typing import Any
 from pevudlo.document.pieces import BARE
 from pevudlo.hints.offers import of_grammar
 from pevudlo.lang.board import Board
-from pevudlo.lang.grammar import COMMANDS
+from pevudlo.lang.grammar import COMMANDS, commands
 from pevudlo.lang.instructions import INSTRUCTIONS
 from pevudlo.lsp.opened import Opened
 from pevudlo.lsp.positions import letter_at, units
@@ -20,7 +20,7 @@ def completion(file: Opened, params: dict[str, Any]) -> dict[str, Any]:
     number, line = params["position"]["line"], file.line(params["position"]["line"])
     before = line[: letter_at(line, params["position"]["character"])]
     *words, begun = before.split(" ")
-    board = file.document.board_above(number) if number < len(file.document.lines) else file.document.book.board
+    board = file.document.board_above(number)
     start = {"line": number, "character": units(before[: len(before) - len(begun)])}
     where = {"start": start, "end": params["position"]}
     found = [word for word in offers(words, board) if word.startswith(begun)]
@@ -30,7 +30,7 @@ def completion(file: Opened, params: dict[str, Any]) -> dict[str, Any]:
 def offers(words: list[str], board: Board) -> list[str]:
     """What may stand behind these words. An instruction may stand alone."""
     if not words:
-        return [*COMMANDS, *INSTRUCTIONS]
+        return [*commands(not board.is_begun), *INSTRUCTIONS]
     told = [*BARE.split(), *words] if words[0] in INSTRUCTIONS else words
     return [word.rstrip() for word in of_grammar(told, board)]
 

@@ -30,7 +30,7 @@ class Block:
     steps: tuple[Step, ...]
 
 
-_KINDS = {"set": Kind.DECLARED, "field": Kind.DECLARED, "input": Kind.GIVEN, "show": Kind.LOOKS}
+_KINDS = {"paris": Kind.DECLARED, "set": Kind.DECLARED, "field": Kind.DECLARED, "input": Kind.GIVEN, "show": Kind.LOOKS}
 _KINDS |= {"insert": Kind.ROWS, "delete": Kind.ROWS, "replace": Kind.ROWS}
 
 

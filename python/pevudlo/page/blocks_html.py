@@ -6,6 +6,7 @@ from collections.abc import Callable
 
 from pevudlo.draw.grids import Grid, html_of, shape_text
 from pevudlo.lang.board import Board
+from pevudlo.lang.grammar import PROFILE_COMMAND
 from pevudlo.lang.keys import axes_of, width_of
 from pevudlo.lang.replies import Faults, PendingReply, Rows, Values
 from pevudlo.lang.same import same_words
@@ -35,12 +36,17 @@ def heading_of(block: Block) -> tuple[str, str]:
     if block.kind is Kind.ORDERS:
         return "›", _heading_of_orders(block)
     return {
-        Kind.DECLARED: ("▦", "Sets and fields"),
+        Kind.DECLARED: ("▦", _heading_of_declarations(block)),
         Kind.GIVEN: ("▸", "Input data"),
         Kind.ROWS: ("+", "Rows"),
         Kind.EDIT: ("✎", "Edit"),
         Kind.REFUSED: ("✕", "Refused"),
     }[block.kind]
+
+
+def _heading_of_declarations(block: Block) -> str:
+    """What is declared."""
+    return "Profile" if all(step.word == PROFILE_COMMAND for step in block.steps) else "Sets and fields"
 
 
 def _heading_of_looks(block: Block) -> str:
@@ -114,8 +120,10 @@ def _line(step: Step, more: str = "") -> str:
 
 
 def _declared(block: Block, board: Board) -> str:
-    """Sets with their axes, and the fields of each with their widths."""
+    """The profile, where it is said, sets with their axes, and the fields of each with their widths."""
     parts = [prose(step.comments) for step in block.steps]
+    if block.steps[0].word == PROFILE_COMMAND:
+        parts.append(f"<p><b>Profile {board.profile}</b> fields of up to {board.widest} bits</p>")
     names = [step.text.split(" ")[1] for step in block.steps]
     sets = [
         name

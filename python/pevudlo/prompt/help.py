@@ -54,6 +54,14 @@ OWN_WORDS = (
         "Saves the accepted commands as a script that gives the same state. What the file held before stays as FILE~.",
     ),
     OwnWord("new", "new", "Begins anew, with nothing declared."),
+    OwnWord("undo", "undo", "Takes the last edit back, with the results that were there before it."),
+    OwnWord("redo", "redo", "Makes the edit again that was taken back last."),
+    OwnWord(
+        "start",
+        "start",
+        "Rows run by themselves from now on, while lines are typed. The terminal's foot says how many are settled.",
+    ),
+    OwnWord("stop", "stop", "Rows run by themselves no more. Those that run now are waited for, and kept."),
     OwnWord(
         "again",
         "again",

@@ -13,9 +13,17 @@ from pevudlo.progress import Progress, progress
 from pevudlo.prompt.columns import fitting
 from pevudlo.prompt.help import OWN, help_for, own_word_for
 from pevudlo.prompt.lines import Reader
-from pevudlo.prompt.session import Session, Stopped
+from pevudlo.prompt.session import OverProgram, Session, Stopped
 from pevudlo.prompt.show import WAYS, View, answer_lines, is_told
 from pevudlo.reference.text import WIDTH
+from pevudlo.running.words import settled_words
+
+BACKGROUND = ("undo", "redo", "start", "stop")
+
+
+def shortened(line: str) -> str:
+    """A line, or its beginning where it is long."""
+    return visible(line if len(line) <= 100 else line[:97] + "...")
 
 
 class Prompt:
@@ -58,13 +66,48 @@ class Prompt:
         try:
             if word in WAYS:
                 self.show_by(word, rest)
+            elif word in BACKGROUND and not rest:
+                self.run_by_itself(word)
             elif word in OWN:
                 self.own(word, rest)
             else:
                 self.tell(line)
         except Stopped as stopped:
             self.say(f"no program runs: {stopped}", self.kept_words())
+        except MemoryError as error:
+            self.say(str(error))
         return True
+
+    def run_by_itself(self, word: str) -> None:
+        """Takes edits back, or has rows run by themselves."""
+        session = self.session
+        try:
+            if word in ("undo", "redo"):
+                line = session.undo() if word == "undo" else session.redo()
+                self.say(f"{'taken back' if word == 'undo' else 'made again'}: {shortened(line)}")
+            elif word == "start":
+                session.go_on()
+                self.say("rows run by themselves from now on")
+            else:
+                session.stop()
+                self.say(self.progress_words())
+        except IndexError as error:
+            self.say(str(error))
+        except OverProgram:
+            self.say(f"`{word}` is of the library, and a program answers here")
+
+    def progress_words(self) -> str:
+        """How many rows are settled."""
+        background = self.session.background
+        return "" if background is None else settled_words(background.progress)
+
+    def interrupted(self) -> None:
+        """Says what Ctrl-C has left."""
+        self.session.interrupt()
+        if self.session.background is None:
+            self.say("", "no program runs: it was interrupted", self.kept_words())
+        else:
+            self.say("", f"stopped: {self.progress_words()}")
 
     def may_drop(self, what: str) -> bool:
         """Whether the accepted commands may be dropped: at once where all are saved, else when it is asked twice."""
@@ -154,6 +197,7 @@ class Prompt:
 
     def save(self, path: Path) -> None:
         """Saves the accepted commands."""
+        self.session.complete()
         try:
             write_lines(path, self.session.accepted)
         except (OSError, ValueError) as error:
@@ -176,7 +220,6 @@ def talk(prompt: Prompt, reader: Reader) -> None:
         try:
             goes_on = prompt.handle("quit" if line is None else line)
         except KeyboardInterrupt:
-            prompt.session.interrupt()
-            prompt.say("", "no program runs: it was interrupted", prompt.kept_words())
+            prompt.interrupted()
         if not prompt.session.is_running:
             reader.drop()

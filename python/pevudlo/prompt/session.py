@@ -2,22 +2,45 @@
 
 from __future__ import annotations
 
+import time
 from collections.abc import Callable, Iterator, Sequence
 from pathlib import Path
 from typing import TypeVar
 
 from pevudlo.hints.meanings import Where
 from pevudlo.lang.board import Board
-from pevudlo.lang.replies import NoReply, Ok, OrderTaken, Reply, RowAdded, RowFault, Settled, Verdict, Word
+from pevudlo.lang.replies import (
+    NoReply,
+    Ok,
+    OrderTaken,
+    PendingReply,
+    Reply,
+    RowAdded,
+    RowFault,
+    Settled,
+    Verdict,
+    Word,
+)
 from pevudlo.progress import PROGRESS, Progress, line_of
-from pevudlo.talk import Answer, Talk
+from pevudlo.running.background import Background
+from pevudlo.running.history import MOST_STEPS
+from pevudlo.talk import EDITS, Answer, Peer, Talk
+from pevudlo.wire.book import Book
 from pevudlo.wire.pipe import Pipe, PipeError
 
 Kind = TypeVar("Kind")
 
 
+MOST_PATIENCE = 0.3
+"""So many seconds a look waits for a row that runs by itself."""
+
+
 class Stopped(Exception):
     """No program runs. The text says what became of it."""
+
+
+class OverProgram(Exception):
+    """What is wanted is of the library, and a program answers lines."""
 
 
 def changes(reply: Reply) -> bool:
@@ -33,13 +56,19 @@ class Session:
     After the program has ended, each call raises Stopped until `start` has been called. `accepted` stays.
     """
 
-    def __init__(self, program: Path, workers: int = 2) -> None:
+    def __init__(self, program: Path | None, workers: int = 2, library: Path | None = None) -> None:
+        """`library` is that in which lines are answered; without one it is the program."""
         self.program = program
+        self.library = library
         self.workers = workers
+        self.background: Background | None = None
         self.accepted: list[str] = []
         self.saved: list[str] = []
         self._board = Board()
         self._talk: Talk | None = None
+        # How many commands were accepted before each edit, and what was accepted behind those that were taken back.
+        self._marks: list[int] = []
+        self._undone: list[list[str]] = []
         self._end = "it was not started"
 
     @property
@@ -69,11 +98,14 @@ class Session:
         """
         self.close()
         try:
-            self._talk = Talk(Pipe(self.program, self.workers), Where.PROMPT)
+            self._talk = Talk(self._peer(), Where.PROMPT)
         except OSError as error:
             self._stop(f"it can't be started: {error.strerror}")
             raise Stopped(self._end) from error
-        self._board = self._talk.board
+        self._board = board = self._talk.board
+        if isinstance(self._talk.peer, Book):
+            self.background = Background(self._talk.peer, lambda: board, self.workers, MOST_STEPS)
+        self._marks, self._undone = [], []
         for number, line in enumerate(self.accepted, 1):
             told.at(line_of(number, len(self.accepted)))
             self._retell(line, told)
@@ -88,9 +120,50 @@ class Session:
             raise
         self.saved = []
 
+    def _peer(self) -> Peer:
+        """Who answers lines."""
+        if self.library is not None:
+            return Book(self.library)
+        assert self.program is not None
+        return Pipe(self.program, self.workers)
+
     def interrupt(self) -> None:
-        """Ends the program: what it was told last may not be in `accepted`."""
-        self._stop("it was interrupted")
+        """Ends the program: what it was told last may not be in `accepted`. In the library no further row begins."""
+        if self.background is None:
+            self._stop("it was interrupted")
+        else:
+            self.background.crew.stop()
+
+    def undo(self) -> str:
+        """Takes the last edit back, and gives its line. Raises IndexError where there is none."""
+        line = self._running().undo()
+        mark = self._marks.pop()
+        self._undone.append(self.accepted[mark:])
+        del self.accepted[mark:]
+        return line
+
+    def redo(self) -> str:
+        """Makes the edit again that was taken back last, and gives its line. Raises IndexError where there is none."""
+        line = self._running().redo()
+        self._marks.append(len(self.accepted))
+        self.accepted += self._undone.pop()
+        return line
+
+    def go_on(self) -> None:
+        """Rows run by themselves from now on."""
+        self._running().crew.start()
+
+    def stop(self) -> None:
+        """Rows run by themselves no more."""
+        self._running().crew.stop()
+
+    def _running(self) -> Background:
+        """What runs rows by themselves. Raises OverProgram where a program answers lines."""
+        if self._talk is None:
+            raise Stopped(self._end)
+        if self.background is None:
+            raise OverProgram
+        return self.background
 
     def tell(self, line: str, told: Progress = PROGRESS) -> Answer | None:
         """Tells one line, and keeps it where it was accepted. None for a comment and for an empty line.
@@ -99,9 +172,35 @@ class Session:
         """
         self._say_settling(line, told)
         answer = self._asked(lambda talk: talk.tell_causes(line))
+        if answer is not None and isinstance(answer.reply, PendingReply) and self._waits_for(answer.reply.row):
+            answer = self._asked(lambda talk: talk.tell_causes(line))
         if answer is not None and changes(answer.reply) or line.startswith("#"):
+            if answer is not None and line.split(" ")[0] in EDITS:
+                self._marks.append(len(self.accepted))
+                self._undone.clear()
             self.accepted.append(line)
         return answer
+
+    def _waits_for(self, row: int) -> bool:
+        """Waits a moment for a row that runs by itself, and says whether it is settled."""
+        background = self.background
+        if background is None or not background.crew.is_on:
+            return False
+        until = time.monotonic() + MOST_PATIENCE
+        with background.book.lock:
+            while row in background.book.unsettled():
+                left = until - time.monotonic()
+                if left <= 0:
+                    return False
+                background.book.news.wait(left)
+        return True
+
+    def complete(self) -> None:
+        """Notes a `settle` behind rows that ran by themselves, where all are settled: so a script gives the same."""
+        background = self.background
+        if background is not None and background.crew.ran and self.accepted and self.accepted[-1] != "settle":
+            if not background.book.unsettled_count() and self.board.texts:
+                self.accepted.append("settle")
 
     def tell_all(self, lines: Sequence[str], told: Progress = PROGRESS) -> Iterator[tuple[int, Answer]]:
         """Tells the lines of a script, and gives the answers with the lines' numbers. Empty lines are kept too."""
@@ -145,6 +244,8 @@ class Session:
             self._stop(f"it was stopped, since it gave {error}")
             raise Stopped(self._end) from error
         except KeyboardInterrupt:
+            if self.background is not None:
+                raise
             # The pipe ends its program when a reply is cut short.
             self._stop("it was interrupted")
             raise Stopped(self._end) from None
@@ -152,5 +253,8 @@ class Session:
     def _stop(self, what: str) -> None:
         """Ends the program, and keeps what became of it."""
         talk, self._talk, self._end = self._talk, None, what
-        if talk is not None:
+        background, self.background = self.background, None
+        if background is not None:
+            background.close()
+        elif talk is not None:
             talk.peer.close()

@@ -16,9 +16,11 @@ from pevudlo.lang.board import Board
 from pevudlo.lang.causes import causes
 from pevudlo.lang.keys import axes_of, context_of, width_of
 from pevudlo.lang.replies import Faults, NoReply, PendingReply, Reply, Row, RowFault, Values, parse, parse_row
+from pevudlo.lang.profiles import WORD
 from pevudlo.progress import PROGRESS, Progress
 from pevudlo.record.earlier import Earlier, Numbers, code_of, unpacked
-from pevudlo.wire.library import Library, place_number
+from pevudlo.wire.library import Library
+from pevudlo.wire.library_calls import place_number
 from pevudlo.wire.peers import Peer
 
 MOST_NUMBERS = 400_000
@@ -68,6 +70,8 @@ class RowRun:
 
 def packed(numbers: Sequence[int], width: int) -> Numbers:
     """Numbers below `2^width` in little room: those of a key are always packed in the same way, and can be compared."""
+    if width > WORD:
+        return tuple(numbers)
     words = array_of(numbers)
     if words is not None:
         return unpacked(words.astype(code_of(width)).tobytes(), width)
@@ -105,10 +109,12 @@ class Looker:
             if told is not None:
                 return told
         (line,) = self.peer.ask(f"show {key} {place}")
-        numbers = numbers_in(line.removeprefix("values ")) if line.startswith("values ") else None
+        width = width_of(self.board, key)
+        is_read = line.startswith("values ") and width <= WORD
+        numbers = numbers_in(line.removeprefix("values ")) if is_read else None
         if numbers is None:
             return self.looked(key, place, parse([line]))
-        return Look(key, place, packed(numbers.data, width_of(self.board, key)), None)
+        return Look(key, place, packed(numbers.data, width), None)
 
     def looked(self, key: str, place: str, reply: Reply) -> Look:
         """The look that a reply to `show` is."""
@@ -200,8 +206,9 @@ class Looker:
 
     def _told(self, library: Library, key: str, place: str) -> Look | None:
         """The look that the library gives without text, or none where a line has to be asked."""
-        number = place_number(place)
-        told = None if number is None else library.get(key, number, processors_of(axes_of(self.board, key)))
+        number, width = place_number(place), width_of(self.board, key)
+        count = processors_of(axes_of(self.board, key))
+        told = None if number is None else library.look(key, number, count, width > WORD)
         if told is None or isinstance(told, int):
             return None if told is None else Look(key, place, None, told)
-        return Look(key, place, packed(told.numbers, width_of(self.board, key)), None)
+        return Look(key, place, packed(told, width), None)

@@ -132,8 +132,10 @@ class Recorder:
         lines = tuple(self._peer.ask(line))
         step = Step(number, line, lines, parse(lines))
         if isinstance(step.reply, Refused):
-            return replace(step, explanation=explained(line, step.reply, self.board, self.where))
+            step = replace(step, explanation=explained(line, step.reply, self.board, self.where))
         self.board.note(line, lines[0])
+        if step.is_refused:
+            return step
         if before is not None:
             self._starts[before.key] = self.looker.look(before.key, "start")
             self._works.given(self._starts[before.key])

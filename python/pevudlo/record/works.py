@@ -8,7 +8,7 @@ from hashlib import blake2b
 from pevudlo.lang.board import Board
 from pevudlo.lang.keys import context_of
 from pevudlo.lang.replies import Row
-from pevudlo.record.earlier import Numbers
+from pevudlo.record.earlier import Numbers, bytes_of
 from pevudlo.record.looks import Look, RowRun
 
 FLAGS_READ = {"logand-context-with-test": "test", "store-test": "test", "u-add-carry-3-1L": "carry"}
@@ -21,7 +21,7 @@ Work = tuple[str, tuple[bytes, ...]]
 
 def sum_of(numbers: Numbers) -> bytes:
     """Few bytes that stand for the numbers of a key."""
-    return blake2b(memoryview(numbers).cast("B"), digest_size=16).digest()
+    return blake2b(bytes_of(numbers), digest_size=16).digest()
 
 
 class Works:
@@ -73,9 +73,14 @@ class Works:
     def _may_read(self, text: str) -> tuple[str, ...]:
         """Keys among which are all that an instruction reads."""
         if text not in self._keys:
-            name, *words = text.split(" ")
-            of = context_of(self._board, text).partition(".")[0]
-            keys = {word for word in words if word in self._board.fields} | {*self._board.keys_written(text)}
-            flags = {"context", FLAGS_READ.get(name, "context")}
-            self._keys[text] = tuple(sorted(keys | {f"{of}.{flag}" for flag in flags}))
+            self._keys[text] = may_read(self._board, text)
         return self._keys[text]
+
+
+def may_read(board: Board, text: str) -> tuple[str, ...]:
+    """Keys among which are all that an accepted instruction reads."""
+    name, *words = text.split(" ")
+    of = context_of(board, text).partition(".")[0]
+    keys = {word for word in words if word in board.fields} | {*board.keys_written(text)}
+    flags = {"context", FLAGS_READ.get(name, "context")}
+    return tuple(sorted(keys | {f"{of}.{flag}" for flag in flags}))

@@ -22,6 +22,23 @@ def command(name: str, spelling: str, does: str, text: str) -> Entry:
 
 DECLARING = (
     command(
+        "paris",
+        "paris 1, paris 2",
+        "Chooses the profile, as the first command of a script: above it stand empty lines and comments alone. In "
+        "profile 2 fields and lengths have up to 128 bits. In profile 1, which is that of every other script, they "
+        "have up to 64. It is no edit.",
+        """
+paris 2
+set S 4
+field a S 128
+input a 0 18446744073709551616 1
+insert end u-multiply-3-1L a a a 128 => row 1
+settle => settled 1
+show a end => values 0 1 0 0
+show S.overflow end => values 1 0 0 0
+""",
+    ),
+    command(
         "set",
         "set NAME AXES",
         "Declares a set of virtual processors. AXES are one to four lengths, each a power of two, with an x between "
@@ -37,7 +54,7 @@ show G.carry start => values 0 0 0 0 0 0 0 0
     command(
         "field",
         "field NAME NAME NUM",
-        "Declares a field by its name, its set, and its width of 1 to 64 bits. It begins as 0.",
+        "Declares a field by its name, its set, and its width of 1 to 64 bits, or to 128 in profile 2. It begins as 0.",
         """
 set S 4
 field a S 8

@@ -6,7 +6,7 @@ from collections.abc import Iterator
 from dataclasses import dataclass
 from enum import Enum
 
-DECLARING = ("set", "field", "input", "delete", "replace", "release")
+DECLARING = ("paris", "set", "field", "input", "delete", "replace", "release")
 """The commands whose reply is `ok`."""
 
 

@@ -48,7 +48,11 @@ ENTRIES: tuple[Entry, ...] = (
     fault(3, "Sets and fields share one space of names.", example("set S 4\nset S 4 => refused 3")),
     fault(4, "Sets are declared by `set NAME AXES`, before what names them.", "field q U 8 => refused 4"),
     fault(5, "All sets together have at most 64 fields.", MANY_FIELDS),
-    fault(6, "A field has 1 to 64 bits.", "field q S 65 => refused 6"),
+    fault(
+        6,
+        "A field has 1 to 64 bits, or to 128 where the first command is `paris 2`.",
+        "field q S 65 => refused 6",
+    ),
     fault(
         7,
         "Fields are declared by `field NAME NAME NUM`, before what names them. A flag is named with its set: "
@@ -94,7 +98,7 @@ ENTRIES: tuple[Entry, ...] = (
     fault(
         20,
         "C is the column of the first word, counted in bytes from 1, with which no command goes on so. Where words are "
-        "missing it is the line's length plus 1.",
+        "missing it is the line's length plus 1. Where `paris` isn't the first command, it is 1.",
         "shw a end => refused 20 1",
     ),
     fault(21, "No command answers it.", None),

@@ -136,6 +136,7 @@
     for (const name of ["head", "trouble"]) fill(at(name), html.get(name) || "");
     if (html.get("edit")) fill(at("edit"), html.get("edit"));
     document.body.classList.toggle("ended", Boolean(html.get("trouble")));
+    at("pen").hidden = !news.editor || news.editor === tab;
     for (const kind of Object.keys(orders)) drop(kind);
     place(at("rows"), orders.rows, elements.rows);
     place(at("log"), orders.log, elements.log);
@@ -173,7 +174,11 @@
   // Where nobody answers what is asked then, the server has ended.
   news.addEventListener("error", () => { if (news.readyState === EventSource.CLOSED) lost(); else refresh(); });
 
+  // By its name a session knows which tab edits.
+  const tab = [...crypto.getRandomValues(new Uint32Array(4))].map((word) => word.toString(36)).join("");
+
   async function ask(name, body) {
+    body = { tab, ...body };
     try {
       const answer = await fetch(base + name, {
         method: "POST", headers: { "Content-Type": "application/json" }, body: JSON.stringify(body || {}),
@@ -257,7 +262,89 @@
     order: () => ask("order"),
     settle: () => command("settle"),
     restart: () => ask("restart"),
+    go: () => work("go"),
+    stop: () => work("stop"),
+    undo: () => work("undo"),
+    redo: () => work("redo"),
+    pen: () => { note(""); return ask("pen"); },
   };
+
+  // What is done with rows that run by themselves, and with the history.
+  async function work(name, body) {
+    const answer = await ask(name, body);
+    note(answer.refused || "");
+  }
+
+  document.addEventListener("change", (event) => {
+    if (event.target.matches("[data-history]")) work("history", { place: event.target.value });
+  });
+
+  // Why a row is unsettled, and where a number comes from: what it stands on is lit while one points at it.
+  const card = (row) => document.querySelector(`article[data-row="${row}"]`);
+  const inputOf = (key) => at("inputs-part").querySelector(`[data-input="${CSS.escape(key)}"]`);
+
+  function unlight() {
+    for (const each of document.querySelectorAll(".lit")) each.classList.remove("lit");
+    at("why").hidden = true;
+  }
+
+  function light(element) { if (element) element.classList.add("lit"); }
+
+  function lightReason(row) {
+    const said = [];
+    let now = row;
+    for (let count = 0; now && count < 1000; count++) {
+      light(now);
+      const [key, writer] = (now.dataset.waits || "").split(":");
+      if (!writer) break;
+      if (said.length < 12) said.push(`row ${now.dataset.row} reads ${key} of row ${writer}`);
+      now = card(writer);
+    }
+    const since = now ? now.dataset.since : "";
+    if (now && since) {
+      const [word, key] = since.split(" ");
+      if (word === "input") light(inputOf(key));
+      said.push(`row ${now.dataset.row} is unsettled since the edit ${since}`);
+    }
+    at("why").textContent = said.join(", ");
+    at("why").hidden = !said.length;
+  }
+
+  function lightOrigin(key, writer) {
+    const seen = new Set();
+    const next = [[key, writer]];
+    while (next.length) {
+      const [name, row] = next.pop();
+      if (row === "0") { light(inputOf(name)); continue; }
+      if (seen.has(row)) continue;
+      seen.add(row);
+      const its = card(row);
+      if (!its) continue;
+      light(its);
+      for (const read of (its.dataset.reads || "").split(" ")) next.push(read.split(":"));
+    }
+  }
+
+  // The row that writes a key last before the caret, as the cards say.
+  function writerAtCaret(key) {
+    let writer = "0";
+    const last = caret === "end" ? null : caret.slice(6);
+    if (caret === "start") return writer;
+    for (const each of at("rows").querySelectorAll("article[data-row]")) {
+      if ((each.dataset.writes || "").split(" ").includes(key)) writer = each.dataset.row;
+      if (each.dataset.row === last) break;
+    }
+    return writer;
+  }
+
+  document.addEventListener("mouseover", (event) => {
+    const row = event.target.closest("article[data-reads]");
+    const figure = event.target.closest("figure[data-key]");
+    unlight();
+    if (figure && figure.closest("#values-part")) lightOrigin(figure.dataset.key, writerAtCaret(figure.dataset.key));
+    else if (row && figure) lightOrigin(figure.dataset.key, row.dataset.row);
+    else if (row && row.dataset.since !== undefined) lightReason(row);
+  });
   document.addEventListener("click", (event) => {
     const button = event.target.closest("[data-act]");
     if (button) acts[button.dataset.act](button);

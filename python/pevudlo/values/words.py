@@ -1,4 +1,7 @@
-"""Numbers as words of 64 bits in memory, which the library reads and writes: numpy's arrays, or else Python's."""
+"""Numbers as words of 64 bits in memory, which the library reads and writes: numpy's arrays, or else Python's.
+
+A number of a key that is wider than a word has two words: its low one, and behind it its high one.
+"""
 
 from __future__ import annotations
 
@@ -6,7 +9,12 @@ from array import array
 from collections.abc import Sequence
 from dataclasses import dataclass
 
+from pevudlo.lang.profiles import WORD
 from pevudlo.values.shaped import has_numpy
+
+LOW = (1 << WORD) - 1
+WIDE = 2
+"""How many words a number of a wide key has."""
 
 
 @dataclass(frozen=True)
@@ -30,6 +38,19 @@ def words_of(numbers: Sequence[int]) -> Words | None:
         return words_of_array(array("Q", numbers))
     except OverflowError:
         return None
+
+
+def wide_words_of(numbers: Sequence[int]) -> Words | None:
+    """Unsigned numbers as two words each. None where one of them has more than 128 bits."""
+    try:
+        return words_of_array(array("Q", [part for number in numbers for part in (number & LOW, number >> WORD)]))
+    except OverflowError:
+        return None
+
+
+def wide_numbers(words: Words) -> tuple[int, ...]:
+    """The numbers that have two words each."""
+    return tuple(low | high << WORD for low, high in zip(words.numbers[::WIDE], words.numbers[1::WIDE]))
 
 
 def room_of(count: int) -> Words:

@@ -1,7 +1,7 @@
 """A session of the library libparis.so, in this process: it answers lines as a running program does, and takes arrays.
 
-`Library` stands in the place of a `Pipe`, behind the same calls. bindings/c/paris.h says what each call of the library
-does, and what its caller keeps. A handle stays in the thread that opened it, and is in one call at a time.
+`Library` stands in the place of a `Pipe`, behind the same calls. Any thread may call it, one at a time. In a child that
+a process begets by `fork` no call is made.
 """
 
 from __future__ import annotations
@@ -9,116 +9,119 @@ from __future__ import annotations
 import ctypes
 import os
 import threading
+import time
 import weakref
-from collections.abc import Callable, Iterator, Sequence
-from contextlib import contextmanager
-from ctypes import c_bool, c_char_p, c_size_t, c_uint32, c_uint64, c_void_p
-from enum import IntEnum
+from collections.abc import Callable, Sequence
+from ctypes import c_size_t, c_uint64
 from pathlib import Path
+from threading import get_ident
 from types import TracebackType
-from typing import Any
 
-from pevudlo.values.words import Words, room_of
-from pevudlo.wire.library_places import LIBRARY
+from pevudlo.values.words import WIDE, Words, room_of, wide_numbers
+from pevudlo.wire.library_calls import Handle, Outcome, loaded, trouble
 from pevudlo.wire.pipe import Ended
-from pevudlo.wire.program import NotFound
 
-START_NUMBER = 0
-END_NUMBER = 2**64 - 1
+Calls = dict[str, Callable[..., int]]
 
+SHORT, LONG = 0.01, 0.04
+"""Seconds: of a part of a settle that takes less the next is greater, and of one that takes more it is smaller."""
 
-class Outcome(IntEnum):
-    """What becomes of a call of the library. 1 to 23 are the faults' numbers."""
-
-    OK = 0
-    NO_MEMORY = 19
-    CLOSED = 101
-    NO_KEY = 102
-    PENDING = 103
-    WRONG_ROOM = 104
-    TOO_MANY = 105
-    TOO_WIDE = 106
-    PARTLY = 107
+MOST_AT_ONCE = 4_096
+"""So many rows are run in one call at most, behind which Ctrl-C ends a settle."""
 
 
-class Handle(ctypes.Structure):
-    """What the library keeps of a session with its caller. All zeros is a closed one."""
-
-    _fields_ = [("at", c_void_p), ("is_open", c_bool)]
-
-
-# What each call takes. Pointers to numbers and to rooms are passed as addresses.
-CALLS: dict[str, tuple[Any, ...]] = {
-    "paris_open": (c_void_p,),
-    "paris_close": (c_void_p,),
-    "paris_answer": (c_void_p, c_char_p, c_size_t, c_void_p),
-    "paris_reply": (c_void_p, c_void_p, c_size_t),
-    "paris_set": (c_void_p, c_char_p, c_size_t, c_uint64, c_void_p, c_size_t),
-    "paris_get": (c_void_p, c_char_p, c_size_t, c_uint64, c_void_p, c_size_t, c_void_p),
-}
-
-
-def loaded(path: Path) -> dict[str, Callable[..., int]]:
-    """The calls of the library at a path. Raises NotFound where it is none."""
-    try:
-        # A name without a folder is looked for elsewhere.
-        library = ctypes.CDLL(os.fspath(path.absolute()))
-        calls = {name: getattr(library, name) for name in CALLS}
-    except (OSError, AttributeError) as error:
-        raise NotFound([f"{path} can't be loaded: {error}"], LIBRARY) from error
-    for name, call in calls.items():
-        call.argtypes, call.restype = CALLS[name], c_uint32
-    return calls
-
-
-def place_number(text: str) -> int | None:
-    """The number by which the library knows a place as commands spell it; None where a line alone can say it."""
-    if text in ("start", "end"):
-        return START_NUMBER if text == "start" else END_NUMBER
-    row = text.removeprefix("after ")
-    is_number = row != text and row.isascii() and row.isdigit() and not row.startswith("0")
-    return int(row) if is_number and int(row) < END_NUMBER else None
-
-
-def trouble(outcome: int) -> Exception:
-    """What is raised where a call isn't answered."""
-    match outcome:
-        case Outcome.NO_MEMORY:
-            return MemoryError("there is no memory left, and nothing has changed")
-        case Outcome.PARTLY:
-            return MemoryError("there is no memory left: the rows that ran are settled, and orders may be given up")
-    return RuntimeError(f"the library answered {outcome}")
-
-
-def drop(close: Callable[..., int], handle: Handle, thread: threading.Thread) -> None:
-    """Closes the handle of a session that nobody holds any more, where this is its thread. Else its memory stays."""
-    if threading.current_thread() is thread:
+def drop(close: Callable[..., int], handle: Handle, process: int) -> None:
+    """Closes a handle that nobody holds any more. In a child of the process that opened it nothing is done."""
+    if os.getpid() == process:
         close(ctypes.addressof(handle))
 
 
+class Held:
+    """The handle of a session or of an order. It is closed by `close`, or where nobody holds it any more."""
+
+    def __init__(self, close: Callable[..., int]) -> None:
+        self.handle = Handle()
+        self.at = ctypes.addressof(self.handle)
+        self.close = weakref.finalize(self, drop, close, self.handle, os.getpid())
+        # At the end of the process workers may be in a call, and the memory goes with it.
+        self.close.atexit = False
+
+
 class Library:
-    """A session of the library at a path. Only the thread that opened it may call it: others get RuntimeErrors.
+    """A session of the library at a path. Threads may share it: calls wait for `lock`, and one is made at a time.
+
+    It is in the profile of this number, which no line changes. Where none is said it is in profile 1, and its first
+    command may choose another.
 
     Where there is no memory left, a call raises MemoryError and has changed nothing, or of `settle` has run some rows.
     """
 
-    def __init__(self, path: Path) -> None:
+    def __init__(self, path: Path, profile: int | None = None) -> None:
         calls = loaded(path)
-        self._answer, self._reply = calls["paris_answer"], calls["paris_reply"]
-        self._set, self._get = calls["paris_set"], calls["paris_get"]
-        self._thread = threading.current_thread()
-        self._lock = threading.Lock()
-        self._status = 0
-        self._over: tuple[str, int] | None = None
-        handle, self._length, self._told = Handle(), c_size_t(), c_uint64()
-        # A room for short replies. The addresses hold as long as the objects do.
-        self._room = ctypes.create_string_buffer(4096)
-        self._at, self._length_at = ctypes.addressof(handle), ctypes.addressof(self._length)
-        self._told_at = ctypes.addressof(self._told)
-        outcome = calls["paris_open"](self._at)
+        held = Held(calls["paris_close"])
+        self._begin(calls, held)
+        outcome = calls["paris_open"](held.at) if profile is None else calls["paris_open_profile"](held.at, profile)
         if outcome != Outcome.OK:
             raise trouble(outcome)
-        self._drop = weakref.finalize(self, drop, calls["paris_close"], handle, self._thread)
+
+    @classmethod
+    def over(cls, calls: Calls, held: Held) -> Library:
+        """A session whose handle is open."""
+        library = cls.__new__(cls)
+        library._begin(calls, held)
+        return library
+
+    def _begin(self, calls: Calls, held: Held) -> None:
+        """Takes a handle."""
+        self._calls, self._held = calls, held
+        self._answer, self._reply = calls["paris_answer"], calls["paris_reply"]
+        self.lock = threading.RLock()
+        # The threads that want a call, or are in one: a worker that holds the lock again and again lets them in.
+        self.waiting = set[int]()
+        self._is_in_call = False
+        self._process = os.getpid()
+        self._status = 0
+        self._over: tuple[str, int] | None = None
+        self._length, self._told = c_size_t(), c_uint64()
+        # A room for short replies. The addresses hold as long as the objects do.
+        self._room = ctypes.create_string_buffer(4096)
+        self._at, self._length_at = held.at, ctypes.addressof(self._length)
+        self._told_at = ctypes.addressof(self._told)
+
+    @property
+    def is_elsewhere(self) -> bool:
+        """Whether this is a child of the process that opened it, in which no call is made."""
+        return os.getpid() != self._process
+
+    @property
+    def is_open(self) -> bool:
+        """Whether it isn't closed."""
+        return self._over is None
+
+    def settle(self, told: Callable[[], None] | None = None) -> int:
+        """Settles all rows, part by part, and gives how many ran. `told` is called behind each part.
+
+        Ctrl-C ends it behind a part: what is settled stays so. Orders that are out are given up.
+        """
+        self._call("paris_release")
+        ran, most = 0, 1
+        while True:
+            begun = time.monotonic()
+            count = self.run(most)
+            ran += count
+            if count < most:
+                return ran
+            took = time.monotonic() - begun
+            most = min(2 * most, MOST_AT_ONCE) if took < SHORT else max(1, most // 2) if took > LONG else most
+            if told is not None:
+                told()
+
+    def run(self, most: int) -> int:
+        """Runs so many rows at most that are ready, and gives how many ran."""
+        outcome, count = self._call("paris_run", most, self._told_at)
+        if outcome != Outcome.OK:
+            raise trouble(outcome)
+        return count
 
     def ask(self, line: str) -> list[str]:
         """The lines of the reply to one line; none for an empty line or a comment, which have no reply.
@@ -128,44 +131,54 @@ class Library:
         """
         if "\n" in line:
             raise ValueError("one line is asked at a time")
-        with self._turn():
-            return self._answered(line)
+        if line == "settle":
+            return [f"settled {self.settle()}"]
+        self._check_process()
+        try:
+            self.waiting.add(get_ident())
+            with self.lock:
+                self._check_open()
+                try:
+                    self._is_in_call = True
+                    return self._answered(line)
+                finally:
+                    self._is_in_call = False
+        finally:
+            self.waiting.discard(get_ident())
 
     def ask_all(self, lines: Sequence[str]) -> list[list[str]]:
         """The replies to many lines, as by `ask` of one after another."""
         if any("\n" in line for line in lines):
             raise ValueError("each line is one line")
-        with self._turn():
-            return [self._answered(line) for line in lines]
+        with self.lock:
+            return [self.ask(line) for line in lines]
 
     def set(self, key: str, first: int, words: Words) -> bool:
         """Gives a key these numbers from a processor on, as one edit. False where that is refused, and nothing done."""
-        name = key.encode("ascii")
-        with self._turn():
-            outcome = self._set(self._at, name, len(name), first, words.address, len(words))
-        if outcome == Outcome.NO_MEMORY:
-            raise trouble(outcome)
-        return outcome == Outcome.OK
+        return self._given("paris_set", key, first, words, len(words))
+
+    def set_wide(self, key: str, first: int, words: Words) -> bool:
+        """The same with numbers of two words each."""
+        return self._given("paris_set_wide", key, first, words, len(words) // WIDE)
 
     def get(self, key: str, place: int, count: int) -> Words | int | None:
         """The numbers that a key of so many processors holds at a place, or the id of the row that has to be settled.
 
         None where the look is refused. Places are START_NUMBER, END_NUMBER and just after the row of another id.
         """
-        name, room = key.encode("ascii"), room_of(count)
-        with self._turn():
-            outcome = self._get(self._at, name, len(name), place, room.address, count, self._told_at)
-            if outcome == Outcome.PENDING:
-                return self._told.value
-        if outcome == Outcome.NO_MEMORY:
-            raise trouble(outcome)
-        return room if outcome == Outcome.OK else None
+        return self._looked("paris_get", key, place, room_of(count), count)
+
+    def get_wide(self, key: str, place: int, count: int) -> tuple[int, ...] | int | None:
+        """The same of a key whose numbers have two words each."""
+        told = self._looked("paris_get_wide", key, place, room_of(WIDE * count), count)
+        return wide_numbers(told) if isinstance(told, Words) else told
 
     def close(self) -> int:
         """Ends the session, and gives 1 where a line was refused, else 0, as the program's exit status does."""
-        if self._over is None:
-            with self._turn():
-                self._end("the session is closed")
+        if self.is_elsewhere:
+            return self._status
+        with self.lock:
+            self._end("the session is closed")
         assert self._over is not None
         return self._over[1]
 
@@ -175,19 +188,60 @@ class Library:
     def __exit__(self, kind: type[BaseException] | None, error: BaseException | None, at: TracebackType | None) -> None:
         self.close()
 
-    @contextmanager
-    def _turn(self) -> Iterator[None]:
-        """Holds the handle for a call. Raises RuntimeError in another thread and within a call, and Ended."""
-        if threading.current_thread() is not self._thread:
-            raise RuntimeError("a session of the library belongs to the thread that opened it")
-        if not self._lock.acquire(blocking=False):
-            raise RuntimeError("a session of the library is in one call at a time")
+    def _call(self, name: str, *words: object) -> tuple[int, int]:
+        """Makes a call with the handle. Gives what becomes of it, and the number that it told.
+
+        Raises RuntimeError within a call and in a child of the process, and Ended. No generator stands between the lock
+        and the call, so that Ctrl-C at any place leaves the lock free.
+        """
+        self._check_process()
         try:
-            if self._over is not None:
-                raise Ended(*self._over, "")
-            yield
+            self.waiting.add(get_ident())
+            with self.lock:
+                self._check_open()
+                try:
+                    self._is_in_call = True
+                    outcome = self._calls[name](self._at, *words)
+                    return outcome, self._told.value
+                finally:
+                    self._is_in_call = False
         finally:
-            self._lock.release()
+            self.waiting.discard(get_ident())
+
+    def _check_process(self) -> None:
+        """Raises RuntimeError in a child of the process, where another thread may have held the lock for ever."""
+        if self.is_elsewhere:
+            raise RuntimeError("a session of the library stays in the process that opened it")
+
+    def _check_open(self) -> None:
+        """Raises RuntimeError within a call, as in a handler of signals, and Ended where the session is over."""
+        if self._is_in_call:
+            raise RuntimeError("a session of the library is in one call at a time")
+        if self._over is not None:
+            raise Ended(*self._over, "")
+
+    def look(self, key: str, place: int, count: int, is_wide: bool) -> Sequence[int] | int | None:
+        """The same of a key of one word or of two a number, without the words' address."""
+        told = self.get_wide(key, place, count) if is_wide else self.get(key, place, count)
+        return told.numbers if isinstance(told, Words) else told
+
+    def _given(self, call: str, key: str, first: int, words: Words, count: int) -> bool:
+        """Whether a call has given a key so many numbers."""
+        name = key.encode("ascii")
+        outcome, _ = self._call(call, name, len(name), first, words.address, count)
+        if outcome == Outcome.NO_MEMORY:
+            raise trouble(outcome)
+        return outcome == Outcome.OK
+
+    def _looked(self, call: str, key: str, place: int, room: Words, count: int) -> Words | int | None:
+        """The room with what a call has put there, or a row's id, or None where the call is refused."""
+        name = key.encode("ascii")
+        outcome, told = self._call(call, name, len(name), place, room.address, count, self._told_at)
+        if outcome == Outcome.PENDING:
+            return told
+        if outcome == Outcome.NO_MEMORY:
+            raise trouble(outcome)
+        return room if outcome == Outcome.OK else None
 
     def _answered(self, line: str) -> list[str]:
         """The lines of the reply to a line, in a turn."""
@@ -217,4 +271,4 @@ class Library:
         """Closes the handle, once."""
         if self._over is None:
             self._over = (what, self._status)
-            self._drop()
+            self._held.close()

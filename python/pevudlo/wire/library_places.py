@@ -72,3 +72,13 @@ def find_library(library: str | os.PathLike[str] | None = None) -> Path:
         if found is not None:
             return found
     raise NotFound(looked, LIBRARY)
+
+
+def find_library_or_none() -> Path | None:
+    """The library that is found, or None where there is none. Raises NotFound where the variable is wrong."""
+    try:
+        return find_library()
+    except NotFound:
+        if os.environ.get(LIBRARY_VARIABLE, ""):
+            raise
+        return None

@@ -22,6 +22,8 @@ from pathlib import Path
 from types import TracebackType
 from typing import IO, NoReturn
 
+from pevudlo.interrupts import undisturbed
+
 CHUNK = 1 << 20
 # Seconds that a child has to end once its input is closed.
 PATIENCE = 10.0
@@ -85,11 +87,45 @@ class Pipe:
         self._lock = threading.Lock()
         self._rest = bytearray()
         self._over: tuple[type[PipeError], str, int, str] | None = None
+        self._is_owed = False
 
     @property
     def process(self) -> int:
         """The child's process id."""
         return self._child.pid
+
+    def settle_line(self) -> list[str]:
+        """The reply to `settle`. Ctrl-C ends the wait alone: the program settles on, and the next line waits for it."""
+        with self._lock:
+            self._check_open()
+            self._take_owed()
+            with undisturbed():
+                self._begin_settle()
+            return self._take_owed()
+
+    def _begin_settle(self) -> None:
+        """Asks for a settle, whose reply is owed then."""
+        try:
+            self._write(b"settle\n")
+            self._is_owed = True
+        except BaseException:
+            self._end()
+            raise
+
+    def _take_owed(self) -> list[str]:
+        """Waits for the reply that is owed, where one is, and takes it as a whole. Ctrl-C leaves it owed."""
+        while self._is_owed:
+            self._ears.poll()
+            with undisturbed():
+                try:
+                    self._rest += self._more()
+                    if b"\n" in self._rest:
+                        self._is_owed = False
+                        return self._read()
+                except BaseException:
+                    self._end()
+                    raise
+        return []
 
     def ask(self, line: str) -> list[str]:
         """The lines of the reply to one line; none for an empty line or a comment, which have no reply.
@@ -103,6 +139,7 @@ class Pipe:
             self._check_open()
             if is_comment(line):
                 return []
+            self._take_owed()
             data = line.encode("utf-8", "surrogateescape") + b"\n"
             try:
                 self._write(data)
@@ -119,6 +156,7 @@ class Pipe:
         data = "".join(f"{line}\n" for line in told).encode("utf-8", "surrogateescape")
         with self._lock:
             self._check_open()
+            self._take_owed()
             try:
                 self._write_all(data)
                 replies = iter([self._read_reply() for _ in told])
@@ -134,7 +172,7 @@ class Pipe:
             assert self._child.stdin is not None
             self._child.stdin.close()
             try:
-                self._child.wait(0.0 if self._lock.locked() else PATIENCE)
+                self._child.wait(0.0 if self._lock.locked() or self._is_owed else PATIENCE)
             except BaseException as error:
                 self._end()
                 if not isinstance(error, subprocess.TimeoutExpired):

@@ -1,5 +1,5 @@
 use Rattle.std.proofs.Common.{ap, ◌∙◌}
-use Rattle.paris_c.specs.Calls.{filled}
+use Rattle.paris_book.specs.Unsettled.{filled}
 use Rattle.paris_c.proofs.exports.paris_script.Goals as goal
 
 pub returns-in-Ok-clause-written : goal.returns-in-Ok-clause-written

@@ -2,7 +2,7 @@ use Rattle.std.proofs.Common.{◌≡◌, ◌<◌, ◌∙◌, ℕ, List, sym, ap,
 use mathlib.Core.List.{IsPrefix}
 use Rattle.paris_records.specs.declared.records.Entry.{Entry}
 use Rattle.paris_records.specs.declared.records.Receipt.{Receipt}
-use Rattle.paris_records.specs.Agreement.{Accounted, list_of}
+use Rattle.paris_records.specs.Agreement.{Accounted, receipts_of_seat}
 use Rattle.paris_records.specs.Receipts.{IsPart, receipts_in}
 use Rattle.paris_records.proofs.Sums.{accounted}
 use Rattle.paris_desk.specs.Closing.{by_number, past_of, receipts_of}
@@ -23,7 +23,7 @@ returns-clause-each g c n =
     let parts = c.gather.ensures.parts ∙ c.args.desk.seats.counted.0 ∙ c.args.desk.seats.counted.1 in
     let standing : (k : ℕ) → k < count → IsPart k 0 (receipts_of k ss) h = λ k below. subst (λ (z : List Entry). IsPart k 0 (receipts_of k ss) z) i.7 (c.gather.ensures.standing k below) in
     let all : sum_by length (by_number count ss) ≡ length h = omega (arith, c.audit.ensures.whole parts, c.audit.ensures.total, c.gather.ensures.amount, i.2) in
-    subst (λ (rss : List (List Receipt)). list_of rss n ≡ receipts_in n 0 h) (sym c.gather.ensures.receipts) (each_list count ss h standing all n)
+    subst (λ (rss : List (List Receipt)). receipts_of_seat rss n ≡ receipts_in n 0 h) (sym c.gather.ensures.receipts) (each_list count ss h standing all n)
 
 pub returns-clause-agree : goal.returns-clause-agree
 returns-clause-agree g c =
@@ -34,8 +34,8 @@ returns-clause-agree g c =
     let parts = c.gather.ensures.parts ∙ c.args.desk.seats.counted.0 ∙ c.args.desk.seats.counted.1 in
     let standing : (k : ℕ) → k < count → IsPart k 0 (receipts_of k ss) h = λ k below. subst (λ (z : List Entry). IsPart k 0 (receipts_of k ss) z) i.7 (c.gather.ensures.standing k below) in
     let all : sum_by length (by_number count ss) ≡ length h = omega (arith, c.audit.ensures.whole parts, c.audit.ensures.total, c.gather.ensures.amount, i.2) in
-    let agreed : (seat : ℕ) → Accounted h seat (list_of (by_number count ss) seat) = λ seat. accounted seat h (list_of (by_number count ss) seat) (each_list count ss h standing all seat) in
-    (i.0, subst (λ (rss : List (List Receipt)). (seat : ℕ) → Accounted h seat (list_of rss seat)) (sym c.gather.ensures.receipts) agreed)
+    let agreed : (seat : ℕ) → Accounted h seat (receipts_of_seat (by_number count ss) seat) = λ seat. accounted seat h (receipts_of_seat (by_number count ss) seat) (each_list count ss h standing all seat) in
+    (i.0, subst (λ (rss : List (List Receipt)). (seat : ℕ) → Accounted h seat (receipts_of_seat rss seat)) (sym c.gather.ensures.receipts) agreed)
 
 pub returns-clause-receipts : goal.returns-clause-receipts
 returns-clause-receipts g c = c.gather.ensures.receipts ∙ ap (λ n. by_number n c.args.seats.items) c.args.desk.seats.counted.0

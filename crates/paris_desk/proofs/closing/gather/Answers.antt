@@ -7,7 +7,7 @@ use Rattle.paris_records.specs.declared.records.Receipt.{Receipt}
 use Rattle.paris_records.specs.Receipts.{IsPart}
 use Rattle.paris_desk.proofs.Gathering.{one_more, sum_more}
 use Rattle.paris_desk.specs.Closing.{past_of, receipts_of}
-use Rattle.paris_desk.specs.Seats.{Sitting}
+use Rattle.paris_desk.specs.Seats.{SeatState}
 use Rattle.paris_desk.proofs.closing.gather.Goals as goal
 
 pub take_out-requires : goal.take_out-requires
@@ -24,9 +24,9 @@ loop-number-preserved g c =
     let h = c.args.known.now in
     let v = c.own.invariant in
     let same = i.6 n (omega arith) in
-    let own : c.own.inside.receipts.items ≡ receipts_of n ss = ap (λ (s : Sitting). s.receipts) c.own.view_is ∙ c.take_out.ensures.receipts ∙ same.1 in
-    let number : c.own.inside.number ≡ n = ap (λ (s : Sitting). s.number) c.own.view_is ∙ c.take_out.ensures.number in
-    let past : c.own.inside.known ≡ past_of n ss = ap (λ (s : Sitting). s.past) c.own.view_is ∙ c.take_out.ensures.past ∙ same.2 in
+    let own : c.own.inside.receipts.items ≡ receipts_of n ss = ap (λ (s : SeatState). s.receipts) c.own.view_is ∙ c.take_out.ensures.receipts ∙ same.1 in
+    let number : c.own.inside.number ≡ n = ap (λ (s : SeatState). s.number) c.own.view_is ∙ c.take_out.ensures.number in
+    let past : c.own.inside.known ≡ past_of n ss = ap (λ (s : SeatState). s.past) c.own.view_is ∙ c.take_out.ensures.past ∙ same.2 in
     let short : length c.own.inside.known ≤ length h = subst (λ (es : List Entry). length es ≤ length h) (sym past) (c.requires.within n (omega arith)) in
     let begins : IsPrefix c.own.inside.known h = c.compare.ensures short in
     let part : IsPart c.own.inside.number 0 c.own.inside.receipts.items h = part_grows c.own.inside.number 0 c.own.inside.receipts.items c.own.inside.known h begins v.3 in

@@ -1,5 +1,5 @@
 use Rattle.std.proofs.Common.{◌∙◌, sym, ap, length}
-use Rattle.paris_desk.specs.Seats.{Sitting}
+use Rattle.paris_desk.specs.Seats.{SeatState}
 use Rattle.paris_desk.proofs.Gathering.{found, not_none}
 use Rattle.paris_desk.proofs.closing.known_by.Goals as goal
 
@@ -13,5 +13,5 @@ unreachable-requires g c = not_none c.args.number c.args.seats.now c.requires (s
 pub returns : goal.returns
 returns g c =
     let f = found c.args.number c.in-Some.place c.args.seats.now c.requires (sym c.place_of.ensures ∙ c.in-Some.is) in
-    let past = ap (λ (s : Sitting). s.past) c.seat.view_is ∙ ap (λ (s : Sitting). s.past) c.index-seats-place.is ∙ f.past c.index-seats-place.result in
+    let past = ap (λ (s : SeatState). s.past) c.seat.view_is ∙ ap (λ (s : SeatState). s.past) c.index-seats-place.is ∙ f.past c.index-seats-place.result in
     c.len.ensures.count ∙ ap length past

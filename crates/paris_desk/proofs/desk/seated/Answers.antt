@@ -1,13 +1,13 @@
 use Rattle.std.proofs.Common.{◌≡◌, refl, ℕ, ◌+◌, [], ◌∷◌, ◌++◌, List, ap, ◌∙◌, add-one, arith}
-use Rattle.paris_desk.specs.Seats.{fresh, sitting, Sitting}
+use Rattle.paris_desk.specs.Seats.{fresh, sitting, SeatState}
 use Rattle.paris_desk.proofs.Pasts.{admits}
 use Rattle.paris_desk.proofs.desk.seated.Goals as goal
 
-one_more : (n : ℕ) (xs ys : List Sitting) (s : Sitting) → xs ≡ fresh n → s ≡ sitting n [] 0 [] → ys ≡ xs ++ s ∷ [] → ys ≡ fresh (n + 1)
+one_more : (n : ℕ) (xs ys : List SeatState) (s : SeatState) → xs ≡ fresh n → s ≡ sitting n [] 0 [] → ys ≡ xs ++ s ∷ [] → ys ≡ fresh (n + 1)
 one_more n xs ys s is seat more = more ∙ ap (λ z. xs ++ z ∷ []) seat ∙ ap (λ zs. zs ++ sitting n [] 0 [] ∷ []) is ∙ rw add-one refl
 
 pub reader-requires : goal.reader-requires
-reader-requires g c = admits g.L.Office.log
+reader-requires g c = admits g.L.Office.profile g.L.Office.log
 
 pub loop-number-preserved : goal.loop-number-preserved
 loop-number-preserved g c =

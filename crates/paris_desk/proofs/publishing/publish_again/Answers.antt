@@ -1,6 +1,6 @@
 use Rattle.std.proofs.Common.{◌≡◌, [], ◌∷◌, ◌++◌, List, fold, ap, ◌∙◌, subst, sym}
 use mathlib.Core.List.{IsPrefix}
-use Rattle.paris_desk.specs.Rules.{Posted}
+use Rattle.paris_desk.specs.Rules.{IsSound, Posted}
 use Rattle.paris_desk.proofs.Prefixes.{prefix_self}
 use Rattle.paris_desk.proofs.publishing.publish_again.Goals as goal
 
@@ -13,7 +13,7 @@ publish_pending-requires g c =
     let w = c.append_again.new.writer in
     let shown : w.desk.shown.value ≡ c.args.start.desk.shown.value = ap (λ d. d.shown.value) c.append_again.ensures.shown in
     let next = next_is c.args.start.desk.shown.value w.desk.shown.value _ _ c.in-Ok.ensures.pending c.requires.writer in
-    (ap (λ (z : Posted). z.log) next ∙ c.requires.log, subst (λ (z : Posted). IsPrefix w.desk.shown.value.history z.history) (shown ∙ sym next) (prefix_self w.desk.shown.value.history))
+    (ap (λ (z : Posted). z.log) next ∙ c.requires.shown.0, subst (λ (z : Posted). IsPrefix w.desk.shown.value.history z.history) (shown ∙ sym next) (prefix_self w.desk.shown.value.history), subst (IsSound g.L.Office.profile) (sym next) c.requires.shown.1)
 
 pub returns-in-Ok : goal.returns-in-Ok
 returns-in-Ok g c =

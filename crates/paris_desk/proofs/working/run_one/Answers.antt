@@ -7,16 +7,16 @@ use Rattle.paris_desk.proofs.working.run_one.Goals as goal
 
 pub returns : goal.returns
 returns g c =
-    let taken = told_as _ _ _ _ _ (ap (λ o. ReplyCase.Take o) c.in-Some.is) c.in_ok-order.ensures.recorded in
+    let taken = told_as g.L.Office.profile _ _ _ _ _ (ap (λ o. ReplyCase.Take o) c.in-Some.is) c.in_ok-order.ensures.recorded in
     record {
-      turn = turn_run _ _ _ _ _ _ taken c.in-Some-execute_inside.ensures c.in_default-bring.ensures.recorded;
+      turn = turn_run g.L.Office.profile _ _ _ _ _ _ taken c.in-Some-execute_inside.ensures c.in_default-bring.ensures.recorded;
       stopped = tt;
     }
 
 pub returns-in-Err : goal.returns-in-Err
 returns-in-Err g c =
-    let taken = told_as _ _ _ _ _ (ap (λ o. ReplyCase.Take o) c.in-Some.is) c.in_ok-order.ensures.recorded in
-    record { turn = tt; stopped = order_left g.L.Office.limit _ _ _ _ _ taken c.in-Err.ensures.unrecorded.1 }
+    let taken = told_as g.L.Office.profile _ _ _ _ _ (ap (λ o. ReplyCase.Take o) c.in-Some.is) c.in_ok-order.ensures.recorded in
+    record { turn = tt; stopped = order_left g.L.Office.profile g.L.Office.limit _ _ _ _ _ taken c.in-Err.ensures.unrecorded.1 }
 
 pub returns-in_err-order-clause-stopped : goal.returns-in_err-order-clause-stopped
 returns-in_err-order-clause-stopped g c =
@@ -25,4 +25,4 @@ returns-in_err-order-clause-stopped g c =
 
 pub returns-in_default-execute_inside-clause-stopped : goal.returns-in_default-execute_inside-clause-stopped
 returns-in_default-execute_inside-clause-stopped g c =
-    order_kept g.L.Office.limit _ _ _ (told_as _ _ _ _ _ (ap (λ o. ReplyCase.Take o) c.in-Some.is) c.in_ok-order.ensures.recorded)
+    order_kept g.L.Office.profile g.L.Office.limit _ _ _ (told_as g.L.Office.profile _ _ _ _ _ (ap (λ o. ReplyCase.Take o) c.in-Some.is) c.in_ok-order.ensures.recorded)

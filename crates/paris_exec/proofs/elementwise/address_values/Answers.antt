@@ -2,7 +2,7 @@ use Rattle.std.proofs.Common.{◌≤◌, ◌∙◌, ◌/◌, ◌%◌, ◌^◌, r
 use Rattle.paris_names.specs.declared.keys.Key.TheVariants.{Field}
 use Rattle.paris_geometry.specs.Geometry.{processor_count}
 use Rattle.paris_model.specs.declared.actions.Conditional.TheVariants.{MyAddress}
-use Rattle.paris_model.specs.Store.{everywhere}
+use Rattle.paris_model.specs.Store.{everywhere, low}
 use Rattle.paris_model.specs.Instructions.{Plan, key_width}
 use Rattle.paris_field.specs.Fields.{FieldNumbers}
 use Rattle.paris_exec.proofs.Addresses.{addresses_are}
@@ -28,6 +28,8 @@ returns c =
     ok_then _ _ c.put_field.result (λ values is.
     is
     ∙ address_left c.args.order.now c.args.to.now c.args.bits c.requires.acts c.in_ok-new.new
-    (c.in_ok-new.ensures ∙ ap (λ n. made (everywhere n (λ v. v / 2 ^ 0 % 2 ^ c.args.bits))) (c.vps-vps.ensures.value ∙ ap processor_count (c.geometry.ensures ∙ ap (λ (p : Plan). p.axes) c.plan.ensures))
-    ∙ ap made (addresses_are (processor_count c.args.order.now.plan.axes) c.args.bits)))
+    (c.in_ok-new.ensures
+    ∙ ap (λ (k : ℕ). made (everywhere c.vps-vps.result (λ v. v / 2 ^ 0 % 2 ^ k))) c.min-count.ensures
+    ∙ ap made (addresses_are c.vps-vps.result c.args.bits c.vps-vps.ensures.few)
+    ∙ ap (λ n. made (everywhere n (low c.args.bits))) (c.vps-vps.ensures.value ∙ ap processor_count (c.geometry.ensures ∙ ap (λ (p : Plan). p.axes) c.plan.ensures))))
     c.put_field.ensures

@@ -3,7 +3,7 @@ use Rattle.paris_names.specs.declared.keys.Key.TheVariants.{Field}
 use Rattle.paris_model.specs.declared.actions.Mail.TheVariants.{CombiningSend}
 use Rattle.paris_model.specs.Instructions.{key_width}
 use Rattle.paris_field.specs.Fields.{FieldNumbers}
-use Rattle.paris_router.specs.Mail.{refusal_in}
+use Rattle.paris_router.specs.Mail.{refusal_of}
 use Rattle.paris_exec.proofs.ByMail.{combining_left, combining_refused, mail_addresses_read, mail_context_read, mail_target_read, mail_target_wide}
 use Rattle.paris_exec.proofs.Operands.{bits_count, if_ok, numbers_count, value_wide}
 use Rattle.paris_exec.proofs.mail.combining_answer.Goals as goal
@@ -42,7 +42,7 @@ put_delivery-requires-clause-receivers c =
 
 pub returns-in_ok-put_delivery-in-Ok-clause-refused : goal.returns-in_ok-put_delivery-in-Ok-clause-refused
 returns-in_ok-put_delivery-in-Ok-clause-refused c =
-    sym (ap refusal_in c.in-Ok.is) ∙ c.in_ok-new.ensures.refused ∙ combining_refused c.args.order.now c.args.addresses.now c.args.from.now c.args.bits c.input-places.result.now c.args.x.now c.flag_plane-selected.result.now c.flag_plane-selected.ensures.bits c.input-places.ensures.value c.input-places.ensures.count c.requires.x_numbers c.requires.x_count c.args.to.now c.args.combiner c.args.notify.now c.requires.acts
+    sym (ap refusal_of c.in-Ok.is) ∙ c.in_ok-new.ensures.refused ∙ combining_refused c.args.order.now c.args.addresses.now c.args.from.now c.args.bits c.input-places.result.now c.args.x.now c.flag_plane-selected.result.now c.flag_plane-selected.ensures.bits c.input-places.ensures.value c.input-places.ensures.count c.requires.x_numbers c.requires.x_count c.args.to.now c.args.combiner c.args.notify.now c.requires.acts
 
 pub returns-in_ok-put_delivery-in-Ok-clause-values : goal.returns-in_ok-put_delivery-in-Ok-clause-values
 returns-in_ok-put_delivery-in-Ok-clause-values c =
@@ -50,4 +50,4 @@ returns-in_ok-put_delivery-in-Ok-clause-values c =
 
 pub returns-in-Err-clause-refused : goal.returns-in-Err-clause-refused
 returns-in-Err-clause-refused c =
-    sym (ap refusal_in c.in-Err.is) ∙ c.in_ok-new.ensures.refused ∙ combining_refused c.args.order.now c.args.addresses.now c.args.from.now c.args.bits c.input-places.result.now c.args.x.now c.flag_plane-selected.result.now c.flag_plane-selected.ensures.bits c.input-places.ensures.value c.input-places.ensures.count c.requires.x_numbers c.requires.x_count c.args.to.now c.args.combiner c.args.notify.now c.requires.acts
+    sym (ap refusal_of c.in-Err.is) ∙ c.in_ok-new.ensures.refused ∙ combining_refused c.args.order.now c.args.addresses.now c.args.from.now c.args.bits c.input-places.result.now c.args.x.now c.flag_plane-selected.result.now c.flag_plane-selected.ensures.bits c.input-places.ensures.value c.input-places.ensures.count c.requires.x_numbers c.requires.x_count c.args.to.now c.args.combiner c.args.notify.now c.requires.acts

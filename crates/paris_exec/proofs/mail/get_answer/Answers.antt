@@ -3,7 +3,7 @@ use Rattle.paris_names.specs.declared.keys.Key.TheVariants.{Field}
 use Rattle.paris_model.specs.declared.actions.Mail.TheVariants.{Get}
 use Rattle.paris_model.specs.Instructions.{key_width}
 use Rattle.paris_field.specs.Fields.{FieldNumbers}
-use Rattle.paris_router.specs.Mail.{refusal_in}
+use Rattle.paris_router.specs.Mail.{refusal_of}
 use Rattle.paris_exec.proofs.ByMail.{get_left, get_refused, mail_addresses_read, mail_both_read, mail_context_read, mail_target_wide}
 use Rattle.paris_exec.proofs.Operands.{if_ok, numbers_count}
 use Rattle.paris_exec.proofs.mail.get_answer.Goals as goal
@@ -34,4 +34,4 @@ returns-in_ok-put_field-in-Ok-clause-values c =
 
 pub returns-in-Err-clause-refused : goal.returns-in-Err-clause-refused
 returns-in-Err-clause-refused c =
-    sym (ap refusal_in c.in-Err.is) ∙ c.in_ok-new.ensures.refused ∙ get_refused c.args.order.now c.args.addresses.now c.args.from.now c.args.bits c.input-places.result.now c.args.x.now c.flag_plane-selected.result.now c.flag_plane-selected.ensures.bits c.input-places.ensures.value c.input-places.ensures.count c.requires.x_numbers c.requires.x_count c.args.to.now c.requires.acts
+    sym (ap refusal_of c.in-Err.is) ∙ c.in_ok-new.ensures.refused ∙ get_refused c.args.order.now c.args.addresses.now c.args.from.now c.args.bits c.input-places.result.now c.args.x.now c.flag_plane-selected.result.now c.flag_plane-selected.ensures.bits c.input-places.ensures.value c.input-places.ensures.count c.requires.x_numbers c.requires.x_count c.args.to.now c.requires.acts

@@ -3,7 +3,7 @@ use Rattle.paris_names.specs.declared.keys.Key.TheVariants.{Field}
 use Rattle.paris_model.specs.declared.actions.Mail.TheVariants.{Send}
 use Rattle.paris_model.specs.Instructions.{key_width}
 use Rattle.paris_field.specs.Fields.{FieldNumbers}
-use Rattle.paris_router.specs.Mail.{refusal_in}
+use Rattle.paris_router.specs.Mail.{refusal_of}
 use Rattle.paris_exec.proofs.ByMail.{mail_addresses_read, mail_context_read, mail_target_read, mail_target_wide, send_left, send_refused}
 use Rattle.paris_exec.proofs.Operands.{bits_count, if_ok, numbers_count}
 use Rattle.paris_exec.proofs.mail.send_answer.Goals as goal
@@ -34,7 +34,7 @@ put_delivery-requires-clause-receivers c =
 
 pub returns-in_ok-put_delivery-in-Ok-clause-refused : goal.returns-in_ok-put_delivery-in-Ok-clause-refused
 returns-in_ok-put_delivery-in-Ok-clause-refused c =
-    sym (ap refusal_in c.in-Ok.is) ∙ c.in_ok-new.ensures.refused ∙ send_refused c.args.order.now c.args.addresses.now c.args.from.now c.args.bits c.input-places.result.now c.args.x.now c.flag_plane-selected.result.now c.flag_plane-selected.ensures.bits c.input-places.ensures.value c.input-places.ensures.count c.requires.x_numbers c.requires.x_count c.args.to.now c.args.notify.now c.requires.acts
+    sym (ap refusal_of c.in-Ok.is) ∙ c.in_ok-new.ensures.refused ∙ send_refused c.args.order.now c.args.addresses.now c.args.from.now c.args.bits c.input-places.result.now c.args.x.now c.flag_plane-selected.result.now c.flag_plane-selected.ensures.bits c.input-places.ensures.value c.input-places.ensures.count c.requires.x_numbers c.requires.x_count c.args.to.now c.args.notify.now c.requires.acts
 
 pub returns-in_ok-put_delivery-in-Ok-clause-values : goal.returns-in_ok-put_delivery-in-Ok-clause-values
 returns-in_ok-put_delivery-in-Ok-clause-values c =
@@ -42,4 +42,4 @@ returns-in_ok-put_delivery-in-Ok-clause-values c =
 
 pub returns-in-Err-clause-refused : goal.returns-in-Err-clause-refused
 returns-in-Err-clause-refused c =
-    sym (ap refusal_in c.in-Err.is) ∙ c.in_ok-new.ensures.refused ∙ send_refused c.args.order.now c.args.addresses.now c.args.from.now c.args.bits c.input-places.result.now c.args.x.now c.flag_plane-selected.result.now c.flag_plane-selected.ensures.bits c.input-places.ensures.value c.input-places.ensures.count c.requires.x_numbers c.requires.x_count c.args.to.now c.args.notify.now c.requires.acts
+    sym (ap refusal_of c.in-Err.is) ∙ c.in_ok-new.ensures.refused ∙ send_refused c.args.order.now c.args.addresses.now c.args.from.now c.args.bits c.input-places.result.now c.args.x.now c.flag_plane-selected.result.now c.flag_plane-selected.ensures.bits c.input-places.ensures.value c.input-places.ensures.count c.requires.x_numbers c.requires.x_count c.args.to.now c.args.notify.now c.requires.acts

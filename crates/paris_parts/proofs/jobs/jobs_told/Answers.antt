@@ -9,7 +9,7 @@ loop-seat-preserved g c = record {
   can_next = tt;
   is_finite = tt;
   jobs =
-      begun_more c.args.first.now c.in-Some.seat c.told.result c.args.seats.items (into_iter_items c.loop-seat.seat-iterator) (into_iter_items c.next.new.self)
+      begun_more g.L.Office.profile c.args.first.now c.in-Some.seat c.told.result c.args.seats.items (into_iter_items c.loop-seat.seat-iterator) (into_iter_items c.next.new.self)
       c.loop-seat.jobs.items c.push.new.self.items c.in-Some.ensures.steps.0 c.told.ensures
       (c.in_ok-push.ensures.items ∙ ap (λ (d : Doing). c.loop-seat.jobs.items ++ Ok d ∷ []) c.new.ensures) c.loop-seat.invariant.jobs;
 }

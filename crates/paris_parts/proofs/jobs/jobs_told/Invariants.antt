@@ -7,5 +7,5 @@ abbrev pub invariant-loop-seat : goal.invariant-loop-seat
 invariant-loop-seat g l = record {
   can_next : (goal.iterator-loop-seat g).can_next l.seat-iterator;
   is_finite : (goal.iterator-loop-seat g).is_finite l.seat-iterator;
-  jobs : AreBegun l.fn.first l.fn.seats.items (into_iter_items l.seat-iterator) l.jobs.items;
+  jobs : AreBegun g.L.Office.profile l.fn.first l.fn.seats.items (into_iter_items l.seat-iterator) l.jobs.items;
 }

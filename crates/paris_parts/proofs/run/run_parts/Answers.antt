@@ -10,4 +10,4 @@ play_all-requires-clause-parts g c κs within =
     let last = c.in-Some.last in
     let all = subst (All IsShort) (sym c.in_ok-parts.ensures ∙ c.in-Some.ensures.items) (script_short c.args.script.now c.requires.few) in
     let both = short_played played last all in
-    (subst (All IsShort) (sym c.as_slice-2.ensures.value) both.0, both.1)
+    (subst (All IsShort) (sym c.as_slice-3.ensures.value) both.0, both.1)

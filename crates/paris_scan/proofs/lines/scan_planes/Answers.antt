@@ -7,7 +7,7 @@ use Rattle.paris_model.specs.Lines.{values_where, scan_values}
 use Rattle.paris_field.specs.Numbers.{AllOf, has, number_at}
 use Rattle.paris_field.proofs.Places.{get_or-bits_everywhere, length-bits_everywhere}
 use Rattle.paris_plane.proofs.Bits.{written}
-use Rattle.paris_scan.specs.Runs.{begins_run, run}
+use Rattle.paris_scan.specs.Runs.{begins_run, segment_run}
 use Rattle.paris_scan.proofs.Turns.{Walk, run_before, run_same, starts_line}
 use Rattle.paris_scan.proofs.Brought.{all_brought}
 use Rattle.paris_scan.proofs.Defined.{inclusive_run}
@@ -95,7 +95,7 @@ returns-in-Exclusive-clause-shows g c =
     let same : (u : ℕ) → u < n → get_or c.in_ok-begun.begun u false ≡ f u = λ u below. ap (λ (l : List Bool). get_or l u false) c.in_ok-begun.ensures ∙ starts u below in
     let state : List (List Bool) = c.deref.result.now in
     let is : state ≡ c.double.new.state = c.deref.ensures.value ∙ written _ c.double.new.state _ (c.double.auto.state ∙ c.deref_mut.ensures.len) in
-    let last : (u : ℕ) → u < n → number_at state u ≡ g.C.Combine.shows L (run f own d (stride axes a) (axis_length axes a) u) = λ u below.
+    let last : (u : ℕ) → u < n → number_at state u ≡ g.C.Combine.shows L (segment_run f own d (stride axes a) (axis_length axes a) u) = λ u below.
     ap (λ (ps : List (List Bool)). number_at ps u) is
     ∙ c.double.ensures.runs L own (ap length c.deref_mut.ensures.value ∙ count) (λ x. own_fits selected value L x (fits x)) (λ x inside. ap (λ (ps : List (List Bool)). number_at ps x) c.deref_mut.ensures.value ∙ shown x inside) u below
     ∙ ap (g.C.Combine.shows L) (run_same w (λ x. get_or c.in_ok-begun.begun x false) own (axis_length axes a) u same below) in

@@ -2,7 +2,7 @@ use Rattle.paris_text.specs.Reading.{Gives, place}
 use Rattle.paris_text.specs.CommandReading.{rest_at}
 use Rattle.paris_text.proofs.RefusalLemmas.{column_given, given_ok, given_err}
 use Rattle.paris_text.proofs.commands.rest_of_command.Goals as goal
-use Rattle.paris_text.proofs.commands.rest_of_command.Goals.{in-Field, in-Insert, in-Delete, in-Replace, in-Take, in-Bring, in-Release, in-Show, in-List, in-Faults, in-Settle}
+use Rattle.paris_text.proofs.commands.rest_of_command.Goals.{in-Field, in-Insert, in-Delete, in-Replace, in-Take, in-Bring, in-Release, in-Show, in-List, in-Faults, in-Settle, in-Paris}
 
 pub returns-in-Set : goal.returns-in-Set
 returns-in-Set c = rw c.in-Set.is c.set_command.ensures
@@ -25,6 +25,7 @@ returns-in_err-command c =
       | in-List w ↦ rw (w.command-is, w.in-List.is) w.bare_command-command-in-List.ensures
       | in-Faults w ↦ rw (w.command-is, w.in-Faults.is) w.bare_command-command-in-Faults.ensures
       | in-Settle w ↦ rw (w.command-is, w.in-Settle.is) w.bare_command-command-in-Settle.ensures
+      | in-Paris w ↦ rw (w.command-is, w.in-Paris.is) w.paris_command-command.ensures
     ] in
     column_given _ c.from_residual.result _ _ c.from_residual.ensures.1 (given_err c.match-verb.command _ _ gives c.in_err-command.was)
 
@@ -43,5 +44,6 @@ returns c =
       | in-List w ↦ rw (w.command-is, w.in-List.is) w.bare_command-command-in-List.ensures
       | in-Faults w ↦ rw (w.command-is, w.in-Faults.is) w.bare_command-command-in-Faults.ensures
       | in-Settle w ↦ rw (w.command-is, w.in-Settle.is) w.bare_command-command-in-Settle.ensures
+      | in-Paris w ↦ rw (w.command-is, w.in-Paris.is) w.paris_command-command.ensures
     ] in
     given_ok c.match-verb.command _ _ gives c.in_ok-command.was

@@ -4,4 +4,4 @@ abbrev pub ghosts-opens-L-Ledger : goal.ghosts-opens-L-Ledger
 ghosts-opens-L-Ledger g a = record { name = a.opening.blank.name; parts = a.opening.blank.parts }
 
 abbrev pub ghosts-opens-L-Office : goal.ghosts-opens-L-Office
-ghosts-opens-L-Office g a = record { seats = a.seats; limit = a.limit; log = a.opening.seen.book }
+ghosts-opens-L-Office g a = record { seats = a.seats; limit = a.limit; profile = a.profile; log = a.opening.seen.book }

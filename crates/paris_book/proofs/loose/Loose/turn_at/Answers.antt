@@ -1,14 +1,31 @@
-use Rattle.std.proofs.Common.{◌≡◌, ap, ◌∙◌, sym}
+use Rattle.std.proofs.Common.{◌≡◌, ◌∙◌, ap, sym}
 use Rattle.std.specs.Prelude.{Some}
-use Rattle.paris_book.specs.Steps.{own_order}
+use Rattle.paris_book.specs.Steps.{own_order, run_at, turn_order}
 use Rattle.paris_book.proofs.InOrder.{count}
-use Rattle.paris_book.proofs.Turns.{uncut, turn_runs}
+use Rattle.paris_book.proofs.Turns.{turn_some, turned_some, left_there}
 use Rattle.paris_book.proofs.loose.Loose.turn_at.Goals as goal
+
+pub keep_own-requires : goal.keep_own-requires
+keep_own-requires g c =
+    let s = c.args.self.now in
+    let own : turn_order s c.args.place ≡ Some c.in-Some.order = sym c.in_ok-order.ensures.order ∙ c.in-Some.is in
+    let turn = turn_some s c.args.place c.in-Some.order own in
+    ap (λ z. own_order z c.args.place) (c.in_ok-order.ensures.state ∙ turn.2) ∙ turn.1 ∙ ap Some (sym c.in-Some-execute_inside.ensures)
+
+pub returns-in-None-clause-left : goal.returns-in-None-clause-left
+returns-in-None-clause-left g c =
+    let s = c.args.self.now in
+    let own : turn_order s c.args.place ≡ Some c.in-Some.order = sym c.in_ok-order.ensures.order ∙ c.in-Some.is in
+    sym (left_there s c.args.place c.in-Some.order own)
 
 pub returns-in-Some-execute_inside-clause-ran : goal.returns-in-Some-execute_inside-clause-ran
 returns-in-Some-execute_inside-clause-ran g c =
     let s = c.args.self.now in
-    let none = sym c.cut_at.ensures.cut ∙ c.if-cut_at.false in
-    let same : c.cut_at.new.self ≡ s = c.cut_at.ensures.state ∙ uncut s c.args.place none in
-    let own : own_order s c.args.place ≡ Some c.in-Some.order = sym (c.in_ok-order.ensures.order ∙ ap (λ z. own_order z c.args.place) same) ∙ c.in-Some.is in
-    ap count (turn_runs s c.args.place (sym c.is_settled_at.ensures ∙ c.if-is_settled_at.false) none c.in-Some.order own).0
+    let own : turn_order s c.args.place ≡ Some c.in-Some.order = sym c.in_ok-order.ensures.order ∙ c.in-Some.is in
+    ap count (turn_some s c.args.place c.in-Some.order own).0
+
+pub returns-in-Some-execute_inside-clause-state : goal.returns-in-Some-execute_inside-clause-state
+returns-in-Some-execute_inside-clause-state g c =
+    let s = c.args.self.now in
+    let own : turn_order s c.args.place ≡ Some c.in-Some.order = sym c.in_ok-order.ensures.order ∙ c.in-Some.is in
+    c.keep_own.ensures ∙ ap (λ z. run_at z c.args.place) (c.in_ok-order.ensures.state ∙ (turn_some s c.args.place c.in-Some.order own).2) ∙ turned_some s c.args.place c.in-Some.order own

@@ -2,13 +2,13 @@ use Rattle.std.proofs.Common.{ℕ, ◌+◌, ◌≤◌, List, [], map, arith, ap,
 use Rattle.std.specs.Vec.{vec_len, vec_capacity}
 use Rattle.paris_names.specs.declared.ids.RowId.{RowId}
 use Rattle.paris_depends.specs.Lists.{Lists, room_at, list_at}
-use Rattle.paris_depends.specs.ListsInside.{ids_in, room_in}
+use Rattle.paris_depends.specs.ListsInside.{ids_held, room_in}
 use Rattle.paris_depends.proofs.Slots.{map-set_kept, get_or-mapped_set, grown, on_ok}
 use Rattle.paris_depends.proofs.lists.Lists.make_room.Goals as goal
 
 pub returns-clause-ids : goal.returns-clause-ids
 returns-clause-ids c = λ s.
-    let kept = map-set_kept ids_in c.widen.new.lists.items c.args.slot c.reserve.new.self c.index_mut.result.now c.in_ok-widen.ensures.ok c.index_mut.ensures.value (ap (λ (l : List RowId). map (λ (id : RowId). id.0) l) c.reserve.ensures.items) in
+    let kept = map-set_kept ids_held c.widen.new.lists.items c.args.slot c.reserve.new.self c.index_mut.result.now c.in_ok-widen.ensures.ok c.index_mut.ensures.value (ap (λ (l : List RowId). map (λ (id : RowId). id.0) l) c.reserve.ensures.items) in
     ap (λ (ls : List (List ℕ)). get_or ls s []) kept ∙ c.widen.ensures.ids s ∙ ap (λ (l : Lists). list_at l s) c.self.view_is
 
 pub returns-clause-more : goal.returns-clause-more

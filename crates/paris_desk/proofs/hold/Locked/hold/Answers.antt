@@ -1,11 +1,11 @@
 use Rattle.std.specs.Prelude.{OnOk, is_err}
-use Rattle.std.proofs.Common.{rules, ◌<◌, ℕ, Result, Ok, Err, false, ◌≡◌, [], ◌∷◌, ◌++◌, ◌+◌, ◌≤◌, length, None, List, sym, ap, ◌∙◌, arith, subst, drop, length-append}
+use Rattle.std.proofs.Common.{rules, ◌<◌, ℕ, Result, Ok, Err, false, ◌≡◌, [], ◌∷◌, ◌++◌, ◌+◌, ◌≤◌, length, None, List, refl, sym, ap, ◌∙◌, arith, subst, drop, length-append}
 use mathlib.Core.List.{IsPrefix}
 use Rattle.std.specs.Arc.{arc_value}
 use Rattle.paris_records.specs.declared.records.Entry.{Entry}
 use Rattle.paris_records.specs.declared.records.Receipt.{Receipt}
 use Rattle.paris_desk.specs.Calls.{hold_fault}
-use Rattle.paris_desk.specs.Rules.{Posted, posted}
+use Rattle.paris_desk.specs.Rules.{IsSound, Posted, posted}
 use Rattle.paris_desk.proofs.Histories.{none_due, recorded, state_next}
 use Rattle.paris_desk.proofs.Joining.{part_called}
 use Rattle.paris_desk.proofs.Prefixes.{prefix_snoc}
@@ -29,17 +29,17 @@ pub new-requires : goal.new-requires
 new-requires g c =
     let i = c.self.invariant in
     let k = c.in-Ok.ensures in
-    state_next c.self.inside.history.items c.self.inside.known c.in-Some-add.known c.deref.result.now (arc_value c.in-Ok.prepared.shown) c.in-Ok.prepared.entry c.args.event (c.deref.ensures ∙ i.1) i.7 c.in-Some-add.ensures (ap (λ (x : Entry). x.event) k.entry) k.state.1
+    state_next g.L.Office.profile c.self.inside.history.items c.self.inside.known c.in-Some-add.known c.deref.result.now (arc_value c.in-Ok.prepared.shown) c.in-Ok.prepared.entry c.args.event (c.deref.ensures ∙ i.1) i.7 c.in-Some-add.ensures (ap (λ (x : Entry). x.event) k.entry) k.state.1
 
 pub publish-writer-requires-clause-shown : goal.publish-writer-requires-clause-shown
 publish-writer-requires-clause-shown g c =
     let i = c.self.invariant in
     let h = c.self.inside.history.items in
     let e = c.in-Ok.prepared.entry in
-    let shown : c.in-Some-take.writer.desk.shown.value ≡ posted g.L.Office.log h = search rules in
+    let shown : c.in-Some-take.writer.desk.shown.value ≡ posted g.L.Office.profile g.L.Office.log h = search rules in
     let a : c.in-Some-take.writer.desk.shown.value.history ≡ h = ap (λ (x : Posted). x.history) shown in
-    let b : c.new.result.history ≡ h ++ e ∷ [] = ap (λ (x : Posted). x.history) c.new.ensures ∙ c.in-Some-add.ensures ∙ ap (λ (l : List Entry). l ++ e ∷ []) i.7 in
-    (ap (λ (x : Posted). x.log) c.new.ensures, rw (a, b) (prefix_snoc h e))
+    let b : c.new.result.history ≡ h ++ e ∷ [] = ap (λ (x : Posted). x.history) c.new.ensures.shown ∙ c.in-Some-add.ensures ∙ ap (λ (l : List Entry). l ++ e ∷ []) i.7 in
+    (ap (λ (x : Posted). x.log) c.new.ensures.shown, rw (a, b) (prefix_snoc h e), subst (IsSound g.L.Office.profile) (sym c.new.ensures.shown) (c.new.ensures.legal, refl))
 
 pub invariant_of-self-2 : goal.invariant_of-self-2
 invariant_of-self-2 g c =
@@ -56,9 +56,9 @@ invariant_of-self-2 g c =
     let more = c.push_reserved.ensures.items ∙ ap (λ (l : List Entry). l ++ e ∷ []) c.reserve.ensures.items in
     let noted = c.push_reserved-2.ensures.items ∙ ap (λ (l : List Receipt). l ++ c.in-Ok.prepared.receipt ∷ []) c.reserve-else-is_err.ensures.items in
     let all = c.in-Some-add.ensures ∙ ap (λ (l : List Entry). l ++ e ∷ []) i.7 ∙ sym more in
-    let r = recorded g.L.Office.limit (c.len.result + 1) h c.push_reserved.new.self.items c.seat.inside.number c.seat.inside.front c.seat.inside.receipts.items c.push_reserved-2.new.self.items c.seat.inside.known c.again.result c.deref.result.now (arc_value c.in-Ok.prepared.kept) c.self.inside.tally.total c.add-2.new.self.total c.args.event c.in-Ok.prepared.given e c.in-Ok.prepared.receipt (i.0, c.deref.ensures ∙ i.1, i.2, i.3) count due begins k.given k.entry k.receipt k.state.0 c.add-2.ensures.total more noted (c.again.ensures ∙ all) in
-    let writer : (c.publish-writer.result.desk.shown.value ≡ posted g.L.Office.log c.push_reserved.new.self.items) × (drop c.publish-writer.result.behind c.publish-writer.result.log.items ≡ []) =
-    (c.publish-writer.ensures.0 ∙ c.new.ensures ∙ ap (λ (l : List Entry). posted g.L.Office.log l) all, c.publish-writer.ensures.1) in
+    let r = recorded g.L.Office.profile g.L.Office.limit (c.len.result + 1) h c.push_reserved.new.self.items c.seat.inside.number c.seat.inside.front c.seat.inside.receipts.items c.push_reserved-2.new.self.items c.seat.inside.known c.again.result c.deref.result.now (arc_value c.in-Ok.prepared.kept) c.self.inside.tally.total c.add-2.new.self.total c.args.event c.in-Ok.prepared.given e c.in-Ok.prepared.receipt (i.0, c.deref.ensures ∙ i.1, i.2, i.3) count due begins k.given k.entry k.receipt k.state.0 c.add-2.ensures.total more noted (c.again.ensures ∙ all) in
+    let writer : (c.publish-writer.result.desk.shown.value ≡ posted g.L.Office.profile g.L.Office.log c.push_reserved.new.self.items) × (drop c.publish-writer.result.behind c.publish-writer.result.log.items ≡ []) =
+    (c.publish-writer.ensures.0 ∙ c.new.ensures.shown ∙ ap (λ (l : List Entry). posted g.L.Office.profile g.L.Office.log l) all, c.publish-writer.ensures.1) in
     (r.0.0, r.0.1, r.0.2, r.0.3, i.4, i.5, i.6, c.again-2.ensures ∙ all, rw c.replace.ensures.after writer)
 
 pub invariant_of-seat-2 : goal.invariant_of-seat-2
@@ -95,5 +95,5 @@ returns-clause-recorded g c =
     let more = c.push_reserved.ensures.items ∙ ap (λ (l : List Entry). l ++ e ∷ []) c.reserve.ensures.items in
     let noted = c.push_reserved-2.ensures.items ∙ ap (λ (l : List Receipt). l ++ c.in-Ok.prepared.receipt ∷ []) c.reserve-else-is_err.ensures.items in
     let all = c.in-Some-add.ensures ∙ ap (λ (l : List Entry). l ++ e ∷ []) i.7 ∙ sym more in
-    let r = recorded g.L.Office.limit (c.len.result + 1) h c.push_reserved.new.self.items c.seat.inside.number c.seat.inside.front c.seat.inside.receipts.items c.push_reserved-2.new.self.items c.seat.inside.known c.again.result c.deref.result.now (arc_value c.in-Ok.prepared.kept) c.self.inside.tally.total c.add-2.new.self.total c.args.event c.in-Ok.prepared.given e c.in-Ok.prepared.receipt (i.0, c.deref.ensures ∙ i.1, i.2, i.3) count due begins k.given k.entry k.receipt k.state.0 c.add-2.ensures.total more noted (c.again.ensures ∙ all) in
+    let r = recorded g.L.Office.profile g.L.Office.limit (c.len.result + 1) h c.push_reserved.new.self.items c.seat.inside.number c.seat.inside.front c.seat.inside.receipts.items c.push_reserved-2.new.self.items c.seat.inside.known c.again.result c.deref.result.now (arc_value c.in-Ok.prepared.kept) c.self.inside.tally.total c.add-2.new.self.total c.args.event c.in-Ok.prepared.given e c.in-Ok.prepared.receipt (i.0, c.deref.ensures ∙ i.1, i.2, i.3) count due begins k.given k.entry k.receipt k.state.0 c.add-2.ensures.total more noted (c.again.ensures ∙ all) in
     rw (← c.self.view_is, ← c.seat.view_is) r.1

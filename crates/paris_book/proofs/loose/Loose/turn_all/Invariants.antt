@@ -1,0 +1,14 @@
+-- The rows of the places that were taken off had their turn.
+use Rattle.std.proofs.Common.{◌≡◌, length}
+use Rattle.paris_book.specs.Rounds.{Advances}
+use Rattle.paris_book.specs.Wanted.{turned_all}
+use Rattle.paris_book.proofs.loose.Loose.turn_all.Given as goal
+
+abbrev pub invariant-loop-place : goal.invariant-loop-place
+invariant-loop-place l = record {
+  state : turned_all l.left.items l.self ≡ turned_all l.fn.places.items l.fn.self;
+  advances : Advances l.ran l.fn.self l.self;
+}
+
+abbrev pub decreases-loop-place : goal.decreases-loop-place
+decreases-loop-place l = length l.left.items

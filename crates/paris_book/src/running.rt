@@ -1,0 +1,74 @@
+//! Orders that a book runs by itself, while others may be out.
+
+ghost use Rattle.std.specs.Prelude.{◌≡◌, ◌<◌, ◌≤◌, None, is_some, IsSome, IfOk, OnOk, OnErr};
+ghost use Rattle.paris_machine.specs.CutOff.{IsAtRest};
+ghost use Rattle.paris_machine.specs.Orders.{take_reply};
+ghost use Rattle.paris_machine.specs.Settling.{after_run, ran_orders};
+ghost use Rattle.paris_book.specs.Rounds.{ran_of};
+
+use crate::book::Book;
+use crate::looks::first_ready;
+use crate::loose::Loose;
+use crate::settlement::{SettleFault, execute_inside};
+use paris_exec::OpenGate;
+use std::alloc::AllocError;
+
+impl Loose {
+    /// Runs the order that a take would give, and keeps the result, with the rows that are cut off then. The answer is whether there
+    /// was one. The error says that memory was refused, and nothing has changed. No row could be cut off before.
+    fn run_next(&mut self) -> Result<bool, AllocError>
+        requires { IsAtRest self.old }
+        ensures ran { IfOk result (λ ran. ran ≡ is_some (take_reply self.old)) }
+        ensures state { OnOk result (self.new ≡ after_run self.old) }
+        ensures err { OnErr result (self.new ≡ self.old) }
+        ensures ready { OnErr result (IsSome (take_reply self.old)) }
+    {
+        let Some(place) = first_ready(&self.rows) else {
+            return Ok(false);
+        };
+        let Some(order) = self.own_order(place)? else {
+            unreachable!();
+        };
+        self.ids_are_apart();
+        match execute_inside(self.alloc, &OpenGate, order) {
+            None => Err(AllocError),
+            Some(done) => {
+                self.keep_own(place, done);
+                self.cut_behind(place);
+                Ok(true)
+            }
+        }
+    }
+}
+
+impl Book {
+    /// The same.
+    fn run_one(&mut self) -> Result<bool, AllocError>
+        ensures ran { IfOk result (λ ran. ran ≡ is_some (take_reply self.old)) }
+        ensures state { OnOk result (self.new ≡ after_run self.old) }
+        ensures err { OnErr result (self.new ≡ self.old) }
+        ensures ready { OnErr result (IsSome (take_reply self.old)) }
+    {
+        self.loose.run_next()
+    }
+
+    /// Takes orders, executes them and brings their results, one after another: at most so many, and fewer where no row is ready any
+    /// more. Orders that are out stay so, and what they bring is judged as ever. The answer is how many were run. The error says that
+    /// memory was refused, and holds how many were run all the same; nothing else has changed.
+    pub fn run(&mut self, most: u64) -> Result<u64, SettleFault>
+        ensures state { self.new ≡ ran_orders (ran_of result) self.old }
+        ensures most { ran_of result ≤ most }
+        ensures all { IfOk result (λ ran. ran < most → take_reply self.new ≡ None) }
+        ensures fewer { OnErr result (ran_of result < most) }
+        ensures ready { OnErr result (IsSome (take_reply self.new)) }
+    {
+        for ran in 0..most {
+            match self.run_one() {
+                Err(_) => return Err(SettleFault { ran }),
+                Ok(false) => return Ok(ran),
+                Ok(true) => {}
+            }
+        }
+        Ok(most)
+    }
+}

@@ -1,0 +1,135 @@
+//! Settling what one value stands on, and no more.
+
+ghost use Rattle.std.specs.Prelude.{◌≡◌, ◌∷◌, [], ◌+◌, ◌≤◌, Err, Some, length, map, take, true, IfOk, IfErr, OnOk, OnErr};
+ghost use Rattle.paris_names.specs.declared.keys.Key.{Key as AnyKey};
+ghost use Rattle.paris_names.specs.Keys.{has_key};
+ghost use Rattle.paris_board.specs.Board.{key_named};
+ghost use Rattle.paris_depends.specs.Sweeps.{marked};
+ghost use Rattle.paris_machine.specs.Settling.{all_settled, due};
+ghost use Rattle.paris_machine.specs.State.{place_of_spot};
+ghost use Rattle.paris_machine.specs.Events.{has_value};
+ghost use Rattle.paris_machine.specs.Show.{show_reply};
+ghost use Rattle.paris_book.specs.Entries.{machine_row};
+ghost use Rattle.paris_book.specs.Rounds.{Advances, StaySettled, ran_of};
+ghost use Rattle.paris_book.specs.Wanted.{has_turn, stands_on, settled_for, turned_all, wanted_from, wants};
+
+use crate::book::Book;
+use crate::loose::Loose;
+use crate::program_rows::Rows;
+use crate::rows::RowData;
+use crate::settlement::SettleFault;
+use paris_depends::{is_any_marked, mark};
+use paris_exec::OpenGate;
+use paris_names::{Fault, Key, KeyName, RowId, Spot};
+use std::alloc::{AllocError, Global};
+
+/// Carries the marks of the keys that are wanted back past a row, and answers whether the row is wanted and unsettled.
+fn carry_back(wanted: &mut [bool; 128], id: RowId, row: &RowData) -> bool
+    ensures turn { result ≡ has_turn (marked wanted.old) (machine_row (id.0, row.now)) }
+    ensures marks { (k : AnyKey) → marked wanted.new k ≡ wants (marked wanted.old) (machine_row (id.0, row.now)) k }
+{
+    let plan = row.plan();
+    if !is_any_marked(wanted, plan.writes()) {
+        return false;
+    }
+    mark(wanted, plan.writes(), false);
+    if row.status().is_settled() {
+        return false;
+    }
+    mark(wanted, plan.reads(), true);
+    true
+}
+
+/// The places of the unsettled rows that the value of a key at a place stands on, from the last row to the first. Rows before the
+/// first unsettled one aren't looked at.
+fn places_for(alloc: Global, rows: &Rows, place: usize, key: Key) -> Result<Vec<usize>, AllocError>
+    requires { place ≤ length rows.now.rows }
+    ensures { IfOk result (λ places. places.items ≡ wanted_from (has_key (key ∷ [])) 0 (take place (map machine_row rows.now.rows))) }
+{
+    let mut places = Vec::new(alloc);
+    let mut wanted = [false; 128];
+    mark(&mut wanted, &[key], true);
+    let start = rows.next_unsettled(0).unwrap_or(place);
+    let mut at = place;
+    while at > start {
+        at -= 1;
+        let (id, row) = rows.at(at);
+        if carry_back(&mut wanted, id, row) {
+            places.push(at)?;
+        }
+    }
+    Ok(places)
+}
+
+impl Loose {
+    /// The key and the place that a look is at. The error is the look's.
+    fn found(&self, name: KeyName, spot: Spot) -> Result<(Key, usize), Fault>
+        ensures key { IfOk result (λ found. key_named self.now.board name ≡ Some found.0) }
+        ensures place { IfOk result (λ found. place_of_spot self.now spot ≡ Some found.1) }
+        ensures within { IfOk result (λ found. found.1 ≤ length self.now.rows) }
+        ensures refused { IfErr result (λ fault. Err fault ≡ show_reply self.now name spot) }
+    {
+        let key = self.board.key_of(name)?;
+        let place = self.place_of_spot(spot)?;
+        Ok((key, place))
+    }
+
+    /// Gives the rows at these places their turn, the last of them first. The answer is how many were run, at an error too, which says
+    /// that memory was refused.
+    fn turn_all(&mut self, places: Vec<usize>) -> Result<u64, SettleFault>
+        ensures state { OnOk result (self.new ≡ turned_all places.items self.old) }
+        ensures advances { Advances (ran_of result) self.old self.new }
+    {
+        // How many rows are unsettled bounds how many are run.
+        let _unsettled = self.unsettled_count();
+        let mut left = places;
+        let mut ran = 0;
+        while let Some(place) = left.pop() {
+            let Ok(more) = self.turn_at(&OpenGate, place) else {
+                return Err(SettleFault { ran });
+            };
+            ran += more;
+        }
+        Ok(ran)
+    }
+
+    /// Gives the rows that the value of a key at a place stands on their turn, in program order. The answer is how many were run, at an
+    /// error too, which says that memory was refused.
+    fn turn_for(&mut self, place: usize, key: Key) -> Result<u64, SettleFault>
+        requires { place ≤ length self.old.rows }
+        ensures state { OnOk result (self.new ≡ turned_all (stands_on self.old place key) self.old) }
+        ensures advances { Advances (ran_of result) self.old self.new }
+    {
+        let Ok(places) = places_for(self.alloc, &self.rows, place, key) else {
+            return Err(SettleFault { ran: 0 });
+        };
+        self.turn_all(places)
+    }
+}
+
+impl Book {
+    /// Settles the value of a key at a place of the program: runs the unsettled rows that it stands on, in program order, and no
+    /// other. Rows that would compute again what they computed last aren't run, and one of which an order is out is run here too. The
+    /// answer is how many orders were run.
+    ///
+    /// The outer error is that of a look, and nothing has changed. The inner one says that memory was refused: the rows of the orders
+    /// that were run are settled, those that were settled stay so, and the rest is as before.
+    pub fn settle_for(
+        &mut self,
+        name: KeyName,
+        spot: Spot,
+    ) -> Result<Result<u64, SettleFault>, Fault>
+        ensures state { IfOk result (λ ran. OnOk ran (self.new ≡ settled_for self.old name spot)) }
+        ensures shown { IfOk result (λ ran. OnOk ran (has_value (show_reply self.new name spot) ≡ true)) }
+        ensures count { IfOk result (λ ran. due self.new + ran_of ran ≡ due self.old) }
+        ensures same { OnOk result (all_settled self.new ≡ all_settled self.old) }
+        ensures stay { OnOk result (StaySettled self.old.rows self.new.rows) }
+        ensures refused { IfErr result (λ fault. Err fault ≡ show_reply self.old name spot) }
+        ensures err { OnErr result (self.new ≡ self.old) }
+    {
+        let (key, place) = self.loose.found(name, spot)?;
+        let ran = self.loose.turn_for(place, key);
+        self.loose.cut_off();
+        Ok(ran)
+    }
+}

@@ -1,0 +1,91 @@
+//! What a session runs itself, and what it tells of unsettled rows, as C calls it.
+
+ghost use Rattle.std.specs.Prelude.{◌≡◌, ◌≢◌, ◌⊎◌, ◌<◌, ◌≤◌, Some, None};
+ghost use Rattle.paris_text.specs.Words.{key_word};
+ghost use Rattle.paris_c.specs.Calls.{looked, ShowsFault};
+ghost use Rattle.paris_c.specs.TurnCalls.{origin_looked, HasRunOrders, HasRunAll, HasUnsettled, CountsUnsettled, HasOrigin, HasOriginFault, IsSettledFor, IsPartlySettledFor};
+ghost use Rattle.paris_c.specs.declared.statuses.TheConstants.{OK, NO_KEY, PARTLY};
+
+use crate::contents::Contents;
+use crate::looks::spot_at;
+use crate::statuses::{self, NO_KEY, OK, PARTLY};
+use paris_text::key_of_word;
+
+impl Contents {
+    /// Runs at most so many orders, and says how many. Where memory is refused, it says this too.
+    pub(crate) fn run(&mut self, most: u64, ran: &mut u64) -> u32
+        ensures ran { HasRunOrders (Some self.old) (Some self.new) ran.new }
+        ensures most { ran.new ≤ most }
+        ensures all { result ≡ OK → HasRunAll (Some self.new) most ran.new }
+        ensures fewer { result ≡ PARTLY → ran.new < most }
+        ensures status { (result ≡ OK) ⊎ (result ≡ PARTLY) }
+    {
+        match self.session.run(most) {
+            Ok(count) => {
+                *ran = count;
+                OK
+            }
+            Err(fault) => {
+                *ran = fault.ran;
+                PARTLY
+            }
+        }
+    }
+
+    /// Puts the ids of the unsettled rows into a room, as many as there is room for, and says how many rows are unsettled.
+    pub(crate) fn unsettled(&self, room: &mut [u64], count: &mut usize)
+        ensures ids { HasUnsettled (Some self.now) room.old room.new }
+        ensures count { CountsUnsettled (Some self.now) count.new }
+    {
+        *count = self.session.unsettled_ids(room);
+    }
+
+    /// Says the row that gives the key of a word its value at a place, and 0 for the start.
+    pub(crate) fn origin(&self, key: &[u8], place: u64, row: &mut u64) -> u32
+        ensures origin { result ≡ OK → HasOrigin (origin_looked (Some self.now) (key_word key.now) place) row.new }
+        ensures fault { 1 ≤ result → result ≤ 23 → HasOriginFault (origin_looked (Some self.now) (key_word key.now) place) result }
+        ensures key { result ≡ NO_KEY → key_word key.now ≡ None }
+        ensures status { (result ≤ 23) ⊎ (result ≡ NO_KEY) }
+    {
+        let Some(key) = key_of_word(key) else {
+            return NO_KEY;
+        };
+        match self.session.origin(key, spot_at(place)) {
+            Ok(None) => {
+                *row = 0;
+                OK
+            }
+            Ok(Some(id)) => {
+                *row = id.0;
+                OK
+            }
+            Err(fault) => statuses::of_fault(fault),
+        }
+    }
+
+    /// Settles what the key of a word stands on at a place, and says how many orders were run. Where memory is refused, it says this
+    /// too.
+    pub(crate) fn settle_for(&mut self, key: &[u8], place: u64, ran: &mut u64) -> u32
+        ensures settled { result ≡ OK → IsSettledFor (Some self.old) (Some self.new) (key_word key.now) place ran.new }
+        ensures partly { result ≡ PARTLY → IsPartlySettledFor (Some self.old) (Some self.new) ran.new }
+        ensures fault { 1 ≤ result → result ≤ 23 → ShowsFault (looked (Some self.old) (key_word key.now) place) result }
+        ensures key { result ≡ NO_KEY → key_word key.now ≡ None }
+        ensures kept { result ≢ OK → result ≢ PARTLY → self.new ≡ self.old }
+        ensures status { (result ≤ 23) ⊎ ((result ≡ NO_KEY) ⊎ (result ≡ PARTLY)) }
+    {
+        let Some(key) = key_of_word(key) else {
+            return NO_KEY;
+        };
+        match self.session.settle_for(key, spot_at(place)) {
+            Ok(Ok(count)) => {
+                *ran = count;
+                OK
+            }
+            Ok(Err(fault)) => {
+                *ran = fault.ran;
+                PARTLY
+            }
+            Err(fault) => statuses::of_fault(fault),
+        }
+    }
+}

@@ -1,0 +1,35 @@
+//! The profile that the lines of a part choose.
+
+ghost use Rattle.std.specs.Prelude.{◌≡◌, IfOk};
+ghost use Rattle.paris_cuts.specs.Hands.{chosen_by, profile_of};
+
+use crate::asked::Asked;
+use crate::parts::Part;
+use crate::player::{Player, is_skipped};
+use paris_names::Profile;
+use std::alloc::{AllocError, Global};
+
+/// The profile that is chosen by what a line asks for.
+fn chosen_by(asked: &Asked) -> Profile
+    ensures { result ≡ chosen_by asked.now }
+{
+    match asked {
+        Asked::Chosen(profile) => *profile,
+        _ => Profile::One,
+    }
+}
+
+/// The profile that the first part of a script chooses by its first command. The error says that memory was refused.
+pub fn profile_of(alloc: Global, part: &Part) -> Result<Profile, AllocError>
+    ensures { IfOk result (λ profile. profile ≡ profile_of part.now) }
+{
+    let player = Player::new(alloc, true);
+    let lines = part.lines();
+    for line in lines {
+        if !is_skipped(line.as_slice()) {
+            let asked = player.asked_by_line(line.as_slice())?;
+            return Ok(chosen_by(&asked));
+        }
+    }
+    Ok(Profile::One)
+}

@@ -1,0 +1,1 @@
+"""Rows that run beside the edits: the workers, what they tell, and edits that are taken back."""

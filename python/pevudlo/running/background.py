@@ -1,0 +1,106 @@
+"""What a session of the library has beside its lines: workers, news, and edits that are taken back."""
+
+from __future__ import annotations
+
+import weakref
+from collections.abc import Callable, Iterator
+from contextlib import contextmanager
+from dataclasses import dataclass
+from threading import get_ident
+
+from pevudlo.interrupts import undisturbed
+from pevudlo.lang.board import Board
+from pevudlo.running.crew import SMALL, Crew, News, Progress
+from pevudlo.running.history import History, Step
+from pevudlo.wire.book import Book
+
+
+@dataclass
+class Touched:
+    """The rows that edits unsettle, by their ids in program order: those that are unsettled behind them alone."""
+
+    rows: tuple[int, ...] = ()
+
+
+class Background:
+    """The workers of a book and its steps. `board` gives what is declared, without holding who made this.
+
+    Threads begin at the first `start`. Where nobody holds this any more they end.
+    """
+
+    def __init__(self, book: Book, board: Callable[[], Board], workers: int, steps: int) -> None:
+        self.book, self.workers, self.steps = book, workers, steps
+        self.history = History(book, board, steps)
+        self._board = board
+        if steps:
+            book.keep = self.history.keep
+        self.crew = Crew(book, workers, lambda: is_small(board()))
+        book.settler = self.crew.settle
+        self._leave = weakref.finalize(self, Crew.leave, self.crew)
+        self._leave.atexit = False
+
+    @property
+    def progress(self) -> Progress:
+        """How many rows are settled, of how many."""
+        try:
+            self.book.waiting.add(get_ident())
+            with self.book.lock:
+                count = len(self._board().texts)
+                return Progress(count - self.book.unsettled_count(), count)
+        finally:
+            self.book.waiting.discard(get_ident())
+
+    def settle(self) -> int:
+        """Settles all rows, and gives how many ran."""
+        return self.crew.settle()
+
+    def news(self, timeout: float | None = None) -> Iterator[News]:
+        """The results as they come, until all rows are settled, nothing runs any more, or none comes in so many
+        seconds."""
+        crew, book = self.crew, self.book
+        while True:
+            with book.lock:
+                while not crew.news:
+                    if not (crew.is_on or crew.running) or not book.unsettled_count():
+                        return
+                    if not book.news.wait(timeout) and not crew.news:
+                        return
+                news = crew.news.popleft()
+            yield news
+
+    @contextmanager
+    def touching(self) -> Iterator[Touched]:
+        """Finds which rows the edits within unsettle. No result is brought meanwhile."""
+        touched = Touched()
+        with self.book.lock:
+            before = frozenset(self.book.unsettled())
+            yield touched
+            touched.rows = tuple(row for row in self.book.unsettled() if row not in before)
+
+    def undo(self) -> str:
+        """Takes the last edit back, and gives its line."""
+        return self._step(self.history.undo)
+
+    def redo(self) -> str:
+        """Makes the edit again that was taken back last, and gives its line."""
+        return self._step(self.history.redo)
+
+    def _step(self, go: Callable[[], Step]) -> str:
+        """Goes one step of the history, as a whole before Ctrl-C, and gives the line of the edit."""
+        try:
+            self.book.waiting.add(get_ident())
+            with self.book.lock, undisturbed():
+                return go().line
+        finally:
+            self.book.waiting.discard(get_ident())
+
+    def close(self) -> int:
+        """Ends the workers, each behind its row, and the session."""
+        self.crew.end()
+        self.history.clear()
+        return self.book.close()
+
+
+def is_small(board: Board) -> bool:
+    """Whether no set has so many processors that a row of it takes long."""
+    return all(board.processors(name) <= SMALL for name in board.sets)

@@ -1,0 +1,197 @@
+"""A session of the library whose rows several threads may run: orders, results, snapshots, and who waits for news.
+
+`Book` has one lock, and one condition of it. An order is taken and brought with the lock held, and executed without it.
+"""
+
+from __future__ import annotations
+
+import ctypes
+import threading
+from collections.abc import Callable
+from ctypes import c_bool, c_uint32, c_uint64
+from threading import get_ident
+from typing import Optional
+
+from pevudlo.lang.replies import Word
+from pevudlo.values.words import Words, room_of
+from pevudlo.wire.library import Calls, Held, Library
+from pevudlo.wire.library_calls import Outcome, trouble
+
+EDITS = ("set ", "field ", "input ", "insert ", "delete ", "replace ")
+LOOKS = ("show ", "list", "faults")
+WORDS = {1: Word.KEPT, 2: Word.REPEATED, 3: Word.STALE, 4: Word.GONE, 5: Word.FOREIGN}
+
+Keep = Callable[[str], Optional[Callable[[str], None]]]
+"""Is told an edit before it is made. What it gives is called with the reply once the edit is accepted."""
+
+
+class Slot:
+    """A place for one order, and what is told of it."""
+
+    def __init__(self, calls: Calls) -> None:
+        self._held = Held(calls["paris_order_close"])
+        self._row, self._edition, self._is_run = c_uint64(), c_uint64(), c_bool()
+        self.verdict, self.now = c_uint32(), c_uint64()
+        self.at = self._held.at
+        self.told = (ctypes.addressof(self._row), ctypes.addressof(self._edition), ctypes.addressof(self._is_run))
+        self.verdict_at, self.now_at = ctypes.addressof(self.verdict), ctypes.addressof(self.now)
+
+    @property
+    def row(self) -> int:
+        """The row of the order."""
+        return self._row.value
+
+    @property
+    def edition(self) -> int:
+        """The edition that the row had when the order was taken."""
+        return self._edition.value
+
+
+class Book(Library):
+    """A session with a condition of its lock, `news`: it is told of edits, and of results that are brought."""
+
+    keep: Keep | None = None
+    settler: Callable[[], int] | None = None
+    """Who settles in the place of the thread that calls."""
+
+    def _begin(self, calls: Calls, held: Held) -> None:
+        super()._begin(calls, held)
+        self.news = threading.Condition(self.lock)
+
+    def ask(self, line: str) -> list[str]:
+        """The lines of the reply to one line, as `Library.ask`. Who waits for news is told of all but looks."""
+        if line == "settle" or line.startswith(LOOKS):
+            return super().ask(line)
+        try:
+            self.waiting.add(get_ident())
+            with self.lock:
+                kept = self._kept(line)
+                lines = super().ask(line)
+                if kept is not None and not lines[0].startswith("refused"):
+                    kept(lines[0])
+                self.news.notify_all()
+                return lines
+        finally:
+            self.waiting.discard(get_ident())
+
+    def settle(self, told: Callable[[], None] | None = None) -> int:
+        """Settles all rows, and gives how many ran."""
+        return super().settle(told) if self.settler is None else self.settler()
+
+    def _kept(self, line: str) -> Callable[[str], None] | None:
+        """What is to be called once an edit is accepted."""
+        return self.keep(line) if self.keep is not None and line.startswith(EDITS) else None
+
+    def _given(self, call: str, key: str, first: int, words: Words, count: int) -> bool:
+        try:
+            self.waiting.add(get_ident())
+            with self.lock:
+                kept = self._kept(f"input {key} {first} ..")
+                is_given = super()._given(call, key, first, words, count)
+                if kept is not None and is_given:
+                    kept("ok")
+                self.news.notify_all()
+                return is_given
+        finally:
+            self.waiting.discard(get_ident())
+
+    # Orders. The lock is held but for `execute`.
+
+    def take(self, slot: Slot) -> bool:
+        """Takes an order for the first ready row. Whether there is one. Raises MemoryError."""
+        outcome, _ = self._call("paris_take", slot.at)
+        if outcome == Outcome.NOTHING:
+            return False
+        self._check(outcome)
+        self._check(self._calls["paris_order_row"](slot.at, *slot.told))
+        return True
+
+    def execute(self, slot: Slot) -> None:
+        """Executes an order, with no lock, and with Python's own lock free meanwhile. Raises MemoryError."""
+        self._check(self._calls["paris_execute"](slot.at))
+
+    def bring(self, slot: Slot) -> Word:
+        """Brings the result of an order, and drops it."""
+        try:
+            self._check(*self._call("paris_bring", slot.at, slot.verdict_at, slot.now_at))
+            return WORDS[slot.verdict.value]
+        finally:
+            self.drop(slot)
+
+    def drop(self, slot: Slot) -> None:
+        """Drops an order. Its row stays out until `release`."""
+        self._calls["paris_order_close"](slot.at)
+
+    def release(self) -> None:
+        """Gives up all orders that are out."""
+        with self.lock:
+            self._check(*self._call("paris_release"))
+            self.news.notify_all()
+
+    # What stands on what.
+
+    def unsettled_count(self) -> int:
+        """How many rows are unsettled."""
+        return self._check(*self._call("paris_unsettled", self._told_at, 0, self._told_at))
+
+    def unsettled(self) -> tuple[int, ...]:
+        """The ids of the rows that are unsettled, in program order."""
+        with self.lock:
+            count = self.unsettled_count()
+            room = room_of(max(count, 1))
+            self._check(*self._call("paris_unsettled", room.address, count, self._told_at))
+        return tuple(map(int, room.numbers[:count]))
+
+    def origin(self, key: str, place: int) -> int | None:
+        """The row that gives a key its value at a place, 0 for the start. None where the look is refused."""
+        name = key.encode("utf-8", "surrogateescape")
+        outcome, row = self._call("paris_origin", name, len(name), place, self._told_at)
+        return row if outcome == Outcome.OK else None
+
+    def settle_for(self, key: str, place: int) -> int | None:
+        """Runs the rows that a value stands on, and gives how many ran. None where the look is refused."""
+        name = key.encode("utf-8", "surrogateescape")
+        with self.lock:
+            outcome, ran = self._call("paris_settle_for", name, len(name), place, self._told_at)
+            self.news.notify_all()
+        if outcome in (Outcome.NO_MEMORY, Outcome.PARTLY):
+            raise trouble(outcome)
+        return ran if outcome == Outcome.OK else None
+
+    # Snapshots.
+
+    def snapshot(self) -> Held:
+        """A session in the same state."""
+        into = Held(self._calls["paris_close"])
+        self._check(*self._call("paris_snapshot", into.at))
+        return into
+
+    def still(self) -> Book:
+        """A snapshot to look at: what is done here leaves it as it is."""
+        book = Book.over(self._calls, self.snapshot())
+        assert isinstance(book, Book)
+        return book
+
+    def copy(self) -> Book:
+        """A book in the same state. No order is out there."""
+        book = self.still()
+        book.release()
+        return book
+
+    def exchange(self, other: Held) -> None:
+        """Puts another session in the place of this one, and this one in its place. No order is out there then."""
+        with self.lock:
+            mine, its = self._held.handle, other.handle
+            mine.at, its.at = its.at, mine.at
+            self.release()
+
+    def slot(self) -> Slot:
+        """A place for an order of this library."""
+        return Slot(self._calls)
+
+    @staticmethod
+    def _check(outcome: int, told: int = 0) -> int:
+        """What a call told. Raises what an outcome other than OK means."""
+        if outcome != Outcome.OK:
+            raise trouble(outcome)
+        return told
