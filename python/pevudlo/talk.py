@@ -72,11 +72,16 @@ class Talk:
         self.peer = peer
         self.where = where
         self.board = Board()
-        # A session of the library has a lock of its own, of which calls in several threads are made one by one.
-        self.lock: threading.RLock = getattr(peer, "lock", None) or threading.RLock()
+        self._lock = threading.RLock()
         self.waiting: set[int] = getattr(peer, "waiting", set())
         self._is_inside = hasattr(peer, "lock")
         self._edits, self._is_settled, self._listed_left = 0, False, MOST_LISTED
+
+    @property
+    def lock(self) -> threading.RLock:
+        """What one thread at a time holds. A session of the library has a lock of its own."""
+        lock: threading.RLock = getattr(self.peer, "lock", self._lock)
+        return lock
 
     def tell(self, line: str) -> Answer | None:
         """Asks one line. None for an empty line or a comment. Raises as its `ask` does, and NoReply.

@@ -16,8 +16,12 @@ import pytest
 from pages import script_of
 
 from pevudlo import Machine
+from pevudlo.live.pace import AtOnce, Pace
 from pevudlo.live.running import RunningSession
+from pevudlo.live.seen import Seen
 from pevudlo.live.server import Server
+from pevudlo.record.looks import Looker
+from pevudlo.record.recorder import Recorder
 
 PATIENCE = 60.0
 SLOW_ROWS = 16
@@ -46,6 +50,7 @@ class Tab:
         self.server, self.name = server, name
         self.version = 0
         self.html: dict[str, str] = {}
+        self.is_left = False
         self.editor = ""
 
     def post(self, act: str, **body: str) -> dict[str, Any]:
@@ -63,14 +68,14 @@ class Tab:
         """Asks for what is new, and gives the words of the head."""
         with urllib.request.urlopen(f"{self.server.address}state?seen={self.version}") as answer:
             state = json.loads(answer.read())
-        self.version, self.editor = state["version"], state["editor"]
+        self.version, self.editor, self.is_left = state["version"], state["editor"], state["left"]
         self.html |= state["html"]
         return re.sub("<[^>]*>", "", self.html["head"])
 
     def settled(self) -> str:
-        """Waits until all rows are settled."""
+        """Waits until all rows are settled, and drawn."""
         until = time.monotonic() + PATIENCE
-        while "All " not in self.look():
+        while "All " not in self.look() or self.is_left:
             assert time.monotonic() < until, self.html["head"]
             time.sleep(0.02)
         return self.html["head"]
@@ -316,3 +321,34 @@ def test_programs_of_the_gallery_are_shown_as_they_are(libparis: Path, name: str
             fresh.raw("settle")
             for key in session.board.keys():
                 assert fresh.raw(f"show {key} end") == session.book.ask(f"show {key} end"), key
+
+
+def test_a_draw_leaves_what_there_is_no_time_for(small: Server) -> None:
+    tab = Tab(small)
+    tab.settled()
+    session = small.session
+    assert isinstance(session, RunningSession)
+    seen = Seen(Recorder(session.book.still(), Looker(session.book.still(), session.board)))
+    seen.see_rows()
+    at_once, slow = AtOnce(True, lambda: False), Pace(True, lambda: True)
+    seen.see_runs(at_once)
+    assert ({*seen.later}, seen.runs) == ({1, 2}, {}) and at_once.has_left
+    assert [look.numbers for look in seen.looks("end", AtOnce(True, lambda: False)) if look.key in "bc"] == [None, None]
+    seen.see_runs(slow)
+    assert ({*seen.later}, [*seen.runs]) == ({2}, [1]) and slow.has_left
+    last = Pace(True, lambda: True)
+    seen.see_runs(last)
+    assert (seen.later, [*seen.runs]) == (frozenset(), [1, 2]) and not last.has_left
+    looks = {look.key: look.numbers for look in seen.looks("end", slow)}
+    assert (list(looks["b"] or ()), looks["c"]) == ([1, 2, 3, 4], None)
+    looks = {look.key: look.numbers for look in seen.looks("end", slow)}
+    assert list(looks["c"] or ()) == [1, 2, 3, 4]
+
+
+def test_the_answer_to_a_command_brings_what_is_new(small: Server) -> None:
+    tab = Tab(small)
+    tab.settled()
+    state = tab.command("replace 2 lognot-2-1L c b 8", seen=str(tab.version))["state"]
+    assert state["version"] > tab.version
+    assert "lognot-2-1L c b 8" in re.sub("<[^>]*>", "", state["html"]["row-2"])
+    assert "state" not in tab.command("replace 2 u-move-1L c b 8")

@@ -479,7 +479,7 @@ def run(script: str) -> subprocess.CompletedProcess[str]:
     """A script in a Python of its own, with `slow` in it."""
     paths = [str(ROOT / "python"), str(Path(__file__).parent)]
     begin = f"import os, signal, sys, threading, time\nsys.path[:0] = {paths!r}\n"
-    words = [sys.executable, "-c", begin + "from test_running import slow, small\n" + script]
+    words = [sys.executable, "-c", begin + "from pevudlo import paris\nfrom test_running import slow, small\n" + script]
     return subprocess.run(words, capture_output=True, text=True, timeout=PATIENCE)
 
 
@@ -618,6 +618,42 @@ print(os.waitstatus_to_exitcode(os.waitpid(child, 0)[1]), machine.wait(), machin
     )
     told = "a session of the library stays in the process that opened it"
     assert ran.stdout == f"{told}\n3 True Progress(settled=6, rows=6) 0\n", ran.stderr
+
+
+def test_a_child_makes_no_call_where_a_thread_was_in_one() -> None:
+    ran = run(
+        """
+machine = small()
+for name in "bcd":
+    machine.insert(paris.u_add(name, "a", "a", 8))
+held, free = threading.Event(), threading.Event()
+
+def hold():
+    with machine._talk.lock:
+        held.set()
+        free.wait()
+
+thread = threading.Thread(target=hold)
+thread.start()
+held.wait()
+child = os.fork()
+if not child:
+    looks = lambda: machine.progress, lambda: machine["a"], lambda: next(machine.news())
+    calls = machine.settle, machine.start, machine.stop, machine.wait, machine.undo, machine.copy
+    for call in (*looks, machine.rows, machine.unsettled, *calls):
+        try:
+            call()
+        except RuntimeError as error:
+            print(error, flush=True)
+    os._exit(machine.close() + 3)
+print(os.waitstatus_to_exitcode(os.waitpid(child, 0)[1]))
+free.set()
+thread.join()
+print(machine.settle(), machine.close())
+"""
+    )
+    told = "a session of the library stays in the process that opened it\n"
+    assert ran.stdout == f"{told * 11}3\n3 0\n", ran.stderr
 
 
 def test_threads_edit_at_once() -> None:

@@ -60,6 +60,7 @@ class RunningSession(Session):
         self.thrown: deque[News] = deque(maxlen=MOST_THROWN)
         self._marks: list[int] = []
         self._undone: list[list[str]] = []
+        self._is_told = False
         super().__init__(library, workers, is_quiet)
 
     def _begin(self) -> None:
@@ -74,6 +75,11 @@ class RunningSession(Session):
     def board(self) -> Board:
         """What is declared."""
         return self._talk.board
+
+    @property
+    def acts(self) -> int:
+        """How many commands and steps of the history came."""
+        return self.told + self.epoch
 
     def places(self) -> set[str]:
         """The places where the caret may stand."""
@@ -251,14 +257,20 @@ class RunningSession(Session):
         book, seen = background.book, (0, 0, 0, False)
         while not self._closed and book.is_open:
             with book.lock:
-                while (now := state_of(background)) == seen and not self._closed and book.is_open:
+                while (now := state_of(background)) == seen and not (self._is_told or self._closed) and book.is_open:
                     book.news.wait(1.0)
-                seen = now
+                seen, self._is_told = now, False
                 came = [background.crew.news.popleft() for _ in range(len(background.crew.news))]
             with self.lock:
                 self.thrown.extend(each for each in came if each.word is not Word.KEPT)
             self.changed()
             time.sleep(EVERY)
+
+    def tell_later(self) -> None:
+        """Has the tabs told of what their last draw left, as of a result."""
+        with self.book.lock:
+            self._is_told = True
+            self.book.news.notify_all()
 
     def restart(self) -> None:
         """There is no program that could end. Raises ValueError."""

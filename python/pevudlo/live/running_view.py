@@ -36,29 +36,29 @@ class RunningView(View):
                     pass
             still = self._still
             editor = "" if still is None or self._running.is_shared else still.editor
-            return {**self._news(seen), "editor": editor}
+            is_left = still is not None and still.pace.has_left
+            return {**self._news(seen), "editor": editor, "left": is_left}
 
     def _draw(self) -> None:
         """Draws what is other now."""
         still = Still(self._running, self._still)
+        before, reasons = self._still, self._reasons
         self._reasons = reasons_of(still.seen.rows, still.board)
-        before = self._still
         self.shown = self._still = still
-        self._find_others(before, still)
+        if before is not None and before.seen is still.seen:
+            # (the reason of an unsettled row may be another, though the row is as it was)
+            still.seen.fresh |= {row for row, reason in self._reasons.items() if reasons.get(row) != reason}
         self._renew()
         # The snapshot's memory goes, and what was seen in it stays.
         still.peer.close()
-
-    def _find_others(self, before: Still | None, still: Still) -> None:
-        """Notes the unsettled rows whose reason may be another, though the row is as it was."""
-        if before is not None and before.seen is still.seen:
-            still.seen.fresh |= {row.row for row in still.seen.rows if row.row not in still.seen.runs}
+        if still.pace.has_left:
+            self._running.tell_later()
 
     def _card(self, row: Row, run: RowRun | None, cause: str) -> str:
         still = self._still
         assert still is not None
         more = attributes(row, self._reasons[row.row], still.edit_lines)
-        return card(row, run, cause, still.board, more)
+        return card(row, run, cause, still.board, more, row.row in still.seen.later)
 
     def _head(self) -> str:
         still = self._still

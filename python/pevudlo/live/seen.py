@@ -9,6 +9,7 @@ from functools import lru_cache
 from pevudlo.lang.board import Board
 from pevudlo.lang.instructions import read
 from pevudlo.lang.replies import Row, RowFault, Status
+from pevudlo.live.pace import Pace
 from pevudlo.record.looks import Look, RowRun
 from pevudlo.record.recorder import Recorder, Step, Touched
 from pevudlo.wire.peers import Peer
@@ -33,7 +34,7 @@ class Seen:
 
     `runs` are what the settled rows did, as far as it was looked at, `faults` the rows that are refused for their data,
     and `causes` why they are, by ids in program order. `fresh` has the ids of rows of which something is other than it
-    was when that was emptied.
+    was when that was emptied, and `later` those of the settled rows that are looked at next.
     """
 
     def __init__(self, recorder: Recorder) -> None:
@@ -45,6 +46,7 @@ class Seen:
         self.causes: dict[int, str] = {}
         self.edit: Edit | None = None
         self.fresh: set[int] = set()
+        self.later: frozenset[int] = frozenset()
         self.unsettled = 0
         self._by_id: dict[int, Row] = {}
         self._refused: dict[int, Row] = {}
@@ -81,13 +83,15 @@ class Seen:
         for key in keys:
             self._starts.pop(key, None)
 
-    def see_runs(self) -> None:
-        """Looks at what the rows did that weren't looked at since they settled."""
+    def see_runs(self, pace: Pace) -> None:
+        """Looks at what the rows did that weren't looked at since they settled, as far as the draw goes on."""
         settled = {row.row: row.edition for row in self.rows if row.status is Status.SETTLED}
-        ran = frozenset(row for row, edition in settled.items() if self._looked.get(row) != edition)
-        self._looked = settled
-        if ran:
-            self._note_runs(self.recorder.looker.runs(self.rows, ran))
+        self._looked = {row: edition for row, edition in self._looked.items() if settled.get(row) == edition}
+        ran = frozenset(settled.keys() - self._looked.keys())
+        runs = self.recorder.looker.runs(self.rows, ran, pace.goes_on) if ran else ()
+        self._note_runs(runs)
+        self._looked |= {run.row.row: run.row.edition for run in runs}
+        self.later = ran - {run.row.row for run in runs}
 
     def see_rows(self) -> None:
         """The rows as they are. What was seen of rows that are other now is forgotten."""
@@ -112,10 +116,25 @@ class Seen:
         """Every key at the start: its input data, which changes by `input` alone."""
         return [self._start(key) for key in self.board.keys()]
 
-    def looks(self, place: str) -> list[Look]:
-        """Every key at a place. A key whose last row before it is as it was isn't asked for again."""
+    def looks(self, place: str, pace: Pace | None = None) -> list[Look]:
+        """Every key at a place. A key whose last row before it is as it was isn't asked for again.
+
+        Numbers of others are looked at as far as the draw goes on.
+        """
         self._find_writers(place)
-        return [self._look(key, place) for key in self.board.keys()]
+        looks, count = list[Look](), 0
+        for key in self.board.keys():
+            has_numbers = self._has_numbers_to_see(key)
+            is_left = has_numbers and pace is not None and not pace.goes_on(count)
+            looks.append(Look(key, place, None, None) if is_left else self._look(key, place))
+            count += has_numbers
+        return looks
+
+    def _has_numbers_to_see(self, key: str) -> bool:
+        """Whether numbers of a key weren't looked at since the last row before the place wrote them."""
+        writer = self._by_id.get(self._writers.get(key, 0))
+        known = self._shown.get(key)
+        return writer is not None and writer.status is Status.SETTLED and (known is None or known[0] != writer)
 
     def _see_faults(self) -> None:
         """Which rows are refused for their data, and why. A row that was refused before, and is as it was, is known."""

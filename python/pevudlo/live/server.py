@@ -157,8 +157,11 @@ class Handler(BaseHTTPRequestHandler):
     def do_POST(self) -> None:
         """A command, an order, a place for the caret, or a new start."""
         try:
-            name = self._allowed(True)
-            self._send_json(self._act(name, self._body()))
+            name, body = self._allowed(True), self._body()
+            answer = self._act(name, body)
+            if "seen" in body:
+                answer["state"] = self.server.view.since(int(body["seen"]) if is_number(body["seen"]) else 0)
+            self._send_json(answer)
         except Unwelcome as error:
             self._refuse(error.status)
         except Stopped as error:

@@ -2,15 +2,20 @@
 
 from __future__ import annotations
 
+from pevudlo.live.pace import AtOnce, Pace
 from pevudlo.live.running import RunningSession
 from pevudlo.live.seen import Seen
 from pevudlo.live.session import LISTED_A_STEP, NUMBERS_A_STEP
 from pevudlo.record.looks import Look, Looker
 from pevudlo.record.recorder import Recorder
+from pevudlo.running.background import is_small
 
 
 class Still:
-    """What a tab is to be shown. `seen` is what is known from earlier moments, where they are of the same history."""
+    """What a tab is to be shown. `seen` is what is known from earlier moments, where they are of the same history.
+
+    `pace` says how much is looked at, and whether something is left for the next moment.
+    """
 
     number = 0
     trouble = ""
@@ -29,7 +34,10 @@ class Still:
             self.undone = [step.line for step in history.undone]
             self.edit_lines, self.edit = dict(session.edit_lines), session.edit
             self.editor, self.epoch = session.editor, session.epoch
+            self.acts = session.acts
             given, session.given = session.given, set()
+        has_new_act = last is not None and last.acts != self.acts and not is_small(self.board)
+        self.pace = (AtOnce if has_new_act else Pace)(self.running > 0, lambda: session.acts != self.acts)
         self.seen = self._see(last, given)
 
     def _see(self, last: Still | None, given: set[str]) -> Seen:
@@ -41,12 +49,14 @@ class Still:
             seen.turn_to(self.peer, self.board)
             seen.forget_starts(given)
         looker = seen.recorder.looker
-        looker.listed_left, looker.numbers_left = LISTED_A_STEP, NUMBERS_A_STEP
+        looker.listed_left = LISTED_A_STEP
+        if last is None or not last.pace.has_left:
+            looker.numbers_left = NUMBERS_A_STEP
         seen.edit = self.edit
         seen.see_rows()
-        seen.see_runs()
+        seen.see_runs(self.pace)
         return seen
 
     def keys(self) -> tuple[list[Look], list[Look]]:
         """Every key at the start, and every key at the caret."""
-        return self.seen.starts(), self.seen.looks(self.caret)
+        return self.seen.starts(), self.seen.looks(self.caret, self.pace)

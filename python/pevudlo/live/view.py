@@ -192,7 +192,7 @@ def ranges_of(rows: Sequence[int]) -> list[list[int]]:
     return ranges
 
 
-def card(row: Row, run: RowRun | None, cause: str, board: Board, more: str = "") -> str:
+def card(row: Row, run: RowRun | None, cause: str, board: Board, more: str = "", is_drawn_next: bool = False) -> str:
     """A row with its buttons, and what it wrote, that it is pending, or why it is refused. It has `more` attributes."""
     kind, mark, word = ("refused", "✕", "refused for its data") if cause else _STATES[row.status]
     return (
@@ -202,14 +202,16 @@ def card(row: Row, run: RowRun | None, cause: str, board: Board, more: str = "")
         f'<span class="state">{sign(mark)} {word}</span>'
         f'<span class="acts"><button data-act="after" title="Move the caret behind this row">caret</button>'
         f'<button data-act="delete" title="Delete this row">delete</button></span></header>'
-        f"<div>{card_body(row, run, cause, board)}</div></article>"
+        f"<div>{card_body(row, run, cause, board, is_drawn_next)}</div></article>"
     )
 
 
-def card_body(row: Row, run: RowRun | None, cause: str, board: Board) -> str:
+def card_body(row: Row, run: RowRun | None, cause: str, board: Board, is_drawn_next: bool) -> str:
     """What stands behind a row."""
     if run is not None:
         return row_body(run, board)
+    if is_drawn_next:
+        return '<p class="quiet">..</p>'
     if row.status is Status.SETTLED:
         why = f'<p class="cause">{sign("✕")} It stores nothing, since {quoted(cause)}</p>' if cause else ""
         return why + '<p class="quiet">Not drawn: there are too many numbers at once. Look at the caret.</p>'
@@ -222,6 +224,8 @@ def key_html(look: Look, board: Board, is_input: bool) -> str:
     if is_input and look.numbers is not None:
         grid = html_of(Grid(look.key, axes_of(board, look.key), width_of(board, look.key), look.numbers))
         return f'<div class="input" data-input="{clean(look.key)}" {"data-zero" if is_idle(look) else ""}>{grid}</div>'
+    if look.numbers is None and look.pending is None:
+        return f'<div class="value"><p class="quiet"><b>{clean(look.key)}</b> ..</p></div>'
     if look.numbers is None:
         words = f"{sign('○')} <b>{clean(look.key)}</b> is pending, until row {look.pending} has run"
         return f'<div class="value"><p class="pending">{words}</p></div>'

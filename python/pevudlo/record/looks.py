@@ -6,7 +6,7 @@ Each number comes from a reply of the program to `show`. Looks are counted, so a
 from __future__ import annotations
 
 from array import array
-from collections.abc import Iterable, Sequence
+from collections.abc import Callable, Iterable, Sequence
 from dataclasses import dataclass, replace
 
 from pevudlo.draw.arrays import array_of, numbers_in
@@ -36,7 +36,8 @@ MOST_LISTED = 3_000_000
 class Look:
     """A key at a place, which is written as in a script: `start`, `after 3`, `end`.
 
-    `numbers` are by processor. Where the key is pending there are none, and `pending` is the row that has to run.
+    `numbers` are by processor. Where the key is pending there are none, and `pending` is the row that has to run. Where
+    neither is there, the key isn't looked at yet.
     """
 
     key: str
@@ -157,19 +158,25 @@ class Looker:
         """Why these rows were refused when they ran, in words, by id."""
         return causes(tuple(faults), self.board, lambda key, place: self.look(key, place).numbers)
 
-    def runs(self, rows: Sequence[Row], ran: frozenset[int]) -> tuple[RowRun, ...]:
-        """What the rows of `ran` did. `rows` is the present program, in which they are settled."""
+    def runs(
+        self, rows: Sequence[Row], ran: frozenset[int], goes_on: Callable[[int], bool] = lambda _: True
+    ) -> tuple[RowRun, ...]:
+        """What the rows of `ran` did. `rows` is the present program, in which they are settled.
+
+        It is told how many of them were looked at before it looks at the next one, and leaves what is behind a no.
+        """
         faults = {row: fault for row, fault in self.faults().items() if row in ran}
         words = self.causes(faults.values())
         latest: dict[str, Look] = {}
-        found = []
+        found = list[RowRun]()
         before: Row | None = None
         for number, row in enumerate(rows, 1):
-            if row.row in ran:
+            is_looked_at = row.row in ran and goes_on(len(found))
+            if is_looked_at:
                 self.told.say(f"looks at row {number:,} of {len(rows):,}")
                 run = self._run(row, "start" if before is None else f"after {before.row}", latest)
                 found.append(replace(run, fault=faults.get(row.row), cause=words.get(row.row, "")))
-            if latest and (row.row not in ran or found[-1].changes is None):
+            if latest and (not is_looked_at or found[-1].changes is None):
                 for key in self.board.keys_written(row.text):
                     latest.pop(key, None)
             before = row

@@ -128,6 +128,8 @@
   }
 
   function apply(news) {
+    // (what was asked for before a command may come behind its answer)
+    if (news.version < version) return;
     const focus = focused();
     version = news.version;
     caret = news.caret;
@@ -136,6 +138,8 @@
     for (const name of ["head", "trouble"]) fill(at(name), html.get(name) || "");
     if (html.get("edit")) fill(at("edit"), html.get("edit"));
     document.body.classList.toggle("ended", Boolean(html.get("trouble")));
+    // Numbers of some rows and keys come with the next news.
+    for (const name of ["rows", "values"]) at(name).setAttribute("aria-busy", Boolean(news.left));
     at("pen").hidden = !news.editor || news.editor === tab;
     for (const kind of Object.keys(orders)) drop(kind);
     place(at("rows"), orders.rows, elements.rows);
@@ -150,18 +154,22 @@
     if (news.text) document.dispatchEvent(new CustomEvent("paris-text", { detail: news.text }));
   }
 
-  // What is new is asked for once at a time.
-  let asks = false;
-  let again = false;
+  // What is new is asked for once at a time, and not while a command is out, whose answer brings it.
+  let out = 0;
+  let told = 0;
   async function refresh() {
-    if (asks) { again = true; return; }
-    asks = true;
+    if (out) return;
+    out += 1;
     try {
       const answer = await fetch(base + "state?seen=" + version, { cache: "no-store" });
       if (answer.ok) apply(await answer.json());
     } catch { lost(); }
-    asks = false;
-    if (again) { again = false; refresh(); }
+    ended();
+  }
+
+  function ended() {
+    out -= 1;
+    if (told > version) refresh();
   }
 
   function lost() {
@@ -170,22 +178,26 @@
   }
 
   const news = new EventSource(base + "news");
-  news.addEventListener("message", (event) => { if (Number(event.data) !== version) refresh(); });
+  news.addEventListener("message", (event) => { told = Number(event.data); if (told > version) refresh(); });
   // Where nobody answers what is asked then, the server has ended.
   news.addEventListener("error", () => { if (news.readyState === EventSource.CLOSED) lost(); else refresh(); });
 
   // By its name a session knows which tab edits.
   const tab = [...crypto.getRandomValues(new Uint32Array(4))].map((word) => word.toString(36)).join("");
 
+  // The answer brings what is new behind it.
   async function ask(name, body) {
-    body = { tab, ...body };
+    out += 1;
     try {
       const answer = await fetch(base + name, {
-        method: "POST", headers: { "Content-Type": "application/json" }, body: JSON.stringify(body || {}),
+        method: "POST", headers: { "Content-Type": "application/json" },
+        body: JSON.stringify({ tab, seen: String(version), ...body }),
       });
       if (answer.status === 413) return { refused: "<p class='refused'>The line is too long.</p>" };
-      return await answer.json();
-    } catch { lost(); return { wrong: "nobody answers" }; }
+      const said = await answer.json();
+      if (said.state) apply(said.state);
+      return said;
+    } catch { lost(); return { wrong: "nobody answers" }; } finally { ended(); }
   }
 
   const command = (line) => ask("command", { line });

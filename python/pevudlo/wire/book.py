@@ -56,7 +56,7 @@ class Book(Library):
 
     def _begin(self, calls: Calls, held: Held) -> None:
         super()._begin(calls, held)
-        self.news = threading.Condition(self.lock)
+        self.news = threading.Condition(self._lock)
 
     def ask(self, line: str) -> list[str]:
         """The lines of the reply to one line, as `Library.ask`. Who waits for news is told of all but looks."""

@@ -75,7 +75,7 @@ class Library:
         """Takes a handle."""
         self._calls, self._held = calls, held
         self._answer, self._reply = calls["paris_answer"], calls["paris_reply"]
-        self.lock = threading.RLock()
+        self._lock = threading.RLock()
         # The threads that want a call, or are in one: a worker that holds the lock again and again lets them in.
         self.waiting = set[int]()
         self._is_in_call = False
@@ -87,6 +87,13 @@ class Library:
         self._room = ctypes.create_string_buffer(4096)
         self._at, self._length_at = held.at, ctypes.addressof(self._length)
         self._told_at = ctypes.addressof(self._told)
+
+    @property
+    def lock(self) -> threading.RLock:
+        """The lock of the calls. Raises RuntimeError in a child of the process: a thread may hold it there for ever."""
+        if self.is_elsewhere:
+            raise RuntimeError("a session of the library stays in the process that opened it")
+        return self._lock
 
     @property
     def is_elsewhere(self) -> bool:
@@ -133,7 +140,6 @@ class Library:
             raise ValueError("one line is asked at a time")
         if line == "settle":
             return [f"settled {self.settle()}"]
-        self._check_process()
         try:
             self.waiting.add(get_ident())
             with self.lock:
@@ -194,7 +200,6 @@ class Library:
         Raises RuntimeError within a call and in a child of the process, and Ended. No generator stands between the lock
         and the call, so that Ctrl-C at any place leaves the lock free.
         """
-        self._check_process()
         try:
             self.waiting.add(get_ident())
             with self.lock:
@@ -207,11 +212,6 @@ class Library:
                     self._is_in_call = False
         finally:
             self.waiting.discard(get_ident())
-
-    def _check_process(self) -> None:
-        """Raises RuntimeError in a child of the process, where another thread may have held the lock for ever."""
-        if self.is_elsewhere:
-            raise RuntimeError("a session of the library stays in the process that opened it")
 
     def _check_open(self) -> None:
         """Raises RuntimeError within a call, as in a handler of signals, and Ended where the session is over."""
