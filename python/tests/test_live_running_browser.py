@@ -10,8 +10,9 @@ from browsers import cells, complaints, evaluated, one, until
 from selenium.webdriver.common.action_chains import ActionChains
 from selenium.webdriver.common.by import By
 from selenium.webdriver.remote.webdriver import WebDriver
-from test_live_running import serve
+from test_live_running import SLOW, SLOW_ROWS, serve
 
+from pevudlo import Machine
 from pevudlo.live.running import RunningSession
 from pevudlo.live.server import Server
 
@@ -22,6 +23,16 @@ ROWS = ["insert end u-move-1L b a 8", "insert end u-move-1L c b 8"]
 @pytest.fixture
 def server(libparis: Path) -> Iterator[Server]:
     yield from serve([*LINES, *ROWS])
+
+
+@pytest.fixture
+def slow(libparis: Path) -> Iterator[Server]:
+    yield from serve(SLOW)
+
+
+@pytest.fixture
+def shared(libparis: Path) -> Iterator[Server]:
+    yield from serve([*LINES, *ROWS], is_shared=True)
 
 
 def send(driver: WebDriver, line: str) -> None:
@@ -103,3 +114,45 @@ def test_one_tab_edits_and_another_asks_for_it(browser: WebDriver, server: Serve
     browser.close()
     browser.switch_to.window(browser.window_handles[0])
     until(browser, lambda: one(browser, "#pen").is_displayed())
+
+
+def test_edits_go_on_while_slow_rows_run(browser: WebDriver, slow: Server) -> None:
+    browser.get(slow.address)
+    shows(browser, f"All {SLOW_ROWS + 1} rows settled")
+    for number in range(8):
+        send(browser, f"input a 5 {number}")
+        send(browser, f"input x 2 {number}")
+        until(browser, lambda: f"Undo: input x 2 {number}" in one(browser, "#head").text)
+    until(browser, lambda: cells(browser, "#values [data-name=value-y]") == ["0", "0", "7", "0"])
+    shows(browser, f"All {SLOW_ROWS + 1} rows settled")
+    session = slow.session
+    with Machine(library=True) as fresh:
+        for line in session.script().splitlines():
+            fresh.raw(line)
+        fresh.raw("settle")
+        assert isinstance(session, RunningSession)
+        assert fresh.raw("show c15 end") == session.book.ask("show c15 end")
+    assert complaints(browser) == []
+
+
+def test_who_edits_a_row_that_another_tab_changes_is_told_both_texts(browser: WebDriver, shared: Server) -> None:
+    browser.get(shared.address)
+    shows(browser, "All 2 rows settled")
+    one(browser, "article[data-row='2'] button.text").click()
+    field = one(browser, "article[data-row='2'] .editing input")
+    field.clear()
+    field.send_keys("u-move-constant-1L c 6 8")
+    first = browser.current_window_handle
+    browser.switch_to.new_window("tab")
+    browser.get(shared.address)
+    shows(browser, "All 2 rows settled")
+    send(browser, "replace 2 u-move-constant-1L c 5 8")
+    until(browser, lambda: cells(browser, "#values [data-name=value-c]") == ["5"] * 4)
+    browser.switch_to.window(first)
+    told = "This row was changed meanwhile, and is now u-move-constant-1L c 5 8. Enter replaces it."
+    until(browser, lambda: one(browser, ".editing .answer").text == told)
+    field = one(browser, "article[data-row='2'] .editing input")
+    assert field.get_attribute("value") == "u-move-constant-1L c 6 8"
+    field.send_keys("\n")
+    until(browser, lambda: cells(browser, "#values [data-name=value-c]") == ["6"] * 4)
+    assert complaints(browser) == []
