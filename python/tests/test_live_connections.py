@@ -38,6 +38,14 @@ def server() -> Iterator[Server]:
     session.close()
 
 
+def free_places(server: Server) -> int:
+    """How many connections more would be answered at once."""
+    places = [server._places.acquire(blocking=False) for _ in range(MOST_CONNECTIONS + 1)]
+    for _ in range(sum(places)):
+        server._places.release()
+    return sum(places)
+
+
 def answered(server: Server, name: str, asked: dict[str, str] | None = None) -> tuple[int, bytes]:
     """Status and text of an answer: to a post of what is asked, else to a get."""
     connection = http.client.HTTPConnection(HOST, server.server_address[1], timeout=60)
@@ -196,7 +204,8 @@ def test_an_interrupt_while_an_answer_begins_ends_the_server(server: Server, mon
         with pytest.raises(KeyboardInterrupt):
             server.process_request(ours, ("", 0))
         monkeypatch.undo()
-    places = [server._places.acquire(blocking=False) for _ in range(MOST_CONNECTIONS + 1)]
-    for _ in range(sum(places)):
-        server._places.release()
-    assert sum(places) == MOST_CONNECTIONS
+    # (connections of earlier tests give theirs back in their own time)
+    until = time.monotonic() + 30
+    while free_places(server) < MOST_CONNECTIONS and time.monotonic() < until:
+        time.sleep(0.01)
+    assert free_places(server) == MOST_CONNECTIONS

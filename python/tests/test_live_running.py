@@ -16,11 +16,11 @@ import pytest
 from pages import script_of
 
 from pevudlo import Machine
-from pevudlo.live.pace import AtOnce, Pace
+from pevudlo.live.pace import AtOnce, Hurried, Unhurried
 from pevudlo.live.running import RunningSession
 from pevudlo.live.seen import Seen
 from pevudlo.live.server import Server
-from pevudlo.record.looks import Looker
+from pevudlo.record.looks import PICTURE_COUNTS, Looker
 from pevudlo.record.recorder import Recorder
 
 PATIENCE = 60.0
@@ -330,19 +330,35 @@ def test_a_draw_leaves_what_there_is_no_time_for(small: Server) -> None:
     assert isinstance(session, RunningSession)
     seen = Seen(Recorder(session.book.still(), Looker(session.book.still(), session.board)))
     seen.see_rows()
-    at_once, slow = AtOnce(True, lambda: False), Pace(True, lambda: True)
+    at_once, slow = AtOnce(), Hurried(0, lambda: False)
     seen.see_runs(at_once)
     assert ({*seen.later}, seen.runs) == ({1, 2}, {}) and at_once.has_left
-    assert [look.numbers for look in seen.looks("end", AtOnce(True, lambda: False)) if look.key in "bc"] == [None, None]
+    assert [look.numbers for look in seen.looks("end", AtOnce()) if look.key in "bc"] == [None, None]
     seen.see_runs(slow)
     assert ({*seen.later}, [*seen.runs]) == ({2}, [1]) and slow.has_left
-    last = Pace(True, lambda: True)
+    last = Hurried(PATIENCE, lambda: True)
     seen.see_runs(last)
-    assert (seen.later, [*seen.runs]) == (frozenset(), [1, 2]) and not last.has_left
-    looks = {look.key: look.numbers for look in seen.looks("end", slow)}
-    assert (list(looks["b"] or ()), looks["c"]) == ([1, 2, 3, 4], None)
-    looks = {look.key: look.numbers for look in seen.looks("end", slow)}
+    assert ({*seen.later}, [*seen.runs]) == (set(), [1, 2]) and not last.has_left
+    looks = {look.key: look.numbers for look in seen.looks("end", last)}
+    assert (list(looks["b"] or ()), looks["c"]) == ([1, 2, 3, 4], None) and last.has_left
+    looks = {look.key: look.numbers for look in seen.looks("end", Unhurried())}
     assert list(looks["c"] or ()) == [1, 2, 3, 4]
+
+
+def test_rows_with_too_many_numbers_are_told_at_once(server: Server) -> None:
+    tab = Tab(server)
+    tab.settled()
+    session = server.session
+    assert isinstance(session, RunningSession)
+    looker = Looker(session.book.still(), session.board)
+    seen = Seen(Recorder(looker.peer, looker))
+    seen.see_rows()
+    looker.numbers_left = 3 * PICTURE_COUNTS
+    seen.see_runs(AtOnce())
+    assert sorted(seen.later) == [1, 2, 3] and not seen.runs
+    looker.numbers_left = 2 * PICTURE_COUNTS
+    seen.see_runs(Hurried(0, lambda: False))
+    assert (sorted(seen.later), [*seen.runs]) == ([2], [1])
 
 
 def test_the_answer_to_a_command_brings_what_is_new(small: Server) -> None:

@@ -13,18 +13,30 @@ SECONDS_AT_REST = 0.03
 
 
 class Pace:
-    """How long a draw goes on. `has_left` tells whether something waits for the next draw.
+    """How long a draw goes on. `has_left` tells whether something waits for the next draw."""
 
-    One look of each kind is made in any case, and others in some seconds, as long as no command came.
-    """
-
-    def __init__(self, runs: bool, has_command: Callable[[], bool]) -> None:
-        self.has_left = False
-        self._has_command = has_command
-        self._until = time.monotonic() + (SECONDS if runs else SECONDS_AT_REST)
+    has_left = False
 
     def goes_on(self, count: int) -> bool:
         """Whether one look more is made, behind so many of its kind."""
+        raise NotImplementedError
+
+
+class Unhurried(Pace):
+    """All looks are made."""
+
+    def goes_on(self, count: int) -> bool:
+        return True
+
+
+class Hurried(Pace):
+    """One look of each kind is made in any case, and others in some seconds, as long as no command came."""
+
+    def __init__(self, seconds: float, has_command: Callable[[], bool]) -> None:
+        self._has_command = has_command
+        self._until = time.monotonic() + seconds
+
+    def goes_on(self, count: int) -> bool:
         if count and (time.monotonic() >= self._until or self._has_command()):
             self.has_left = True
             return False
@@ -32,7 +44,7 @@ class Pace:
 
 
 class AtOnce(Pace):
-    """The draw behind a command on a large program: what rows there are, and how they stand. All looks wait."""
+    """All looks wait: behind a command on a large program, what rows there are and how they stand comes first."""
 
     def goes_on(self, count: int) -> bool:
         self.has_left = True

@@ -3,16 +3,15 @@
 from __future__ import annotations
 
 from collections.abc import Mapping, Sequence
-from dataclasses import dataclass
 from html import escape
+from typing import NamedTuple
 
 from pevudlo.lang.board import Board
 from pevudlo.lang.replies import Row, Status
 from pevudlo.record.works import may_read
 
 
-@dataclass(frozen=True)
-class Reason:
+class Reason(NamedTuple):
     """What a row stands on: of each key that it may read the row that writes it last before, 0 for the start.
 
     `waits` is one of these keys whose row is unsettled, with that row, where there is one. `writes` are what it writes.
@@ -23,18 +22,36 @@ class Reason:
     writes: tuple[str, ...]
 
 
-def reasons_of(rows: Sequence[Row], board: Board) -> dict[int, Reason]:
-    """Of each row what it stands on."""
-    found: dict[int, Reason] = {}
-    writers: dict[str, int] = {}
-    unsettled = {row.row for row in rows if row.status is not Status.SETTLED}
-    for row in rows:
-        reads = tuple((key, writers.get(key, 0)) for key in may_read(board, row.text))
-        waits = next(((key, writer) for key, writer in reads if writer in unsettled), None)
-        writes = board.keys_written(row.text)
-        found[row.row] = Reason(reads, waits if row.row in unsettled else None, writes)
-        writers.update((key, row.row) for key in writes)
-    return found
+class Reasons:
+    """Finds what rows stand on. Which keys an instruction may read is kept as long as sets and fields are the same."""
+
+    def __init__(self) -> None:
+        self._declared: tuple[object, object] = ({}, {})
+        self._may_read: dict[str, tuple[str, ...]] = {}
+
+    def of(self, rows: Sequence[Row], board: Board) -> dict[int, Reason]:
+        """Of each row what it stands on."""
+        if self._declared != (board.sets, board.fields):
+            self._declared, self._may_read = ({**board.sets}, {**board.fields}), {}
+        found: dict[int, Reason] = {}
+        writers: dict[str, int] = {}
+        unsettled = {row.row for row in rows if row.status is not Status.SETTLED}
+        for row in rows:
+            reads = tuple([(key, writers.get(key, 0)) for key in self._reads(row.text, board)])
+            waits = None
+            if row.row in unsettled:
+                waits = next((read for read in reads if read[1] in unsettled), None)
+            writes = board.keys_written(row.text)
+            found[row.row] = Reason(reads, waits, writes)
+            for key in writes:
+                writers[key] = row.row
+        return found
+
+    def _reads(self, text: str, board: Board) -> tuple[str, ...]:
+        """Keys among which are all that an instruction reads."""
+        if text not in self._may_read:
+            self._may_read[text] = may_read(board, text)
+        return self._may_read[text]
 
 
 def attributes(row: Row, reason: Reason, edit_lines: Mapping[int, str]) -> str:

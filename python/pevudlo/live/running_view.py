@@ -5,7 +5,7 @@ from __future__ import annotations
 import threading
 
 from pevudlo.lang.replies import Row
-from pevudlo.live.reasons import Reason, attributes, reasons_of
+from pevudlo.live.reasons import Reason, Reasons, attributes
 from pevudlo.live.running import RunningSession
 from pevudlo.live.still import Still
 from pevudlo.live.view import View, card, refused_rows
@@ -23,6 +23,7 @@ class RunningView(View):
         self._running = session
         self._drawing = threading.Lock()
         self._still: Still | None = None
+        self._finder = Reasons()
         self._reasons: dict[int, Reason] = {}
 
     def since(self, seen: int) -> dict[str, object]:
@@ -43,7 +44,7 @@ class RunningView(View):
         """Draws what is other now."""
         still = Still(self._running, self._still)
         before, reasons = self._still, self._reasons
-        self._reasons = reasons_of(still.seen.rows, still.board)
+        self._reasons = self._finder.of(still.seen.rows, still.board)
         self.shown = self._still = still
         if before is not None and before.seen is still.seen:
             # (the reason of an unsettled row may be another, though the row is as it was)

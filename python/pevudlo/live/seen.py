@@ -54,7 +54,7 @@ class Seen:
         self._shown: dict[str, tuple[Row, Look]] = {}
         self._writers: dict[str, int] = {}
         self._looked: dict[int, int] = {}
-        self._writers_of: tuple[str, list[tuple[int, str]]] = ("", [])
+        self._writers_of: tuple[str, tuple[Row, ...]] = ("", ())
 
     def note(self, step: Step) -> None:
         """What a step says of rows: the runs of those that ran, and the last edit."""
@@ -116,7 +116,7 @@ class Seen:
         """Every key at the start: its input data, which changes by `input` alone."""
         return [self._start(key) for key in self.board.keys()]
 
-    def looks(self, place: str, pace: Pace | None = None) -> list[Look]:
+    def looks(self, place: str, pace: Pace) -> list[Look]:
         """Every key at a place. A key whose last row before it is as it was isn't asked for again.
 
         Numbers of others are looked at as far as the draw goes on.
@@ -125,7 +125,7 @@ class Seen:
         looks, count = list[Look](), 0
         for key in self.board.keys():
             has_numbers = self._has_numbers_to_see(key)
-            is_left = has_numbers and pace is not None and not pace.goes_on(count)
+            is_left = has_numbers and not pace.goes_on(count)
             looks.append(Look(key, place, None, None) if is_left else self._look(key, place))
             count += has_numbers
         return looks
@@ -164,13 +164,20 @@ class Seen:
 
     def _find_writers(self, place: str) -> None:
         """Finds the row that writes each key last before a place, where the instructions aren't what they were."""
-        texts = [(row.row, row.text) for row in self.rows]
-        if self._writers_of == (place, texts):
+        before, rows = self._writers_of
+        is_same = before == place and len(rows) == len(self.rows) and all(map(is_same_row, rows, self.rows))
+        self._writers_of = (place, self.rows)
+        if is_same:
             return
-        self._writers, self._writers_of = {}, (place, texts)
+        self._writers = {}
         last = None if place in ("start", "end") else int(place.removeprefix("after "))
-        for row, text in texts if place != "start" else ():
-            for key in self.board.keys_written(text):
-                self._writers[key] = row
-            if row == last:
+        for row in self.rows if place != "start" else ():
+            for key in self.board.keys_written(row.text):
+                self._writers[key] = row.row
+            if row.row == last:
                 break
+
+
+def is_same_row(one: Row, other: Row) -> bool:
+    """Whether two are one row with the same instruction."""
+    return one is other or (one.row, one.text) == (other.row, other.text)

@@ -17,6 +17,7 @@ from pevudlo.draw.visible import visible
 from pevudlo.hints.meanings import Where
 from pevudlo.lang.board import Board
 from pevudlo.lang.replies import OrderTaken
+from pevudlo.live.pace import Unhurried
 from pevudlo.live.seen import Seen
 from pevudlo.progress import PROGRESS, Progress, line_of, progress
 from pevudlo.record.looks import Look, Looker
@@ -152,7 +153,7 @@ class Session:
             if self.trouble:
                 raise Stopped(self.trouble)
             try:
-                return self.seen.starts(), self.seen.looks(self.caret)
+                return self.seen.starts(), self.seen.looks(self.caret, Unhurried())
             except PipeError as error:
                 raise self._stopped(error) from error
 

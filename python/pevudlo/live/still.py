@@ -2,7 +2,7 @@
 
 from __future__ import annotations
 
-from pevudlo.live.pace import AtOnce, Pace
+from pevudlo.live.pace import SECONDS, SECONDS_AT_REST, AtOnce, Hurried, Pace, Unhurried
 from pevudlo.live.running import RunningSession
 from pevudlo.live.seen import Seen
 from pevudlo.live.session import LISTED_A_STEP, NUMBERS_A_STEP
@@ -36,9 +36,16 @@ class Still:
             self.editor, self.epoch = session.editor, session.epoch
             self.acts = session.acts
             given, session.given = session.given, set()
-        has_new_act = last is not None and last.acts != self.acts and not is_small(self.board)
-        self.pace = (AtOnce if has_new_act else Pace)(self.running > 0, lambda: session.acts != self.acts)
+        self.pace = self._pace(session, last)
         self.seen = self._see(last, given)
+
+    def _pace(self, session: RunningSession, last: Still | None) -> Pace:
+        """The time for looks: as long as they take for the first who looks, and none behind a command."""
+        if last is None:
+            return Unhurried()
+        if last.acts != self.acts and not is_small(self.board):
+            return AtOnce()
+        return Hurried(SECONDS if self.running else SECONDS_AT_REST, lambda: session.acts != self.acts)
 
     def _see(self, last: Still | None, given: set[str]) -> Seen:
         """What is known of the rows and the keys."""
@@ -49,9 +56,7 @@ class Still:
             seen.turn_to(self.peer, self.board)
             seen.forget_starts(given)
         looker = seen.recorder.looker
-        looker.listed_left = LISTED_A_STEP
-        if last is None or not last.pace.has_left:
-            looker.numbers_left = NUMBERS_A_STEP
+        looker.listed_left, looker.numbers_left = LISTED_A_STEP, NUMBERS_A_STEP
         seen.edit = self.edit
         seen.see_rows()
         seen.see_runs(self.pace)

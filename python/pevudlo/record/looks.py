@@ -163,30 +163,32 @@ class Looker:
     ) -> tuple[RowRun, ...]:
         """What the rows of `ran` did. `rows` is the present program, in which they are settled.
 
-        It is told how many of them were looked at before it looks at the next one, and leaves what is behind a no.
+        Rows with too many numbers aren't looked at. Of the others those are left out where `goes_on` says no, which is
+        told how many were looked at.
         """
         faults = {row: fault for row, fault in self.faults().items() if row in ran}
         words = self.causes(faults.values())
         latest: dict[str, Look] = {}
-        found = list[RowRun]()
-        before: Row | None = None
+        found, looked = list[RowRun](), 0
+        place = "start"
         for number, row in enumerate(rows, 1):
-            is_looked_at = row.row in ran and goes_on(len(found))
-            if is_looked_at:
+            run: RowRun | None = None
+            if row.row in ran and not self._may_look(self.board.keys_written(row.text)):
+                run = RowRun(row, None, None, None)
+            elif row.row in ran and goes_on(looked):
                 self.told.say(f"looks at row {number:,} of {len(rows):,}")
-                run = self._run(row, "start" if before is None else f"after {before.row}", latest)
+                run, looked = self._run(row, place, latest), looked + 1
+            if run is not None:
                 found.append(replace(run, fault=faults.get(row.row), cause=words.get(row.row, "")))
-            if latest and (not is_looked_at or found[-1].changes is None):
+            if latest and (run is None or run.changes is None):
                 for key in self.board.keys_written(row.text):
                     latest.pop(key, None)
-            before = row
+            place = f"after {row.row}"
         return tuple(found)
 
     def _run(self, row: Row, place: str, latest: dict[str, Look]) -> RowRun:
         """What one row wrote. `latest` has keys whose last writer was looked at, as they stand before the row."""
         keys = self.board.keys_written(row.text)
-        if not self._may_look(keys):
-            return RowRun(row, None, None, None)
         context_key = context_of(self.board, row.text)
         for key in (context_key, *keys):
             if key not in latest:
