@@ -5,19 +5,23 @@ from __future__ import annotations
 import json
 import os
 import signal
+import subprocess
+import sys
 import threading
 import time
+import urllib.request
 from collections.abc import Iterator
 from pathlib import Path
 from random import Random
 from typing import Any
 
 import pytest
-from browsers import cells, complaints, evaluated, one, until
+from browsers import PATIENCE, cells, complaints, evaluated, one, until
 from random_editor import Fresh, RandomEditor, compare, numbers_of
 from selenium.webdriver.common.by import By
 from selenium.webdriver.common.keys import Keys
 from selenium.webdriver.remote.webdriver import WebDriver
+from terminals import children_of
 from test_live_http import asked, page
 from usages import is_usage_of
 
@@ -27,7 +31,7 @@ from pevudlo.live import command
 from pevudlo.live.followed import BY_THEMSELVES, FollowedSession, OtherText
 from pevudlo.live.server import Server
 from pevudlo.live.session import OtherRow, Session
-from pevudlo.wire.program import find
+from pevudlo.wire.program import ROOT, find
 
 HEAD = "set S 4\nfield a S 8\nfield b S 8\nfield c S 8\ninput a 0 1 2 3 4\n"
 ADD, TWICE = "u-add-3-1L b a a 8\n", "u-add-3-1L c b b 8\n"
@@ -42,8 +46,18 @@ def path(tmp_path: Path) -> Path:
 
 
 @pytest.fixture
-def session(path: Path) -> Iterator[FollowedSession]:
-    """A session of the file, which looks at it when it is told to."""
+def session(path: Path, library: bool, request: pytest.FixtureRequest) -> Iterator[FollowedSession]:
+    """A session of the file, which looks at it when it is told to: over the program, and over the library."""
+    place = request.getfixturevalue("libparis") if library else find()
+    session = FollowedSession(path, place, 1 + library, is_inside=library)
+    session.look()
+    yield session
+    session.close()
+
+
+@pytest.fixture
+def over_program(path: Path) -> Iterator[FollowedSession]:
+    """A session over the program, which may be killed."""
     session = FollowedSession(path, find(), 1)
     session.look()
     yield session
@@ -215,7 +229,8 @@ def test_what_cannot_be_done_on_such_a_page(session: FollowedSession) -> None:
         session.run("delete 1")
 
 
-def test_a_program_that_is_killed_is_begun_anew(session: FollowedSession, path: Path) -> None:
+def test_a_program_that_is_killed_is_begun_anew(over_program: FollowedSession, path: Path) -> None:
+    session = over_program
     os.kill(session.process, signal.SIGKILL)
     path.write_text(TEXT.replace("3 4", "3 5"))
     session.look()
@@ -225,6 +240,19 @@ def test_a_program_that_is_killed_is_begun_anew(session: FollowedSession, path: 
     session.restart()
     assert session.done.fresh == "the book was closed"
     agree(session, TEXT.replace("3 4", "3 5"))
+
+
+def test_the_program_is_begun_anew_with_the_text(session: FollowedSession) -> None:
+    session.restart()
+    assert session.done.fresh == "the book was closed" and session.done.count == 2
+    agree(session, TEXT)
+
+
+def test_a_session_over_the_library_has_no_child(path: Path, libparis: Path) -> None:
+    session = FollowedSession(path, libparis, is_inside=True)
+    with pytest.raises(AttributeError, match="no child"):
+        print(session.process)
+    session.close()
 
 
 def test_nothing_is_kept_of_what_was_typed(session: FollowedSession) -> None:
@@ -255,13 +283,14 @@ def test_what_goes_wrong_while_it_follows_is_told(session: FollowedSession, monk
     assert session.trouble == "ZeroDivisionError: division by zero" and follows.is_alive()
 
 
-@pytest.mark.parametrize("seed", range(2))
-def test_three_hands_at_random(seed: int, tmp_path: Path) -> None:
-    """Each text is what the file has, and the program is what a fresh run of it says."""
+@pytest.mark.parametrize("seed", range(4))
+def test_three_hands_at_random(seed: int, tmp_path: Path, request: pytest.FixtureRequest) -> None:
+    """Each text is what the file has, and rows and values are those of a fresh run of it."""
     made, chance = RandomEditor(seed), Random(seed)
-    path = tmp_path / "random.paris"
+    path, is_inside = tmp_path / "random.paris", seed % 2 == 1
     path.write_bytes(bytes_of("".join(f"{line}\n" for line in made.lines)))
-    session = FollowedSession(path, find(), 1)
+    place = request.getfixturevalue("libparis") if is_inside else find()
+    session = FollowedSession(path, place, 1 + seed // 2, is_inside=is_inside)
     session.look()
     for _ in range(10):
         made.lines = session.text.split("\n")[:-1]
@@ -348,6 +377,36 @@ def test_a_page_without_a_file_has_no_text() -> None:
         server.shutdown()
         thread.join(10)
     session.close()
+
+
+@pytest.mark.parametrize("words", [(), ("--program",)], ids=["library", "program"])
+def test_the_command_follows_a_file(words: tuple[str, ...], path: Path, libparis: Path) -> None:
+    """Over the library it has no child. Ctrl-C ends it, and the programs behind it."""
+    line = [sys.executable, "-P", "-m", "pevudlo", "live", "--follow", *words, str(path)]
+    environment = {**os.environ, "PARIS_LIBRARY": str(libparis), "PYTHONPATH": str(ROOT / "python")}
+    with subprocess.Popen(line, env=environment, stdout=subprocess.PIPE, text=True, start_new_session=True) as process:
+        try:
+            assert process.stdout is not None
+            address = process.stdout.readline().split(" ")[1]
+            started = children_of(process.pid)
+            assert len(started) == (2 if words else 0)
+            assert shown(TEXT) in beside_at(address)
+            path.write_text(TEXT.replace("3 4", "3 5"))
+            wanted, until = shown(TEXT.replace("3 4", "3 5")), time.monotonic() + PATIENCE
+            while wanted not in beside_at(address):
+                assert time.monotonic() < until
+                time.sleep(0.05)
+            process.send_signal(signal.SIGINT)
+            assert process.wait(PATIENCE) == 0
+            assert not any(Path(f"/proc/{child}").exists() for child in started)
+        finally:
+            process.kill()
+
+
+def beside_at(address: str) -> list[str]:
+    """What stands beside the lines, asked of a server that is a process of its own."""
+    with urllib.request.urlopen(f"{address}lines?first=0&last=99", timeout=PATIENCE) as answer:
+        return [" ".join(line[1:]) for line in json.load(answer)["lines"]]
 
 
 def test_follow_wants_a_file(capsys: pytest.CaptureFixture[str]) -> None:

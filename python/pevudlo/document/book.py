@@ -23,7 +23,7 @@ from pevudlo.record.earlier import Numbers
 from pevudlo.record.looks import Looker
 from pevudlo.talk import Talk
 from pevudlo.values.shaped import input_lines
-from pevudlo.wire.peers import Peer
+from pevudlo.wire.peers import Peer, inner_of
 
 Kept = TypeVar("Kept", bound=Reply)
 MOST_SAID = 60
@@ -50,7 +50,7 @@ class Book:
         self.editions: dict[int, int] = {}
         self.refused: dict[int, str] = {}
         self.header = ""
-        self._looker = Looker(self.peer, self.board)
+        self._looker = Looker(inner_of(self.peer), self.board)
         self._listed: list[str] = []
         self._rows: Sequence[FileRow] = []
         self._inputs: dict[str, list[str]] = {}

@@ -67,14 +67,15 @@ def serve(session: Session, title: str, port: int) -> None:
 def begun(said: Namespace, lines: list[str]) -> Session:
     """A session of a script, or of a file that is followed. Raises NotFound, Stopped and PipeError.
 
-    Rows run by themselves in the library where that is there, and the program isn't wanted.
+    Rows run in the library where that is there, and the program isn't wanted.
     """
+    library = None if said.program else find_library_or_none()
     if said.follow:
-        followed = FollowedSession(Path(said.file), find(), said.workers, said.quiet)
+        place, is_inside = library or find(), library is not None
+        followed = FollowedSession(Path(said.file), place, said.workers, said.quiet, is_inside)
         followed.look()
         threading.Thread(target=followed.follow, daemon=True).start()
         return followed
-    library = None if said.program else find_library_or_none()
     session = (
         Session(find(), said.workers, said.quiet)
         if library is None

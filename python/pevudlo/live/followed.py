@@ -17,6 +17,10 @@ from pevudlo.lang.grammar import PROFILE_COMMAND, wrong_column
 from pevudlo.lang.replies import NoReply, parse
 from pevudlo.live.session import CHANGING, LISTED_A_STEP, Session, Stopped
 from pevudlo.record.recorder import LOOKS, Step
+from pevudlo.running.background import Background
+from pevudlo.wire.book import Book
+from pevudlo.wire.library import Library
+from pevudlo.wire.peers import Peer
 from pevudlo.wire.pipe import Pipe, PipeError, is_comment
 
 PERIOD = 0.05
@@ -42,11 +46,11 @@ class Gone(PipeError):
 
 
 class SessionPeer:
-    """A session as the peer of a document: what changes the program is a step of it, and looks go to the program."""
+    """A session as the peer of a document: what changes the program is a step of it, and looks go to `inner`."""
 
     def __init__(self, session: FollowedSession) -> None:
         self._session = session
-        session.begin_anew()
+        self.inner = session.begin_anew()
 
     def ask(self, line: str) -> list[str]:
         """The lines of the reply to one line. Raises PipeError."""
@@ -64,11 +68,15 @@ class SessionPeer:
 class FollowedSession(Session):
     """A session of a file. `text` is its text, `number` counts texts, and `done` is what the last update did."""
 
-    def __init__(self, path: Path, program: Path, workers: int = 2, is_quiet: bool = True) -> None:
-        super().__init__(program, workers, is_quiet)
+    def __init__(
+        self, path: Path, place: Path, workers: int = 2, is_quiet: bool = True, is_inside: bool = False
+    ) -> None:
+        """`place` is where the program is, or the library where `is_inside`."""
+        self._is_inside = is_inside
+        super().__init__(place, workers, is_quiet)
         self.file = Watched(path)
         self.text, self.done, self.is_away = "", Update(), False
-        self.document = Document(lambda: SessionPeer(self), begin_second=lambda: Pipe(program, 1))
+        self.document = Document(lambda: SessionPeer(self), begin_second=self._begun_second)
         self._is_new = True
         self._over = threading.Event()
 
@@ -213,25 +221,47 @@ class FollowedSession(Session):
             return {"number": self.number, "lines": [], "head": self.trouble}
 
     def close(self) -> None:
-        """Ends the programs."""
+        """Ends what runs the rows, and what gives the verdicts."""
         self._over.set()
         super().close()
         self.document.close()
 
     # The program, as the document's peer.
 
-    def begin_anew(self) -> None:
-        """Begins another program, where this one was told something."""
+    def begin_anew(self) -> Peer:
+        """Begins another program, where this one was told something, and gives it."""
         if not self._is_new:
-            self._pipe.close()
+            self._end()
             self._forget()
             self._begin()
         self._is_new = False
+        return self._peer
+
+    def _begun(self) -> Peer:
+        """The library, whose rows run in the workers, or the program."""
+        if not self._is_inside:
+            return super()._begun()
+        book = Book(self._program)
+        self._background = Background(book, lambda: self.board, self._workers, 0)
+        return book
+
+    def _begun_second(self) -> Peer:
+        """What gives the verdicts, with nothing declared."""
+        if self._is_inside:
+            return Library(self._program)
+        return Pipe(self._program, 1)
+
+    def _end(self) -> None:
+        """Ends the workers too."""
+        if self._is_inside:
+            self._background.close()
+        else:
+            super()._end()
 
     def told_line(self, line: str) -> list[str]:
         """The reply to one line of the document. Raises PipeError."""
         if line.split(" ", 1)[0] not in CHANGING:
-            return self._pipe.ask(line)
+            return self._peer.ask(line)
         try:
             return list(self._step(line, LISTED_A_STEP).lines)
         except Stopped as error:
@@ -239,7 +269,7 @@ class FollowedSession(Session):
 
     def told_lines(self, lines: Sequence[str]) -> list[list[str]]:
         """The replies to the lines that a new book is told."""
-        replies = self._pipe.ask_all(lines)
+        replies = self._peer.ask_all(lines)
         for line, reply in zip(lines, replies):
             if reply:
                 self.board.note(line, reply[0])

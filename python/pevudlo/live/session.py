@@ -22,6 +22,7 @@ from pevudlo.live.seen import Seen
 from pevudlo.progress import PROGRESS, Progress, line_of, progress
 from pevudlo.record.looks import Look, Looker
 from pevudlo.record.recorder import Recorder, Step
+from pevudlo.wire.peers import Peer
 from pevudlo.wire.pipe import Pipe, PipeError, is_comment
 
 NUMBERS_A_STEP = 150_000
@@ -79,8 +80,10 @@ class Session:
 
     @property
     def process(self) -> int:
-        """The child's process id."""
-        return self._pipe.process
+        """The child's process id. Raises AttributeError over the library, which has no child."""
+        if not isinstance(self._peer, Pipe):
+            raise AttributeError("a session over the library has no child process")
+        return self._peer.process
 
     def run(self, line: str, was: str | None = None) -> Step:
         """Hands one command to the program. `was` is the instruction that its row had for who wrote the command.
@@ -160,7 +163,7 @@ class Session:
     def restart(self) -> None:
         """Starts the program again, and hands it the commands that it took."""
         with self.lock:
-            self._pipe.close()
+            self._end()
             lines, caret = self.taken, self.caret
             self._forget()
             self._begin()
@@ -199,8 +202,9 @@ class Session:
         self._closed = True
         with self._news:
             self._news.notify_all()
-        self._pipe.kill()
-        self._pipe.close()
+        if isinstance(self._peer, Pipe):
+            self._peer.kill()
+        self._end()
 
     @contextmanager
     def _telling(self, where: str) -> Iterator[Progress]:
@@ -219,11 +223,20 @@ class Session:
         self.steps.clear()
 
     def _begin(self) -> None:
-        """Starts the child, and a thread that notices its end."""
-        self._pipe = Pipe(self._program, self._workers)
-        self._recorder = Recorder(self._pipe, Looker(self._pipe, Board()), Where.LIVE)
+        """Begins the program, and where it is a child a thread that notices its end."""
+        peer = self._peer = self._begun()
+        self._recorder = Recorder(peer, Looker(peer, Board()), Where.LIVE)
         self.seen = Seen(self._recorder)
-        threading.Thread(target=self._watch, args=(self._pipe,), daemon=True).start()
+        if isinstance(peer, Pipe):
+            threading.Thread(target=self._watch, args=(peer,), daemon=True).start()
+
+    def _begun(self) -> Peer:
+        """What runs the rows, with nothing declared."""
+        return Pipe(self._program, self._workers)
+
+    def _end(self) -> None:
+        """Ends what runs the rows."""
+        self._peer.close()
 
     def _watch(self, pipe: Pipe) -> None:
         """Waits for the end of a child, and says so where nobody wanted it."""
@@ -232,7 +245,7 @@ class Session:
         except ChildProcessError:
             return
         with self.lock:
-            if pipe is self._pipe and not self._closed and not self.trouble:
+            if pipe is self._peer and not self._closed and not self.trouble:
                 try:
                     pipe.ask("list")
                 except PipeError as error:

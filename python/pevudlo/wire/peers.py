@@ -24,6 +24,12 @@ class Peer(Protocol):
         """Ends the talk, and gives its status."""
 
 
+def inner_of(peer: Peer) -> Peer:
+    """Whom looks may be asked of at once: the peer, or the one to whom it hands lines on."""
+    inner: Peer = getattr(peer, "inner", peer)
+    return inner
+
+
 USUAL_WORKERS = 2
 """In how many threads a program settles rows where nothing is said."""
 
