@@ -24,7 +24,7 @@ from pevudlo.wire.peers import Peer
 from pevudlo.wire.pipe import Ended, Pipe
 from pevudlo.wire.program import ROOT, find
 
-TEXTS = int(os.environ.get("PEVUDLO_TEXTS", "100"))
+TEXTS = int(os.environ.get("PEVUDLO_TEXTS", "1000"))
 """How many texts the random editors make."""
 
 TEXTS_EACH = 20
@@ -343,6 +343,25 @@ def test_a_book_that_another_changes_is_begun_anew(begin: Begin) -> None:
             done = document.update(HOLDING + f"input a 0 {len(line)}\n")
             assert done.fresh == LOST
             compare(document, document.lines)
+
+
+def test_a_save_alone_finds_what_another_changed(begin: Begin) -> None:
+    """What is typed sends nothing, and asks nothing. What is saved is compared, though it is the same text."""
+    with Document(begin) as document:
+        document.update(HOLDING)
+        document.book.peer.ask("delete 3")
+        done = document.update(f"{HOLDING}# Typed.\n", hold=True)
+        assert (done.fresh, done.sent, len(document.book.peer.ask("list"))) == ("", [], 3)
+        done = document.update(f"{HOLDING}# Typed.\n")
+        assert done.fresh == LOST and done.count == 3
+        compare(document, document.lines)
+        done = document.update(document_text(document))
+        assert (done.fresh, done.sent, done.count, len(done.touched)) == ("", [], 0, 0)
+
+
+def document_text(document: Document) -> str:
+    """The text that a document has."""
+    return "".join(f"{line}\n" for line in document.lines)
 
 
 def test_nothing_is_kept_of_rows_that_are_gone(begin: Begin) -> None:

@@ -134,12 +134,16 @@ class Book:
                         self._tell(line, Ok, done)
         self._inputs = wanted
 
-    def settle(self, rows: Sequence[FileRow], done: Update) -> None:
-        """Settles all rows, and sees which were touched. Raises NewBook where the book's rows aren't these."""
+    def settle(self, rows: Sequence[FileRow], done: Update, is_saved: bool = True) -> None:
+        """Settles all rows, and sees which were touched. Raises NewBook where the book's rows aren't these.
+
+        The rows of a text that is saved are always compared, and those of one that is typed where something was sent.
+        """
         done.rows = len(rows)
         done.count = self.talk.ask("settle", Settled).count
-        if done.sent or done.count:
+        if done.sent or done.count or is_saved:
             done.touched = frozenset(self._list(rows))
+        if done.sent or done.count:
             self.faults = {fault.row: fault for fault in self.talk.faults()}
 
     # What is seen.

@@ -162,7 +162,7 @@ class Document:
             book.to_inputs(meaning.shown, done)
         self.meaning, self._declared = meaning, declared
         self.told.say("settles rows")
-        book.settle(meaning.rows, done)
+        book.settle(meaning.rows, done, is_saved=not hold)
         if done.sent:
             self._forget(book.editions)
 
