@@ -46,6 +46,12 @@ local function client_of(buffer)
   return number and vim.lsp.get_client_by_id(number)
 end
 
+-- Before the server has answered that it is there, nothing is asked of it.
+local function begun_client_of(buffer)
+  local client = client_of(buffer)
+  return client and client.initialized and client
+end
+
 -- Each update of the server: its words are for the status line, as in
 --   set statusline=%f\ %m\ %{get(b:,'paris_ran','')}
 vim.lsp.handlers["$/paris/ran"] = function(_, result, context)
@@ -102,7 +108,7 @@ vim.api.nvim_create_autocmd({ "WinScrolled", "BufWinEnter" }, {
   group = group,
   pattern = "*.paris",
   callback = function(at)
-    local client = client_of(at.buf)
+    local client = begun_client_of(at.buf)
     if client then
       draw_all(client, at.buf)
     end
