@@ -11,15 +11,12 @@ from pevudlo.arguments import Arguments, file_name
 from pevudlo.document.document import Document
 from pevudlo.document.plain import Plain
 from pevudlo.document.screen import Screen, drawn
-from pevudlo.document.watched import Watched
+from pevudlo.document.watched import PERIOD, Watched
 from pevudlo.draw.visible import visible
 from pevudlo.files import path_of, read_lines, why
 from pevudlo.wire.peers import peer_of
 from pevudlo.wire.pipe import PipeError
 from pevudlo.wire.program import NotFound
-
-PERIOD = 0.05
-"""Seconds between two looks at the file."""
 
 DOES = (
     "Holds a script in step with a running program while it is edited elsewhere. Where its text changes, only the rows "

@@ -6,6 +6,9 @@ import os
 import time
 from pathlib import Path
 
+PERIOD = 0.02
+"""Seconds between two looks at a file that is followed."""
+
 FRESH = 0.1
 """A file that changed within so many seconds is read again, since its time may not tell the next change."""
 

@@ -11,7 +11,7 @@ from pevudlo.document.edits import edited
 from pevudlo.document.marks import headline, mark_of
 from pevudlo.document.pieces import Kind, first_command, piece_of
 from pevudlo.document.update import Update
-from pevudlo.document.watched import Watched
+from pevudlo.document.watched import PERIOD, Watched
 from pevudlo.files import write_text
 from pevudlo.lang.grammar import PROFILE_COMMAND, wrong_column
 from pevudlo.lang.replies import NoReply, parse
@@ -22,9 +22,6 @@ from pevudlo.wire.book import Book
 from pevudlo.wire.library import Library
 from pevudlo.wire.peers import Peer
 from pevudlo.wire.pipe import Pipe, PipeError, is_comment
-
-PERIOD = 0.05
-"""Seconds between two looks at the file."""
 
 EDITING = ("set", "field", "input", "insert", "delete", "replace")
 MOST_LINES = 400

@@ -7,7 +7,7 @@ from __future__ import annotations
 
 import ctypes
 import threading
-from collections.abc import Callable
+from collections.abc import Callable, Sequence
 from ctypes import c_bool, c_uint32, c_uint64
 from threading import get_ident
 from typing import Optional
@@ -73,6 +73,11 @@ class Book(Library):
                 return lines
         finally:
             self.waiting.discard(get_ident())
+
+    def ask_all(self, lines: Sequence[str]) -> list[list[str]]:
+        """The replies to many lines, of each of which is told what `ask` tells."""
+        with self.lock:
+            return [self.ask(line) for line in lines]
 
     def settle(self, told: Callable[[], None] | None = None) -> int:
         """Settles all rows, and gives how many ran."""

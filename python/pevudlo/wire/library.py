@@ -26,6 +26,9 @@ Calls = dict[str, Callable[..., int]]
 SHORT, LONG = 0.01, 0.04
 """Seconds: of a part of a settle that takes less the next is greater, and of one that takes more it is smaller."""
 
+SHORT_REPLY = 4_096
+"""A reply of so many bytes at most is put into a room that is there."""
+
 MOST_AT_ONCE = 4_096
 """So many rows are run in one call at most, behind which Ctrl-C ends a settle."""
 
@@ -84,8 +87,9 @@ class Library:
         self._over: tuple[str, int] | None = None
         self._length, self._told = c_size_t(), c_uint64()
         # A room for short replies. The addresses hold as long as the objects do.
-        self._room = ctypes.create_string_buffer(4096)
+        self._room = ctypes.create_string_buffer(SHORT_REPLY)
         self._at, self._length_at = held.at, ctypes.addressof(self._length)
+        self._room_at = ctypes.addressof(self._room)
         self._told_at = ctypes.addressof(self._told)
 
     @property
@@ -143,12 +147,7 @@ class Library:
         try:
             self.waiting.add(get_ident())
             with self.lock:
-                self._check_open()
-                try:
-                    self._is_in_call = True
-                    return self._answered(line)
-                finally:
-                    self._is_in_call = False
+                return self._turn(line)
         finally:
             self.waiting.discard(get_ident())
 
@@ -156,8 +155,12 @@ class Library:
         """The replies to many lines, as by `ask` of one after another."""
         if any("\n" in line for line in lines):
             raise ValueError("each line is one line")
-        with self.lock:
-            return [self.ask(line) for line in lines]
+        try:
+            self.waiting.add(get_ident())
+            with self.lock:
+                return [self.ask(line) if line == "settle" else self._turn(line) for line in lines]
+        finally:
+            self.waiting.discard(get_ident())
 
     def set(self, key: str, first: int, words: Words) -> bool:
         """Gives a key these numbers from a processor on, as one edit. False where that is refused, and nothing done."""
@@ -243,15 +246,19 @@ class Library:
             raise trouble(outcome)
         return room if outcome == Outcome.OK else None
 
-    def _answered(self, line: str) -> list[str]:
-        """The lines of the reply to a line, in a turn."""
+    def _turn(self, line: str) -> list[str]:
+        """The lines of the reply to a line, in a turn. The lock is held."""
+        self._check_open()
         data = line.encode("utf-8", "surrogateescape")
         try:
+            self._is_in_call = True
             outcome = self._answer(self._at, data, len(data), self._length_at)
             text = self._replied() if outcome == Outcome.OK else b""
         except BaseException:
             self._end("the session was stopped")
             raise
+        finally:
+            self._is_in_call = False
         if outcome != Outcome.OK:
             raise trouble(outcome)
         if text.startswith(b"refused"):
@@ -261,11 +268,14 @@ class Library:
     def _replied(self) -> bytes:
         """The bytes of the kept reply."""
         count = self._length.value
-        room = self._room if count <= len(self._room) else ctypes.create_string_buffer(count)
-        outcome = self._reply(self._at, ctypes.addressof(room), count)
+        room, at = self._room, self._room_at
+        if count > SHORT_REPLY:
+            room = ctypes.create_string_buffer(count)
+            at = ctypes.addressof(room)
+        outcome = self._reply(self._at, at, count)
         if outcome != Outcome.OK:
             raise trouble(outcome)
-        return ctypes.string_at(room, count)
+        return ctypes.string_at(at, count)
 
     def _end(self, what: str) -> None:
         """Closes the handle, once."""
