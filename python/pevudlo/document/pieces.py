@@ -3,12 +3,12 @@
 from __future__ import annotations
 
 from collections.abc import Sequence
-from dataclasses import dataclass
 from enum import Enum
 from functools import lru_cache
+from typing import NamedTuple
 
 from pevudlo.lang.grammar import PROFILE_COMMAND, wrong_column
-from pevudlo.lang.instructions import FIELDS, INSTRUCTIONS, NONE, Operand, read
+from pevudlo.lang.instructions import FIELDS, INSTRUCTIONS, NONE, Operand
 from pevudlo.wire.pipe import is_comment
 
 BARE = "insert end "
@@ -16,6 +16,13 @@ BARE = "insert end "
 
 LONG = 1_000
 """A longer line is no row that is known at a glance."""
+
+
+NAMED = {
+    name: [at for at, operand in enumerate(each.operands, 1) if operand in FIELDS or operand is Operand.SET]
+    for name, each in INSTRUCTIONS.items()
+}
+"""Which words of an instruction are names of sets and fields."""
 
 
 class Kind(Enum):
@@ -42,8 +49,7 @@ FIRM = (*DECLARING, Kind.DELETE, Kind.REPLACE)
 """Kinds of lines on which other lines hang."""
 
 
-@dataclass(frozen=True)
-class Piece:
+class Piece(NamedTuple):
     """A line. `line` is the command that it is told as, and `text` its instruction; `names` are sets and fields in it.
 
     `place` is start, end or after, and `row` the id behind `after`, `replace` and `delete`. `name` is what it declares.
@@ -146,7 +152,5 @@ def owner(key: str) -> frozenset[str]:
 @lru_cache(maxsize=65_536)
 def names_in(text: str) -> frozenset[str]:
     """The sets and fields that an instruction names."""
-    _, named = read(text)
-    return frozenset(
-        word for operand, word in named.items() if (operand in FIELDS or operand is Operand.SET) and word != NONE
-    )
+    words = text.split(" ")
+    return frozenset([words[at] for at in NAMED[words[0]] if words[at] != NONE])
