@@ -1,13 +1,29 @@
 ;;; paris-mode.el --- Scripts of Paris programs, with a language server -*- lexical-binding: t; -*-
 
 ;; For Emacs from 28 on, with eglot: M-x eglot in a script starts `paris lsp'.
+;; Where eglot draws no inlay hints, which it does from 1.10 on, the values beside the visible lines are drawn here.
 
 ;;; Code:
 
 (require 'cl-lib)
 
+(defvar eglot-send-changes-idle-time)
+(defvar eglot-server-programs)
+(declare-function eglot-current-server "eglot")
+(declare-function eglot--pos-to-lsp-position "eglot")
+(declare-function eglot--TextDocumentIdentifier "eglot")
+(declare-function eglot--uri-to-path "eglot")
+(declare-function jsonrpc-async-request "jsonrpc")
+
 (defvar-local paris-mode-ran nil
   "What the last update of the server did.")
+
+(defvar-local paris-mode-values nil
+  "The overlays that have the values of lines.")
+
+(defface paris-mode-value '((t :inherit shadow))
+  "Values beside lines."
+  :group 'paris-mode)
 
 (defvar paris-mode-commands
   '("paris" "set" "field" "input" "insert" "delete" "replace" "take" "bring" "release" "settle" "show" "list" "faults")
@@ -28,6 +44,8 @@
   (modify-syntax-entry ?- "_")
   (setq-local comment-start "# ")
   (setq-local font-lock-defaults '(paris-mode-font-lock))
+  (setq-local eglot-send-changes-idle-time 0.1)
+  (add-hook 'window-scroll-functions #'paris-mode-scrolled nil t)
   (setq-local mode-line-process '(:eval (if paris-mode-ran (concat " " paris-mode-ran) ""))))
 
 ;;;###autoload
@@ -36,6 +54,44 @@
 (defvar paris-mode-server '("paris" "lsp")
   "The command that starts the server.")
 
+(defun paris-mode-draw (buffer hints)
+  "Draws HINTS, what lines give, behind the lines of BUFFER."
+  (when (buffer-live-p buffer)
+    (with-current-buffer buffer
+      (mapc #'delete-overlay paris-mode-values)
+      (setq paris-mode-values (mapcar #'paris-mode-value hints)))))
+
+(defun paris-mode-value (hint)
+  "An overlay with the words of a HINT at the end of its line."
+  (save-excursion
+    (save-restriction
+      (widen)
+      (goto-char (point-min))
+      (forward-line (plist-get (plist-get hint :position) :line))
+      (let ((overlay (make-overlay (line-end-position) (line-end-position)))
+            (words (propertize (concat "  " (plist-get hint :label)) 'face 'paris-mode-value)))
+        (put-text-property 0 1 'cursor t words)
+        (overlay-put overlay 'after-string words)
+        overlay))))
+
+(defun paris-mode-ask (buffer)
+  "Asks what the visible lines of BUFFER give, where eglot doesn't ask."
+  (let ((window (get-buffer-window buffer t)))
+    (when (and window (not (fboundp 'eglot-inlay-hints-mode)) (fboundp 'eglot-current-server))
+      (with-current-buffer buffer
+        (when-let ((server (eglot-current-server))
+                   (start (eglot--pos-to-lsp-position (window-start window)))
+                   (end (eglot--pos-to-lsp-position (window-end window t))))
+          (jsonrpc-async-request
+           server :textDocument/inlayHint
+           (list :textDocument (eglot--TextDocumentIdentifier) :range (list :start start :end end))
+           :success-fn (lambda (hints) (paris-mode-draw buffer hints))
+           :error-fn #'ignore))))))
+
+(defun paris-mode-scrolled (window _start)
+  "Asks what the lines give that are visible in WINDOW now, once it is drawn."
+  (run-with-timer 0 nil #'paris-mode-ask (window-buffer window)))
+
 (with-eval-after-load 'eglot
   (add-to-list 'eglot-server-programs (cons 'paris-mode paris-mode-server))
   (cl-defmethod eglot-handle-notification (_server (_method (eql $/paris/ran)) &key uri text &allow-other-keys)
@@ -43,7 +99,8 @@
     (when-let ((buffer (find-buffer-visiting (eglot--uri-to-path uri))))
       (with-current-buffer buffer
         (setq paris-mode-ran text)
-        (force-mode-line-update)))))
+        (force-mode-line-update)
+        (paris-mode-ask buffer)))))
 
 (provide 'paris-mode)
 ;;; paris-mode.el ends here

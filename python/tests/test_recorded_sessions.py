@@ -21,6 +21,7 @@ SAVED = (
 """What the file has at the end of either session."""
 
 ASKED = {
+    "inlayHint",
     "hover",
     "documentHighlight",
     "definition",
@@ -108,11 +109,8 @@ def test_values_are_those_of_a_fresh_run(played: Played) -> None:
     hover = played.results("hover")[0]["contents"]["value"]
     assert "from the row `u-add-3-1L b a a 8` in line 7" in hover and b in " ".join(hover.split())
     hints = [{hint["position"]["line"]: hint["label"] for hint in result} for result in played.results("inlayHint")]
-    if hints:
-        assert (
-            hints[0][8] == f"c {numbers(TEXT, 'show c end')}" and hints[1][8] == f"c {numbers(CHANGED, 'show c end')}"
-        )
-        assert hints[-1][6].startswith(f"twice {numbers(SAVED, 'show twice end')} ")
+    assert hints[0][8] == f"c {numbers(TEXT, 'show c end')}" and hints[1][8] == f"c {numbers(CHANGED, 'show c end')}"
+    assert hints[-1][6].startswith(f"twice {numbers(SAVED, 'show twice end')} ")
     assert "2 of 2 rows ran again; 1 line is refused" in played.ran and "1 of 3 rows ran again" in played.ran
 
 
