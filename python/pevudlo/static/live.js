@@ -161,6 +161,7 @@
     if (out) return;
     out += 1;
     try {
+      if (window.showsFirst) await window.showsFirst();
       const answer = await fetch(base + "state?seen=" + version, { cache: "no-store" });
       if (answer.ok) apply(await answer.json());
     } catch { lost(); }

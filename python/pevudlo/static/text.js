@@ -94,7 +94,7 @@
       }
     } catch { /* The page says that nobody answers. */ }
     isBusy = false;
-    drawLines();
+    await drawLines();
   }
 
   // What the visible lines give.
@@ -137,6 +137,14 @@
     at("ran").textContent = news.head;
     document.body.dataset.text = news.number;
   }
+
+  // What the text gives is shown before the rest of the page, which takes its time where a program is large.
+  window.showsFirst = async () => {
+    const news = await get("lines?first=0&last=0");
+    heard = Math.max(heard, news.number);
+    await settle();
+    if (!document.hidden) await new Promise((go) => requestAnimationFrame(() => setTimeout(go)));
+  };
 
   area.addEventListener("input", settle);
   area.addEventListener("change", () => { isSaved = true; settle(); });
