@@ -1,4 +1,4 @@
-"""The row that a value comes from: the one that the program names where no row is settled."""
+"""The row that a value comes from: the one that the program names where no row is settled. The library tells it too."""
 
 from __future__ import annotations
 
@@ -9,6 +9,8 @@ from pevudlo.document.document import Document
 from pevudlo.document.meaning import FileRow
 from pevudlo.document.origins import input_lines, lines_of_rows, place_before, row_above, row_before, writer
 from pevudlo.lang.instructions import FLAGS
+from pevudlo.wire.library import Library
+from pevudlo.wire.peers import Peer
 from pevudlo.wire.pipe import Pipe, is_comment
 from pevudlo.wire.program import find
 
@@ -16,13 +18,20 @@ TIME = ("settle", "take", "bring", "release", "list", "faults", "show")
 
 
 @pytest.mark.parametrize("seed", range(6))
-def test_the_program_names_the_same_row(seed: int) -> None:
+def test_the_program_names_the_same_row(seed: int, library: bool, request: pytest.FixtureRequest) -> None:
     """Of each key behind each row. Where all rows wait, a look is pending for the row that writes the key last."""
     editor = RandomEditor(seed)
     for _ in range(4):
         editor.edit()
     lines = [line for line in editor.lines if not is_comment(line) and line.split(" ")[0] not in TIME]
-    with Document(lambda: Pipe(find(), 1)) as document:
+    path = request.getfixturevalue("libparis") if library else find()
+
+    def begin() -> Peer:
+        if library:
+            return Library(path)
+        return Pipe(path, 1)
+
+    with Document(begin) as document:
         document.update_lines(lines)
         board = document.book.board
         keys = [*board.fields, *(f"{name}.{flag}" for name in board.sets for flag in FLAGS)]

@@ -23,6 +23,7 @@ from pevudlo.record.earlier import Numbers
 from pevudlo.record.looks import Looker
 from pevudlo.talk import Talk
 from pevudlo.values.shaped import input_lines
+from pevudlo.wire.library import Library
 from pevudlo.wire.peers import Peer, inner_of
 
 Kept = TypeVar("Kept", bound=Reply)
@@ -154,6 +155,11 @@ class Book:
         if look.numbers is None:
             raise NoReply(f"row {look.pending} is unsettled behind a settle")
         return look.numbers
+
+    def origin(self, key: str, last: FileRow) -> int | None:
+        """The id of the row that gives a key its value behind a row, 0 for the start. None where only a walk tells."""
+        inner = inner_of(self.peer)
+        return inner.origin(key, last.book) if isinstance(inner, Library) else None
 
     def cause(self, row: FileRow) -> str:
         """Why a row is refused for its data, in words."""

@@ -35,6 +35,9 @@ def writer(document: Document, key: str, last: FileRow | None) -> FileRow | None
     """The row that writes a key last, up to a row and with it; None where that is input data."""
     if last is None:
         return None
+    number = document.book.origin(key, last)
+    if number is not None:
+        return next((row for row in document.rows if row.book == number), None)
     board = document.book.board
     for row in reversed(document.rows[: document.rows.index(last) + 1]):
         if key in board.keys_written(row.text):

@@ -147,12 +147,6 @@ class Book(Library):
             self._check(*self._call("paris_unsettled", room.address, count, self._told_at))
         return tuple(map(int, room.numbers[:count]))
 
-    def origin(self, key: str, place: int) -> int | None:
-        """The row that gives a key its value at a place, 0 for the start. None where the look is refused."""
-        name = key.encode("utf-8", "surrogateescape")
-        outcome, row = self._call("paris_origin", name, len(name), place, self._told_at)
-        return row if outcome == Outcome.OK else None
-
     def settle_for(self, key: str, place: int) -> int | None:
         """Runs the rows that a value stands on, and gives how many ran. None where the look is refused."""
         name = key.encode("utf-8", "surrogateescape")

@@ -182,6 +182,12 @@ class Library:
         told = self._looked("paris_get_wide", key, place, room_of(WIDE * count), count)
         return wide_numbers(told) if isinstance(told, Words) else told
 
+    def origin(self, key: str, place: int) -> int | None:
+        """The row that gives a key its value at a place, 0 for the start. None where the look is refused."""
+        name = key.encode("utf-8", "surrogateescape")
+        outcome, row = self._call("paris_origin", name, len(name), place, self._told_at)
+        return row if outcome == Outcome.OK else None
+
     def close(self) -> int:
         """Ends the session, and gives 1 where a line was refused, else 0, as the program's exit status does."""
         if self.is_elsewhere:
