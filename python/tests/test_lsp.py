@@ -152,7 +152,7 @@ def test_random_changes_of_ranges() -> None:
         at = len(letters) if beyond else chance.randint(0, len(letters))
         return {"line": line, "character": units_of(letters[:at]) + beyond}
 
-    for _ in range(600):
+    for _ in range(3_000):
         text = some("ab \n\n😀é", 30)
         for _ in range(5):
             start, end = sorted((position(text), position(text)), key=lambda each: offset(text, each))
