@@ -116,6 +116,21 @@ def test_a_file_that_changes_while_it_is_read(path: Path, monkeypatch: pytest.Mo
     assert file.news() == TEXT + ADD
 
 
+def test_a_file_that_is_half_written(path: Path) -> None:
+    file = Watched(path)
+    file.news()
+    path.write_text(TEXT[:60])
+    assert file.news() is None
+    path.write_text(TEXT + ADD)
+    assert file.news() == TEXT + ADD
+    # One that stays so ends within a line. It is taken when it is seen again, and then it is known.
+    path.write_text(TEXT[:60])
+    os.utime(path, (1, 1))
+    assert [file.news() for _ in range(3)] == [None, TEXT[:60], None]
+    path.write_text(TEXT[:61])
+    assert [file.news() for _ in range(3)] == [None, TEXT[:61], None]
+
+
 def test_a_file_that_another_takes_the_place_of(path: Path) -> None:
     file = Watched(path)
     file.news()

@@ -36,11 +36,16 @@ class Watched:
         self._seen: Stamp | None = None
         self._empty_from: float | None = None
         self._away_from: float | None = None
+        # What ended within a line when it was read last.
+        self._half = b""
 
     def news(self) -> str | None:
         """The text, where it is another than the last one and the file rests; else None."""
         data = self._read()
-        if data is None or self._may_be_written(data):
+        if data is None:
+            return None
+        if self._may_be_written(data):
+            self._seen = None
             return None
         text = data.decode("utf-8", "surrogateescape")
         if text == self._text:
@@ -74,13 +79,14 @@ class Watched:
             self._away_from = time.monotonic() if self._away_from is None else self._away_from
             return None
         age = time.time() - stamp[0] / 1e9
-        self._seen = stamp if age > FRESH and data else None
+        self._seen = stamp if age > FRESH else None
         return data
 
     def _may_be_written(self, data: bytes) -> bool:
-        """Whether a file that had a text is empty only for now."""
+        """Whether a file that had a text is empty only for now, or ends within a line and may be longer soon."""
         if data or not self._text:
-            self._empty_from = None
-            return False
+            self._empty_from, half = None, self._half
+            self._half = b"" if data.endswith(b"\n") else data
+            return bool(self._text) and self._half not in (b"", half)
         self._empty_from = self._empty_from or time.monotonic()
         return time.monotonic() - self._empty_from < EMPTY
