@@ -129,6 +129,10 @@ def test_a_file_that_is_half_written(path: Path) -> None:
     assert [file.news() for _ in range(3)] == [None, TEXT[:60], None]
     path.write_text(TEXT[:61])
     assert [file.news() for _ in range(3)] == [None, TEXT[:61], None]
+    # A page of whole lines may be one of several.
+    page = "".join(f"# {number:05}\n" for number in range(512))
+    path.write_text(page)
+    assert len(page) == 4_096 and [file.news() for _ in range(3)] == [None, page, None]
 
 
 def test_a_file_that_another_takes_the_place_of(path: Path) -> None:

@@ -18,6 +18,9 @@ EMPTY = 0.3
 AWAY = 1.0
 """A file that is away for less than so many seconds is being put in its place."""
 
+PAGE = 4_096
+"""A file that is being written grows by so many bytes, so one of as many, or of a multiple, may be a part."""
+
 Stamp = tuple[int, int, int]
 
 
@@ -36,7 +39,7 @@ class Watched:
         self._seen: Stamp | None = None
         self._empty_from: float | None = None
         self._away_from: float | None = None
-        # What ended within a line when it was read last.
+        # What was read last, where it may be a part of what is being written.
         self._half = b""
 
     def news(self) -> str | None:
@@ -83,10 +86,10 @@ class Watched:
         return data
 
     def _may_be_written(self, data: bytes) -> bool:
-        """Whether a file that had a text is empty only for now, or ends within a line and may be longer soon."""
+        """Whether a file that had a text is empty only for now, or may be longer soon, and is so for the first time."""
         if data or not self._text:
             self._empty_from, half = None, self._half
-            self._half = b"" if data.endswith(b"\n") else data
+            self._half = data if len(data) % PAGE == 0 or not data.endswith(b"\n") else b""
             return bool(self._text) and self._half not in (b"", half)
         self._empty_from = self._empty_from or time.monotonic()
         return time.monotonic() - self._empty_from < EMPTY
