@@ -216,12 +216,13 @@ def spliced(
     rest = moved_looks(before.shown[len(before.lines) - same[1] :], rows[-1] if rows else None)
     more = len(lines) - len(before.lines)
     here = [low + at for at, each in enumerate(shown) if each.row is not None]
+    below = before.row_lines[end:] if not more else [at + more for at in before.row_lines[end:]]
     return Meaning(
         lines,
         [*before.shown[:low], *shown, *rest],
         [*rows, *before.rows[end:]],
         head=before.head,
-        row_lines=[*before.row_lines[:start], *here, *(at + more for at in before.row_lines[end:])],
+        row_lines=[*before.row_lines[:start], *here, *below],
         is_straight=True,
         is_held=before.is_held or any(each.refused and each.row is not None for each in shown),
         has_inputs=any(each.kind is Kind.INPUT for each in (*olds, *shown)),
