@@ -359,6 +359,13 @@ def test_a_save_alone_finds_what_another_changed(begin: Begin) -> None:
         assert (done.fresh, done.sent, done.count, len(done.touched)) == ("", [], 0, 0)
 
 
+def test_a_save_that_compares_nothing_is_found(folder: Path) -> None:
+    with planted(folder, "book", "done.count or is_saved:", "done.count:")(program) as document:
+        document.update(HOLDING)
+        document.book.peer.ask("delete 3")
+        assert document.update(HOLDING).fresh == "" and len(document.book.peer.ask("list")) == 3
+
+
 def document_text(document: Document) -> str:
     """The text that a document has."""
     return "".join(f"{line}\n" for line in document.lines)
