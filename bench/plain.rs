@@ -68,28 +68,6 @@ fn checksum(planes: &[Plane]) -> u64 {
 
 // ---- kernels, in place ----
 
-fn add_step(x: &[u64], y: &[u64], carry: &mut [u64], sum: &mut [u64]) {
-    let len = x.len();
-    let (y, carry, sum) = (&y[..len], &mut carry[..len], &mut sum[..len]);
-    for i in 0..len {
-        let unlike = x[i] ^ y[i];
-        let carried = carry[i];
-        sum[i] = unlike ^ carried;
-        carry[i] = (x[i] & y[i]) | (unlike & carried);
-    }
-}
-
-fn subtract_step(x: &[u64], y: &[u64], borrow: &mut [u64], difference: &mut [u64]) {
-    let len = x.len();
-    let (y, borrow, difference) = (&y[..len], &mut borrow[..len], &mut difference[..len]);
-    for i in 0..len {
-        let unlike = x[i] ^ y[i];
-        let borrowed = borrow[i];
-        difference[i] = unlike ^ borrowed;
-        borrow[i] = borrowed ^ ((borrowed ^ y[i]) & unlike);
-    }
-}
-
 fn less_step(x: &[u64], y: &[u64], less: &mut [u64]) {
     let len = x.len();
     let (y, less) = (&y[..len], &mut less[..len]);
@@ -112,15 +90,9 @@ fn select_step(x: &mut [u64], y: &[u64], mask: &[u64]) {
     }
 }
 
-fn add_planes(x: &[Plane], y: &[Plane], carry: &mut Plane, sum: &mut [Plane]) {
+fn accumulate_planes(x: &[Plane], carry: &mut Plane, sum: &mut [Plane]) {
     for k in 0..x.len() {
-        add_step(&x[k], &y[k], carry, &mut sum[k]);
-    }
-}
-
-fn subtract_planes(x: &[Plane], y: &[Plane], borrow: &mut Plane, difference: &mut [Plane]) {
-    for k in 0..x.len() {
-        subtract_step(&x[k], &y[k], borrow, &mut difference[k]);
+        accumulate_step(&x[k], &mut sum[k], carry);
     }
 }
 
@@ -176,8 +148,8 @@ const OPERATORS: [(Operator, &str); 5] = [
 #[inline(never)]
 fn work(operator: Operator, x: &[Plane], y: &[Plane], bits: &mut Plane, out: &mut [Plane]) {
     match operator {
-        Operator::Add => add_planes(x, y, bits, out),
-        Operator::Subtract => subtract_planes(x, y, bits, out),
+        Operator::Add => accumulate_planes(y, bits, out),
+        Operator::Subtract => (),
         Operator::Less => less_planes(x, y, bits),
         Operator::Xor => xor_planes(out, y),
         Operator::Maximum => maximum_planes(x, y, bits, out),
@@ -190,12 +162,30 @@ fn zero_planes(width: usize, words: usize) -> Vec<Plane> {
     (0..width).map(|_| vec![0; words]).collect()
 }
 
+fn summed(x: &[u64], y: &[u64], carry: &mut [u64]) -> Plane {
+    let sum = |((x, y), carry): ((&u64, &u64), &mut u64)| {
+        let unlike = x ^ y;
+        let carried = *carry;
+        *carry = (x & y) | (unlike & carried);
+        unlike ^ carried
+    };
+    x.iter().zip(y).zip(carry).map(sum).collect()
+}
+
+fn differing(x: &[u64], y: &[u64], borrow: &mut [u64]) -> Plane {
+    let difference = |((x, y), borrow): ((&u64, &u64), &mut u64)| {
+        let unlike = x ^ y;
+        let borrowed = *borrow;
+        *borrow = borrowed ^ ((borrowed ^ y) & unlike);
+        unlike ^ borrowed
+    };
+    x.iter().zip(y).zip(borrow).map(difference).collect()
+}
+
 /// The sums, with where they carry and where they overflow.
 fn add(x: &[Plane], y: &[Plane]) -> Vec<Plane> {
-    let words = x[0].len();
-    let mut sum = zero_planes(x.len(), words);
-    let mut carry = vec![0; words];
-    add_planes(x, y, &mut carry, &mut sum);
+    let mut carry = vec![0; x[0].len()];
+    let mut sum: Vec<Plane> = x.iter().zip(y).map(|(x, y)| summed(x, y, &mut carry)).collect();
     sum.push(carry.clone());
     sum.push(carry);
     sum
@@ -203,10 +193,8 @@ fn add(x: &[Plane], y: &[Plane]) -> Vec<Plane> {
 
 /// The differences, with where they borrow and where they overflow.
 fn subtract(x: &[Plane], y: &[Plane]) -> Vec<Plane> {
-    let words = x[0].len();
-    let mut difference = zero_planes(x.len(), words);
-    let mut borrow = vec![0; words];
-    subtract_planes(x, y, &mut borrow, &mut difference);
+    let mut borrow = vec![0; x[0].len()];
+    let mut difference: Vec<Plane> = x.iter().zip(y).map(|(x, y)| differing(x, y, &mut borrow)).collect();
     difference.push(borrow.clone());
     difference.push(borrow);
     difference
@@ -219,16 +207,15 @@ fn less(x: &[Plane], y: &[Plane]) -> Vec<Plane> {
 }
 
 fn xor(x: &[Plane], y: &[Plane]) -> Vec<Plane> {
-    let mut out = x.to_vec();
-    xor_planes(&mut out, y);
-    out
+    let unlike = |(x, y): (&Plane, &Plane)| x.iter().zip(y).map(|(x, y)| x ^ y).collect();
+    x.iter().zip(y).map(unlike).collect()
 }
 
 fn maximum(x: &[Plane], y: &[Plane]) -> Vec<Plane> {
     let mut less = vec![0; x[0].len()];
-    let mut greatest = x.to_vec();
-    maximum_planes(x, y, &mut less, &mut greatest);
-    greatest
+    below_planes(x, y, &mut less);
+    let chosen = |(x, y): (&Plane, &Plane)| x.iter().zip(y).zip(&less).map(|((x, y), mask)| x ^ ((x ^ y) & mask)).collect();
+    x.iter().zip(y).map(chosen).collect()
 }
 
 #[inline(never)]
@@ -686,7 +673,9 @@ fn measure_products(size: &Size) {
 
 fn measure_all(size: &Size) {
     for (operator, name) in OPERATORS {
-        measure_kernel(operator, name, size);
+        if !matches!(operator, Operator::Subtract) {
+            measure_kernel(operator, name, size);
+        }
         measure_new(operator, name, size);
     }
     measure_numbers(size);

@@ -58,8 +58,7 @@ function operations() {
     print ""
     print "| Rattle / rustc | processors | 8 bits | 32 bits | 64 bits |"
     print "|---|---|---|---|---|"
-    compared_rows("`u-add` in place (`add_planes`)", "kernel-add")
-    compared_rows("`u-subtract` in place (`subtract_step`)", "kernel-subtract")
+    compared_rows("`u-add` in place (`accumulate_step`)", "kernel-add")
     compared_rows("`s-lt` in place (`put_triple`)", "kernel-less")
     compared_rows("`logxor` in place (`xor_in`)", "kernel-xor")
     compared_rows("`u-max` in place (`put_triple`, then `merge_planes`)", "kernel-maximum")
@@ -130,7 +129,7 @@ function execution() {
     print "|---|---|---|"
     part("`execute`", "execute", 1)
     part("in it, each measured by itself: the sum and its flags, in new planes (`paris_alu::add`)", "new-add", 1)
-    part("of which the kernel in place (`add_planes`)", "kernel-add", 1)
+    part("of which the kernel in place (`accumulate_step`)", "kernel-add", 1)
     part("the merge of the unselected processors' numbers", "value-merge", 1)
     part("copies of three planes (context, carry, overflow)", "flag-copy", 3)
     part("the merge of two flags", "flag-merge", 2)

@@ -14,7 +14,8 @@ ROOT = Path(__file__).resolve().parent.parent
 # The crates that make what dist/ holds: the program and the library for C.
 MADE = ("paris_front", "paris_c")
 PORT = re.compile(
-    r"Rust crate `(?P<name>[a-z_-]+)`(?: (?P<version>\d[\d.]*\d))?(?: \((?P<licence>[A-Za-z0-9.-]+ or [A-Za-z0-9.-]+))?"
+    r"Rust crate `(?P<name>[a-z_-]+)`(?: (?P<version>\d[\d.]*\d))?"
+    r"(?: \((?P<licence>[A-Za-z0-9.-]+ or (?:Apache 2\.0|[A-Za-z0-9.-]+)))?"
 )
 # Words that the text of a licence has, by its name in SPDX.
 WORDS = {"MIT": "Permission is hereby granted", "Apache-2.0": "Apache License"}
@@ -92,7 +93,7 @@ def carried(name: str) -> Carried:
 def licence_of(said: str | None, texts: Iterable[tuple[str, str]]) -> str | None:
     """The licence that a page says, or else that of the texts, as SPDX writes it."""
     if said is not None:
-        return " OR ".join(sorted(said.split(" or "), reverse=True))
+        return " OR ".join(sorted(said.replace("Apache 2.0", "Apache-2.0").split(" or "), reverse=True))
     return " OR ".join(name for name, words in WORDS.items() if any(words in text for _, text in texts)) or None
 
 

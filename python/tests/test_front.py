@@ -32,6 +32,22 @@ def test_scripts() -> None:
     assert paris(stdin="delete 9\n").returncode == 1
 
 
+@pytest.mark.parametrize("given", [None, "", "glibc.malloc.check=0"])
+def test_the_program_asks_for_huge_pages_where_the_user_says_nothing(given: str | None) -> None:
+    environment = {name: value for name, value in os.environ.items() if name != "GLIBC_TUNABLES"}
+    if given is not None:
+        environment["GLIBC_TUNABLES"] = given
+    pipe = subprocess.PIPE
+    with subprocess.Popen([PARIS], env=environment, stdin=pipe, stdout=pipe, text=True) as child:
+        assert child.stdin and child.stdout
+        child.stdin.write("list\n")
+        child.stdin.flush()
+        assert child.stdout.readline() == "rows 0\n"
+        found = Path(f"/proc/{child.pid}/environ").read_text().split("\0")
+    wanted = "glibc.malloc.hugetlb=1" if given is None else given
+    assert f"GLIBC_TUNABLES={wanted}" in found
+
+
 def test_a_terminal_is_told_what_is_waited_for() -> None:
     ours, theirs = pty.openpty()
     with subprocess.Popen([PARIS], stdin=theirs, stdout=subprocess.PIPE, stderr=theirs, text=True) as child:

@@ -3,9 +3,9 @@ use Rattle.std.proofs.Common.{◌≡◌, ℕ, ◌+◌, ◌*◌, ◌^◌, ◌<◌
 use Rattle.std.specs.Simd.Lanes.{zip2}
 use Rattle.std.proofs.lemmas.Simd.{get_or-zip2}
 use Rattle.paris_model.specs.Store.{bit}
-use Rattle.paris_plane.specs.Bits.{differ, zip3, borrow_bit, sum_bit}
+use Rattle.paris_plane.specs.Bits.{differ, zip3, borrow_bit, sum_bit, carry_bit}
 use Rattle.paris_field.specs.Numbers.{bit_in, number_at, plane_at, bits_everywhere}
-use Rattle.paris_field.proofs.Numbers.{one_more, double, step_of_numbers}
+use Rattle.paris_field.proofs.Numbers.{one_more, double, step_of_numbers, step_at}
 use Rattle.paris_field.proofs.Places.{plane_is, get_or-bits_everywhere, get_triple, number_pushed}
 use Rattle.paris_alu.proofs.Steps.{borrow_of_bits, opposite_of_bits}
 use Rattle.paris_alu.proofs.Results.{low_lt}
@@ -23,6 +23,24 @@ chain_more g f f' n k xs ys x y b b' step hx hy ex ey before long at =
     ∙ step (number_at (take k xs) v) (number_at (take k ys) v) (get_or b v false) (get_or x v false) (get_or y v false) (low_lt xs k v (omega arith)) (low_lt ys k v (omega arith))
     (ap (λ l. get_or l v false) before ∙ get_or-bits_everywhere n (λ v. f (number_at (take k xs) v) (number_at (take k ys) v)) v h)
     ∙ sym (ap (λ z. f' z (number_at (take (k + 1) ys) v)) (one_more xs k v x hx ex) ∙ ap (f' (number_at (take k xs) v + 2 ^ k * bit_in x v)) (one_more ys k v y hy ey)))
+
+-- one more bit of a sum
+pub summed_more : (n k v : ℕ) (xs ys ps ps' : List (List Bool)) (x y s b b' c : List Bool)
+    → k < length xs → k < length ys → x ≡ plane_at xs k → y ≡ plane_at ys k → length x ≡ n → length y ≡ n → length b ≡ n → length ps ≡ k
+    → s ≡ zip3 sum_bit x y b → b' ≡ zip3 carry_bit x y b → ps' ≡ ps ++ s ∷ [] → v < n
+    → number_at ps v + 2 ^ k * bit_in b v ≡ number_at (take k xs) v + number_at (take k ys) v + bit_in c v
+    → number_at ps' v + 2 ^ (k + 1) * bit_in b' v ≡ number_at (take (k + 1) xs) v + number_at (take (k + 1) ys) v + bit_in c v
+summed_more n k v xs ys ps ps' x y s b b' c hx hy ex ey nx ny nb count es eb ep h before =
+    let bits : bit_in s v + 2 * bit_in b' v ≡ bit_in x v + bit_in y v + bit_in b v = step_at x y b s b' v es eb (nx ∙ sym ny) (nx ∙ sym nb) (omega arith) in
+    let pushed : number_at ps' v ≡ number_at ps v + 2 ^ k * bit_in s v = ap (λ qs. number_at qs v) ep ∙ number_pushed ps s v ∙ ap (λ j. number_at ps v + 2 ^ j * bit_in s v) count in
+    omega (
+      arith,
+      pushed,
+      one_more xs k v x hx ex,
+      one_more ys k v y hy ey,
+      double k (bit_in b' v),
+      step_of_numbers (2 ^ k) (number_at ps v) (number_at (take k xs) v) (number_at (take k ys) v) (bit_in c v) (bit_in s v) (bit_in x v) (bit_in y v) (bit_in b v) (bit_in b' v) bits before,
+    )
 
 -- one more bit of a difference
 pub difference_more : (n k v : ℕ) (xs ys ps ps' : List (List Bool)) (x y s b b' c : List Bool)

@@ -7,8 +7,8 @@ use Rattle.paris_model.specs.Store.{low, everywhere}
 use Rattle.paris_model.specs.Elementwise.{is_less}
 use Rattle.paris_plane.specs.Bits.{zip3, borrow_bit}
 use Rattle.paris_field.specs.Fields.{FieldNumbers}
-use Rattle.paris_field.specs.Numbers.{AllOf, value_of_planes, number_at, plane_at, bits_everywhere}
-use Rattle.paris_field.proofs.Places.{Holds, bits_same, everywhere_same, field_is, get_or-bits_everywhere, get_triple, length-bits_everywhere, length_triple, plane_is}
+use Rattle.paris_field.specs.Numbers.{AllOf, number_at, plane_at, bits_everywhere}
+use Rattle.paris_field.proofs.Places.{Holds, bits_same, everywhere_same, get_or-bits_everywhere, get_triple, length-bits_everywhere, length_triple, plane_is}
 use Rattle.paris_alu.proofs.Chains.{chain_more}
 use Rattle.paris_alu.proofs.Steps.{below_step}
 use Rattle.paris_alu.proofs.Signs.{signed_below_step}
@@ -82,16 +82,6 @@ chosen_field R n L f g xs ys mask value x y is e =
     ap (λ b. cond b (number_at ys v) (number_at xs v)) (ap (λ l. get_or l v false) is ∙ get_or-bits_everywhere n (λ v. R (f v) (g v)) v h)
     ∙ ap (λ z. cond (R (f v) (g v)) z (number_at xs v)) (y.at v h) ∙ ap (cond (R (f v) (g v)) (g v)) (x.at v h)
     ∙ low_of_one (R (f v) (g v)) L (f v) (g v) (held_lt x v h) (held_lt y v h)))
-
--- planes of one list where a mask is 1, and of another elsewhere
-pub selected_field : (n : ℕ) (xs ys old new : List (List Bool)) (mask : List Bool) → length xs ≡ length ys → old ≡ xs → length new ≡ length old → ((v : ℕ) → v < n → number_at (take (length xs) new) v ≡ cond (get_or mask v false) (number_at (take (length xs) ys) v) (number_at (take (length xs) old) v))
-    → value_of_planes n new ≡ record { width = length xs; numbers = everywhere n (λ v. if get_or mask v false then number_at ys v else number_at xs v) }
-selected_field n xs ys old new mask same copied long low =
-    let count : length new ≡ length xs = long ∙ ap length copied in
-    field_is n (length xs) new (λ v. if get_or mask v false then number_at ys v else number_at xs v) count (λ v h.
-    ap (λ l. number_at l v) (sym (take_all (length xs) new (omega (arith, count)))) ∙ low v h
-    ∙ ap (λ l. cond (get_or mask v false) (number_at l v) (number_at (take (length xs) old) v)) (take_all (length xs) ys (omega (arith, same)))
-    ∙ ap (λ l. cond (get_or mask v false) (number_at ys v) (number_at l v)) (take_all (length xs) old (omega (arith, ap length copied)) ∙ copied))
 
 -- where planes' numbers are less, for the operands that they hold
 pub less_mask : (sign : Sign) (n m L : ℕ) (f g : ℕ → ℕ) (xs ys : List (List Bool)) (p : List Bool) → m ≡ n → Holds n L f xs → Holds n L g ys → p ≡ bits_everywhere m (λ v. is_less sign (length xs) (number_at xs v) (number_at ys v)) → p ≡ bits_everywhere n (λ v. is_less sign L (f v) (g v))

@@ -8,7 +8,7 @@ ghost use Rattle.paris_field.specs.Numbers.{AllOf, number_at, bits_everywhere};
 ghost use Rattle.paris_alu.specs.Alu.{binary_field, comparison_plane, extreme_operator};
 
 use crate::planes::{below, unlike};
-use paris_field::{FieldValue, copy_planes, merge_planes};
+use paris_field::{FieldValue, chosen_planes};
 use paris_model::{Comparison, Sign};
 use paris_plane::{Borrow, Plane};
 use std::alloc::{AllocError, Global};
@@ -89,8 +89,7 @@ fn selected(alloc: Global, mask: &Plane, x: &[Plane], y: &[Plane]) -> Result<Fie
     requires y_planes { AllOf (length mask.now) y.now }
     ensures { IfOk result (λ value. value ≡ record { width = length x.now; numbers = everywhere (length mask.now) (λ v. if slice_index_or mask.now v false then number_at y.now v else number_at x.now v) }) }
 {
-    let mut planes = copy_planes(alloc, x)?;
-    merge_planes(&mut planes, mask, y, x.len());
+    let planes = chosen_planes(alloc, mask, y, x)?;
     Ok(FieldValue::from_planes(planes, mask.len()))
 }
 

@@ -5,8 +5,8 @@ ghost use Rattle.std.specs.Simd.Lanes.{zip2};
 ghost use Rattle.paris_field.specs.Numbers.{AllOf, bit_in, number_at, plane_at, bits_everywhere};
 
 use crate::kernel::Unlike;
-use paris_field::{add_planes, copy_planes, zero_planes};
-use paris_plane::{Borrow, Plane, WordOp, subtract_step};
+use paris_field::copy_planes;
+use paris_plane::{Borrow, Plane, WordOp, Xor};
 use std::alloc::{AllocError, Global};
 
 /// The sums of the numbers of `x`, those of `y` and the carried bits. Leaves in `carry` what they carry.
@@ -24,8 +24,11 @@ pub(crate) fn sum_planes(
     ensures planes { IfOk result (λ planes. AllOf (length carry.old) planes.items) }
     ensures exact { IfOk result (λ planes. (v : ℕ) → v < length carry.old → number_at planes.items v + 2 ^ length x.now * bit_in carry.new v ≡ number_at x.now v + number_at y.now v + bit_in carry.old v) }
 {
-    let mut planes = zero_planes(alloc, x.len(), carry.len())?;
-    add_planes(x, y, carry, &mut planes);
+    let mut planes = Vec::with_capacity(alloc, x.len())?;
+    for k in 0..x.len() {
+        let plane = Plane::summed(alloc, &x[k], &y[k], carry)?;
+        planes.push(plane)?;
+    }
     Ok(planes)
 }
 
@@ -46,8 +49,7 @@ pub(crate) fn difference_planes(
 {
     let mut planes = Vec::with_capacity(alloc, x.len())?;
     for k in 0..x.len() {
-        let mut plane = Plane::zeros(alloc, borrow.len())?;
-        subtract_step(&x[k], &y[k], borrow, &mut plane);
+        let plane = Plane::difference(alloc, &x[k], &y[k], borrow)?;
         planes.push(plane)?;
     }
     Ok(planes)
@@ -68,8 +70,7 @@ pub(crate) fn opposite_planes(
 {
     let mut planes = Vec::with_capacity(alloc, x.len())?;
     for k in 0..x.len() {
-        let mut plane = x[k].copy()?;
-        plane.xor_in(borrow);
+        let plane = Plane::combined::<Xor>(alloc, &x[k], borrow)?;
         borrow.or_in(&x[k]);
         planes.push(plane)?;
     }
@@ -88,8 +89,7 @@ pub(crate) fn combined_planes<O: WordOp>(
 {
     let mut planes = Vec::with_capacity(alloc, x.len())?;
     for k in 0..x.len() {
-        let mut plane = x[k].copy()?;
-        plane.put::<O>(&y[k]);
+        let plane = Plane::combined::<O>(alloc, &x[k], &y[k])?;
         planes.push(plane)?;
     }
     Ok(planes)
@@ -101,8 +101,7 @@ pub(crate) fn inverted_planes(alloc: Global, x: &[Plane]) -> Result<Vec<Plane>, 
 {
     let mut planes = Vec::with_capacity(alloc, x.len())?;
     for plane in x {
-        let mut inverted = plane.copy()?;
-        inverted.not_in();
+        let inverted = Plane::inverted(alloc, plane)?;
         planes.push(inverted)?;
     }
     Ok(planes)

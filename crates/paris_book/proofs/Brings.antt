@@ -1,54 +1,29 @@
 -- The verdict of a book is the machine's.
-use Rattle.std.proofs.Common.{◌≡◌, ℕ, List, Bool, true, false, cond, Option, Some, None, refl, sym, ap, ◌∙◌, eqb, map, set, slice_get}
-use Rattle.std.proofs.Math.Path.{ap₂, fun_ext}
+use Rattle.std.proofs.Common.{◌≡◌, ℕ, List, true, false, Option, Some, None, refl, sym, ap, ◌∙◌, map, set, slice_get}
+use Rattle.std.proofs.Math.Path.{ap₂}
 use Rattle.std.proofs.lemmas.List.{map-set}
-use Rattle.std.specs.Prelude.{◌&&◌}
-use Rattle.std.specs.List.{list_all}
-use Rattle.std.specs.Cmp.Lexicographic.{pointwise}
-use Rattle.paris_names.specs.declared.keys.Key.{Key}
 use Rattle.paris_board.specs.Board.{Board}
-use Rattle.paris_model.specs.Frame.{World}
-use Rattle.paris_model.specs.Instructions.{reads}
-use Rattle.paris_instr.specs.PlanEq.{plan_eq}
-use Rattle.paris_field.specs.Fields.{field_eq}
-use Rattle.paris_exec.specs.Tasks.{Task, field_of}
-use Rattle.paris_events.specs.Rows.{is_settled}
+use Rattle.paris_exec.specs.Tasks.{Task}
 use Rattle.paris_machine.specs.State.{Row, Inputs, State, find_id, find_row, Work, work_of}
-use Rattle.paris_machine.specs.Orders.{inputs_now}
-use Rattle.paris_machine.specs.CutOff.{is_present}
 use Rattle.paris_machine.specs.CutOff.{cut_off, IsAtRest}
 use Rattle.paris_machine.specs.Results.{verdict_at, verdict_on, verdict_of, brought_on, after_bring}
 use Rattle.paris_book.specs.Steps.{WasSettled, kept_on, after_keep}
 use Rattle.paris_program.specs.Program.{place_of}
 use Rattle.paris_book.specs.Marks.{kept_data}
-use Rattle.paris_book.specs.Entries.{Entry, machine_row, with_data}
+use Rattle.paris_book.specs.Entries.{Entry, machine_row, with_data, seen}
 use Rattle.paris_book.proofs.Entering.{find_is}
 use Rattle.paris_events.specs.declared.verdicts.Verdict.{Verdict}
 use Rattle.paris_events.specs.declared.verdicts.Verdict.TheVariants.{Gone, Stale, Repeated, Foreign, Kept}
-use Rattle.paris_book.specs.Among.{firm_among}
 use Rattle.paris_events.specs.Verdicts.{is_kept}
-use Rattle.paris_book.specs.Verdicts.{present_among, verdict_among}
 use Rattle.paris_book.proofs.Finds.{found_some, row_at}
 use Rattle.paris_machine.proofs.Finds.{none_of}
 use Rattle.paris_book.proofs.Inserts.{state_of}
-use Rattle.paris_book.proofs.Shows.{now_is, firm_is}
-
--- whether a result is present, by the entries
-pub present_is : (b : Board) (n m : ℕ) (inputs : Inputs) (es : List Entry) (k : ℕ) (e : Entry) (t : Task) → is_present (state_of b n m inputs es) k (machine_row e) (work_of t) ≡ present_among inputs es k e t
-present_is b n m inputs es k e t =
-    ap (λ (q : Key → Bool). plan_eq e.1.plan t.plan && (list_all q (reads e.1.plan) && pointwise field_eq (inputs_now (state_of b n m inputs es) k e.1.plan) t.inputs)) (fun_ext (λ f. firm_is b n m inputs es f k))
-    ∙ ap (λ (w : World). plan_eq e.1.plan t.plan && (list_all (firm_among es k) (reads e.1.plan) && pointwise field_eq (map (λ f. field_of e.1.plan f (w f)) (reads e.1.plan)) t.inputs)) (now_is b n m inputs es k)
-
-verdict_is : (b : Board) (n m : ℕ) (inputs : Inputs) (es : List Entry) (k : ℕ) (e : Entry) (t : Task) → verdict_at (state_of b n m inputs es) (k, machine_row e) t ≡ verdict_among inputs es k e t
-verdict_is b n m inputs es k e t =
-    ap (λ p. cond (eqb e.1.edition.0 t.edition.0) (cond (is_settled e.1.status) Repeated (cond p Kept Foreign)) (Stale e.1.edition)) (present_is b n m inputs es k e t)
 
 -- the machine's answer, by the entries
-pub answer_found : (b : Board) (n m : ℕ) (inputs : Inputs) (es : List Entry) (s : State) (k : ℕ) (e : Entry) (t : Task) → state_of b n m inputs es ≡ s → find_id t.id.0 (map machine_row es) ≡ Some (k, machine_row e) → verdict_of s t ≡ verdict_among inputs es k e t
+pub answer_found : (b : Board) (n m : ℕ) (inputs : Inputs) (es : List Entry) (s : State) (k : ℕ) (e : Entry) (t : Task) → state_of b n m inputs es ≡ s → find_id t.id.0 (map machine_row es) ≡ Some (k, machine_row e) → verdict_of s t ≡ verdict_at (seen inputs es) (k, machine_row e) t
 answer_found b n m inputs es s k e t y x =
     ap (λ (z : State). verdict_of z t) (sym y)
     ∙ ap (λ o. verdict_on (state_of b n m inputs es) o t) x
-    ∙ verdict_is b n m inputs es k e t
 
 pub answer_none : (b : Board) (n m : ℕ) (inputs : Inputs) (es : List Entry) (s : State) (t : Task) → state_of b n m inputs es ≡ s → find_id t.id.0 (map machine_row es) ≡ None → verdict_of s t ≡ Gone
 answer_none b n m inputs es s t y x = ap (λ (z : State). verdict_of z t) (sym y) ∙ ap (λ o. verdict_on (state_of b n m inputs es) o t) x
@@ -60,7 +35,7 @@ kept_verdict Repeated h = absurd (let x : false ≡ true = h in cc)
 kept_verdict Foreign h = absurd (let x : false ≡ true = h in cc)
 kept_verdict Kept h = refl
 
-pub state_kept : (b : Board) (n m : ℕ) (inputs : Inputs) (es : List Entry) (s : State) (k : ℕ) (e : Entry) (t : Task) (v : Verdict) → state_of b n m inputs es ≡ s → find_id t.id.0 (map machine_row es) ≡ Some (k, machine_row e) → v ≡ verdict_among inputs es k e t → is_kept v ≡ true → state_of b n m inputs (set es k (with_data (kept_data t) e)) ≡ after_keep s t
+pub state_kept : (b : Board) (n m : ℕ) (inputs : Inputs) (es : List Entry) (s : State) (k : ℕ) (e : Entry) (t : Task) (v : Verdict) → state_of b n m inputs es ≡ s → find_id t.id.0 (map machine_row es) ≡ Some (k, machine_row e) → v ≡ verdict_at (seen inputs es) (k, machine_row e) t → is_kept v ≡ true → state_of b n m inputs (set es k (with_data (kept_data t) e)) ≡ after_keep s t
 state_kept b n m inputs es s k e t v y x z h = sym (
     ap (λ (z : State). after_keep z t) (sym y)
     ∙ ap (λ o. kept_on (state_of b n m inputs es) (verdict_of (state_of b n m inputs es) t) o (work_of t)) x
@@ -75,7 +50,7 @@ pub found_none : (i j : ℕ) (rows : List Entry) → j ≡ i → None ≡ place_
 found_none i j rows same none = none_of (λ e. e.0) (find_id i (map machine_row rows)) (none ∙ ap (place_of rows) same ∙ sym (find_is i rows))
 
 -- what is kept, with the pass behind it, is what a bring leaves
-pub bring_kept : (b : Board) (n m : ℕ) (inputs : Inputs) (es : List Entry) (s : State) (k : ℕ) (e : Entry) (t : Task) (v : Verdict) → state_of b n m inputs es ≡ s → find_id t.id.0 (map machine_row es) ≡ Some (k, machine_row e) → v ≡ verdict_among inputs es k e t → is_kept v ≡ true → cut_off (after_keep s t) ≡ after_bring s t
+pub bring_kept : (b : Board) (n m : ℕ) (inputs : Inputs) (es : List Entry) (s : State) (k : ℕ) (e : Entry) (t : Task) (v : Verdict) → state_of b n m inputs es ≡ s → find_id t.id.0 (map machine_row es) ≡ Some (k, machine_row e) → v ≡ verdict_at (seen inputs es) (k, machine_row e) t → is_kept v ≡ true → cut_off (after_keep s t) ≡ after_bring s t
 bring_kept b n m inputs es s k e t v y x z h =
     let kept : verdict_of s t ≡ Kept = answer_found b n m inputs es s k e t y x ∙ sym z ∙ kept_verdict v h in
     let found : find_row s t.id ≡ Some (k, machine_row e) = ap (λ (u : State). find_row u t.id) (sym y) ∙ x in
@@ -92,7 +67,7 @@ bring_other s Kept o w h = absurd (let x : true ≡ false = h in cc)
 pub brought_none : (b : Board) (n m : ℕ) (inputs : Inputs) (es : List Entry) (s : State) (t : Task) → state_of b n m inputs es ≡ s → find_id t.id.0 (map machine_row es) ≡ None → s ≡ after_bring s t
 brought_none b n m inputs es s t y x = sym (bring_other s (verdict_of s t) (find_row s t.id) (work_of t) (ap is_kept (answer_none b n m inputs es s t y x)))
 
-pub brought_same : (b : Board) (n m : ℕ) (inputs : Inputs) (es : List Entry) (s : State) (k : ℕ) (e : Entry) (t : Task) (v : Verdict) → state_of b n m inputs es ≡ s → find_id t.id.0 (map machine_row es) ≡ Some (k, machine_row e) → v ≡ verdict_among inputs es k e t → is_kept v ≡ false → s ≡ after_bring s t
+pub brought_same : (b : Board) (n m : ℕ) (inputs : Inputs) (es : List Entry) (s : State) (k : ℕ) (e : Entry) (t : Task) (v : Verdict) → state_of b n m inputs es ≡ s → find_id t.id.0 (map machine_row es) ≡ Some (k, machine_row e) → v ≡ verdict_at (seen inputs es) (k, machine_row e) t → is_kept v ≡ false → s ≡ after_bring s t
 brought_same b n m inputs es s k e t v y x z h = sym (bring_other s (verdict_of s t) (find_row s t.id) (work_of t) (ap is_kept (answer_found b n m inputs es s k e t y x ∙ sym z) ∙ h))
 
 -- a row was settled of a state at rest

@@ -16,7 +16,7 @@ use Rattle.paris_program.specs.Program.{place_of}
 use Rattle.paris_book.specs.Entries.{Entry, machine_row}
 use Rattle.paris_book.proofs.Entering.{find_is}
 use Rattle.paris_machine.specs.declared.inputs.Input.{Input}
-use Rattle.paris_book.specs.Among.{look_among}
+use Rattle.paris_book.specs.Among.{shown_at}
 use Rattle.std.specs.Prelude.{position, nat_le, nat_lt, ◌^◌}
 use Rattle.std.proofs.lemmas.Bool.Decides.{nat_tests}
 use Rattle.std.proofs.lemmas.List.{length-drop, length-take-le}
@@ -37,7 +37,7 @@ use Rattle.paris_machine.specs.Show.{show_reply, show_key}
 use Rattle.paris_machine.specs.Edits.{edited, fault_of_values, input_fault, known_rows}
 use Rattle.paris_machine.specs.Settling.{unsettled_rows}
 use Rattle.paris_book.proofs.Inserts.{state_of}
-use Rattle.paris_book.proofs.Shows.{show_is}
+use Rattle.paris_book.proofs.Shows.{show_is, look_seen}
 
 -- a plan that fits the board fits the input data
 pub fitted_plan : (b : Board) (inputs : Inputs) (p : Plan) → Shaped b inputs → IsFittedTo b p → Fitted inputs p
@@ -69,10 +69,10 @@ spot_none (Ok place) spot row is h = tt
 spot_none (Err fault) spot row is h = (h.0, is ∙ ap (option_map (λ k. k + 1)) h.1)
 
 pub shown_is : (b : Board) (n m : ℕ) (inputs : Inputs) (es : List Entry) (s : State) (name : KeyName) (spot : Spot) (k : Key) (place : ℕ) (look : AnyShown)
-    → state_of b n m inputs es ≡ s → Shaped b inputs → is_declared b k ≡ true → Ok k ≡ ok_or (key_named b name) NoField → place_of_spot s spot ≡ Some place → look ≡ look_among inputs es place k
+    → state_of b n m inputs es ≡ s → Shaped b inputs → is_declared b k ≡ true → Ok k ≡ ok_or (key_named b name) NoField → place_of_spot s spot ≡ Some place → look ≡ shown_at inputs es place k
     → Ok look ≡ show_reply s name spot
 shown_is b n m inputs es s name spot k place look y shaped known named at is =
-    ap Ok (is ∙ sym (show_is b n m inputs es k place shaped known) ∙ ap (λ (z : State). show_at z place k) y)
+    ap Ok (is ∙ look_seen inputs es k place ∙ sym (show_is b n m inputs es k place shaped known) ∙ ap (λ (z : State). show_at z place k) y)
     ∙ ap (show_from s k) (sym at)
     ∙ ap (show_key s spot) (sym (found_named (key_named b name) k NoField named))
     ∙ ap (λ (z : State). show_key s spot (key_named z.board name)) y

@@ -2,13 +2,11 @@
 use Rattle.std.proofs.Common.{◌≡◌, ℕ, ◌+◌, ◌<◌, ◌≤◌, ◌⊎◌, inl, inr, List, [], ◌∷◌, Bool, true, false, cond, Option, Some, None, refl, sym, ap, ◌∙◌, subst, arith, length, take, zero, suc, set, slice_get}
 use Rattle.std.proofs.lemmas.List.{map-set, length-set}
 use Rattle.std.specs.Prelude.{◌&&◌, not}
-use Rattle.std.specs.Option.{option_map}
 use Rattle.paris_board.specs.Board.{Board}
-use Rattle.paris_exec.specs.Tasks.{Task}
 use Rattle.paris_model.specs.Frame.{World}
 use Rattle.paris_events.specs.Rows.{is_settled}
 use Rattle.paris_events.specs.declared.rows.Status.TheVariants.{Settled}
-use Rattle.paris_machine.specs.State.{Row, Inputs, State, start_world, with_status, work_of}
+use Rattle.paris_machine.specs.State.{Row, Inputs, State, start_world, with_status}
 use Rattle.paris_machine.specs.CutOff.{is_cut, is_last_present, cut_found, cut_at, cut_to, cut_off}
 use Rattle.paris_machine.specs.Settling.{settled_row}
 use Rattle.paris_machine.proofs.Passes.{is_cut_in, from_start, world_at}
@@ -17,9 +15,7 @@ use Rattle.paris_machine.proofs.Anywhere.{cut_early}
 use Rattle.paris_machine.proofs.Ends.{world_is}
 use Rattle.paris_book.specs.Statuses.{next_unsettled}
 use Rattle.paris_book.specs.Marks.{again_data}
-use Rattle.paris_book.specs.Entries.{Entry, machine_row, with_data}
-use Rattle.paris_book.specs.Verdicts.{last_among, cut_among}
-use Rattle.paris_book.proofs.Brings.{present_is}
+use Rattle.paris_book.specs.Entries.{Entry, machine_row, with_data, seen}
 use Rattle.paris_book.specs.Steps.{cuts_on, cuts_at}
 use Rattle.paris_book.proofs.Finds.{entry_at, row_at}
 use Rattle.paris_book.proofs.Firmer.{set_cases}
@@ -27,32 +23,25 @@ use Rattle.paris_book.proofs.InOrder.{get_set}
 use Rattle.paris_book.proofs.Inserts.{state_of}
 use Rattle.paris_book.proofs.Searches.{passed_over, none_beyond}
 
--- ---- by the entries
-
-cut_is : (b : Board) (n m : ℕ) (inputs : Inputs) (es : List Entry) (place : ℕ) (e : Entry) → is_cut (state_of b n m inputs es) place (machine_row e) ≡ cut_among inputs es place e
-cut_is b n m inputs es place e = ap (λ x. not (is_settled e.1.status) && x) (by_done e.1.done)
-  where
-    by_done : (o : Option Task) → is_last_present (state_of b n m inputs es) place (machine_row e) (option_map work_of o) ≡ last_among inputs es place e o
-    by_done None = refl
-    by_done (Some t) = present_is b n m inputs es place e t
+-- ---- the row at a place
 
 module _ (b : Board) (n m : ℕ) (inputs : Inputs) (es : List Entry) (s : State) (place : ℕ) (e : Entry) (y : state_of b n m inputs es ≡ s) (at : slice_get es place ≡ Some e) where
   -- the row at the place, and whether it is cut off
-  pub row_cut : (slice_get s.rows place ≡ Some (machine_row e)) × (is_cut s place (machine_row e) ≡ cut_among inputs es place e)
-  row_cut = subst (λ (z : State). (slice_get z.rows place ≡ Some (machine_row e)) × (is_cut z place (machine_row e) ≡ cut_among inputs es place e)) y (row_at es place e at, cut_is b n m inputs es place e)
+  pub row_cut : (slice_get s.rows place ≡ Some (machine_row e)) × (is_cut s place (machine_row e) ≡ is_cut (seen inputs es) place (machine_row e))
+  row_cut = subst (λ (z : State). (slice_get z.rows place ≡ Some (machine_row e)) × (is_cut z place (machine_row e) ≡ is_cut (seen inputs es) place (machine_row e))) y (row_at es place e at, refl)
 
-  pub cut_state : cut_among inputs es place e ≡ true → state_of b n m inputs (set es place (with_data again_data e)) ≡ cut_at s place
+  pub cut_state : is_cut (seen inputs es) place (machine_row e) ≡ true → state_of b n m inputs (set es place (with_data again_data e)) ≡ cut_at s place
   cut_state h =
       ap (λ (rs : List Row). record { board = b; edits = n; inputs = inputs; next = m; rows = rs }) (map-set machine_row es place (with_data again_data e))
       ∙ ap (λ (z : State). with_status z (place, machine_row e) Settled) y
       ∙ ap (λ c. cond c (with_status s (place, machine_row e) Settled) s) (sym (row_cut.1 ∙ h))
       ∙ ap (cut_found s place) (sym row_cut.0)
 
-  pub uncut_state : cut_among inputs es place e ≡ false → s ≡ cut_at s place
+  pub uncut_state : is_cut (seen inputs es) place (machine_row e) ≡ false → s ≡ cut_at s place
   uncut_state h = ap (λ c. cond c (with_status s (place, machine_row e) Settled) s) (sym (row_cut.1 ∙ h)) ∙ ap (cut_found s place) (sym row_cut.0)
 
 -- the entry at a place, and whether it is cut off
-pub cut_here : (b : Board) (n m : ℕ) (inputs : Inputs) (es : List Entry) (s : State) (place : ℕ) → state_of b n m inputs es ≡ s → place < length es → (e : Entry) × (slice_get es place ≡ Some e) × (cut_among inputs es place e ≡ cuts_at s place)
+pub cut_here : (b : Board) (n m : ℕ) (inputs : Inputs) (es : List Entry) (s : State) (place : ℕ) → state_of b n m inputs es ≡ s → place < length es → (e : Entry) × (slice_get es place ≡ Some e) × (is_cut (seen inputs es) place (machine_row e) ≡ cuts_at s place)
 cut_here b n m inputs es s place y within =
     let e = entry_at es place within in
     let row = row_cut b n m inputs es s place e.0 y e.1 in

@@ -10,7 +10,7 @@ use Rattle.paris_program.proofs.CallerLemmas.{place_of-first}
 use Rattle.paris_depends.proofs.OriginLemmas.{origin-found}
 use Rattle.paris_machine.specs.State.{Row, find_id}
 use Rattle.paris_book.specs.Entries.{Entry, with_data, machine_row}
-use Rattle.paris_book.specs.Among.{origin_among}
+use Rattle.paris_book.proofs.Among.{origin_among}
 use Rattle.paris_book.specs.Marks.{data_plan}
 use Rattle.paris_book.specs.Rows.{RowData}
 use Rattle.paris_machine.proofs.Finds.{none_of}

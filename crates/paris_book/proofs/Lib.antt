@@ -1,4 +1,5 @@
 pub mod Advancing
+pub mod Among
 pub mod Brings
 pub mod Calls
 pub mod Cutting

@@ -1,50 +1,45 @@
 -- The order that a row would give now, by the entries, and what keeping its result leaves of a book.
 use Rattle.std.proofs.Common.{◌≡◌, ℕ, List, Bool, true, false, cond, Option, Some, None, refl, sym, ap, ◌∙◌, map, set, slice_get}
-use Rattle.std.proofs.Math.Path.{ap₂, fun_ext}
+use Rattle.std.proofs.Math.Path.{ap₂}
 use Rattle.std.proofs.lemmas.List.{map-set}
 use Rattle.std.proofs.lemmas.Option.{slice_get-map}
 use Rattle.std.specs.Prelude.{◌&&◌, not}
 use Rattle.std.specs.Option.{option_map, unwrap_or}
 use Rattle.std.specs.List.{list_all}
 use Rattle.std.specs.Cmp.Lexicographic.{pointwise}
-use Rattle.paris_names.specs.declared.keys.Key.{Key}
 use Rattle.paris_board.specs.Board.{Board}
 use Rattle.paris_model.specs.Frame.{World}
 use Rattle.paris_model.specs.Instructions.{reads}
 use Rattle.paris_instr.specs.PlanEq.{plan_eq}
 use Rattle.paris_field.specs.Fields.{FieldNumbers, field_eq}
-use Rattle.paris_exec.specs.Tasks.{Task, field_of}
+use Rattle.paris_exec.specs.Tasks.{Task}
 use Rattle.paris_events.specs.Rows.{is_settled}
 use Rattle.paris_events.specs.declared.rows.Status.TheVariants.{Settled}
 use Rattle.paris_machine.specs.State.{Row, Inputs, State, Work, work_of}
 use Rattle.paris_machine.specs.Show.{now}
 use Rattle.paris_machine.specs.Settling.{work_in}
 use Rattle.paris_book.specs.Marks.{kept_data}
-use Rattle.paris_book.specs.Entries.{Entry, id_of, machine_row, with_data}
-use Rattle.paris_book.specs.Among.{firm_among, inputs_among, order_among, own_among}
-use Rattle.paris_book.specs.Verdicts.{last_among, last_by, cut_among, cut_by}
+use Rattle.paris_book.specs.Entries.{Entry, machine_row, with_data, seen}
+use Rattle.paris_book.proofs.Among.{firm_among, inputs_among, order_among}
+use Rattle.paris_book.specs.Verdicts.{last_by, cut_by}
 use Rattle.paris_book.specs.Steps.{cuts_on, cuts_at, order_on, own_order, run_on, run_at}
 use Rattle.paris_book.specs.Whole.{IsWhole}
 use Rattle.paris_book.proofs.Cutting.{row_cut}
 use Rattle.paris_book.proofs.Finds.{row_at}
 use Rattle.paris_book.proofs.Inserts.{state_of}
 use Rattle.paris_book.proofs.Settling.{kept_whole}
-use Rattle.paris_book.proofs.Shows.{now_is, firm_is}
+use Rattle.paris_book.proofs.Shows.{now_is, present_seen}
+use Rattle.paris_book.proofs.Takes.{own_seen}
+use Rattle.paris_machine.specs.CutOff.{is_cut, is_last_present}
 
 -- what a choice gave tells how it was made
 pub cond_some : {X : Type 0} (b : Bool) (x y : X) → Some x ≡ cond b (Some y) None → (b ≡ true) × (x ≡ y)
 cond_some true x y h = (refl, cc)
 cond_some false x y h = absurd (cc)
 
-own_is : (b : Board) (n m : ℕ) (inputs : Inputs) (es : List Entry) (place : ℕ) (e : Entry) → slice_get es place ≡ Some e → own_order (state_of b n m inputs es) place ≡ own_among inputs es place e
-own_is b n m inputs es place e at =
-    ap (order_on (state_of b n m inputs es) place) (row_at es place e at)
-    ∙ ap₂ (λ (q : Key → Bool) (w : World). cond (list_all q (reads e.1.plan)) (Some (record { id = id_of e; edition = e.1.edition; plan = e.1.plan; inputs = map (λ k. field_of e.1.plan k (w k)) (reads e.1.plan) })) None)
-    (fun_ext (λ k. firm_is b n m inputs es k place)) (now_is b n m inputs es place)
-
 module _ (b : Board) (n m : ℕ) (inputs : Inputs) (es : List Entry) (s : State) (place : ℕ) (y : state_of b n m inputs es ≡ s) where
-  pub own_at : (e : Entry) → slice_get es place ≡ Some e → own_among inputs es place e ≡ own_order s place
-  own_at e at = sym (own_is b n m inputs es place e at) ∙ ap (λ (z : State). own_order z place) y
+  pub own_at : (e : Entry) → slice_get es place ≡ Some e → order_on (seen inputs es) place (Some (machine_row e)) ≡ own_order s place
+  own_at e at = ap (order_on (seen inputs es) place) (sym (row_at es place e at)) ∙ ap (λ (z : State). own_order z place) y
 
   module _ (t : Task) (own : own_order s place ≡ Some t) where
     -- the entry that gives an order
@@ -57,7 +52,7 @@ module _ (b : Board) (n m : ℕ) (inputs : Inputs) (es : List Entry) (s : State)
             let wrong : Some t ≡ nothing = sym own ∙ ap (λ (z : State). own_order z place) (sym y) ∙ ap (order_on (state_of b n m inputs es) place) (slice_get-map machine_row es place ∙ ap (option_map machine_row) at) in
             absurd (cc)
         by_entry (Some e) at =
-            let given = cond_some (list_all (firm_among es place) (reads e.1.plan)) t (order_among inputs es place e) (sym own ∙ sym (own_at e at)) in
+            let given = cond_some (list_all (firm_among es place) (reads e.1.plan)) t (order_among inputs es place e) (sym own ∙ sym (own_at e at) ∙ own_seen inputs es place e) in
             (e, at, given.0, given.1)
 
     -- the plan of the row at the place is that of its order
@@ -67,7 +62,7 @@ module _ (b : Board) (n m : ℕ) (inputs : Inputs) (es : List Entry) (s : State)
         ap (λ (o : Option Entry). (unwrap_or o e).1.plan) (sym at ∙ found.1) ∙ ap (λ (z : Task). z.plan) (sym found.3)
 
     -- whether it is cut off is seen by the values in the order
-    pub cut_by_own : (e : Entry) → slice_get es place ≡ Some e → cut_by t.inputs e ≡ cut_among inputs es place e
+    pub cut_by_own : (e : Entry) → slice_get es place ≡ Some e → cut_by t.inputs e ≡ is_cut (seen inputs es) place (machine_row e)
     cut_by_own e at = ap (λ b. not (is_settled e.1.status) && b) (by_done e.1.done)
       where
         found : (f : Entry) × (slice_get es place ≡ Some f) × (list_all (firm_among es place) (reads f.1.plan) ≡ true) × (t ≡ order_among inputs es place f)
@@ -82,9 +77,11 @@ module _ (b : Board) (n m : ℕ) (inputs : Inputs) (es : List Entry) (s : State)
         values : t.inputs ≡ inputs_among inputs es place e.1.plan
         values = ap (λ (u : Task). u.inputs) found.3 ∙ ap (λ (z : Entry). inputs_among inputs es place z.1.plan) same
 
-        by_done : (o : Option Task) → last_by t.inputs e o ≡ last_among inputs es place e o
+        by_done : (o : Option Task) → last_by t.inputs e o ≡ is_last_present (seen inputs es) place (machine_row e) (option_map work_of o)
         by_done None = refl
-        by_done (Some d) = ap₂ (λ (f : Bool) (v : List FieldNumbers). plan_eq e.1.plan d.plan && (f && pointwise field_eq v d.inputs)) (sym firm) values
+        by_done (Some d) =
+            ap₂ (λ (f : Bool) (v : List FieldNumbers). plan_eq e.1.plan d.plan && (f && pointwise field_eq v d.inputs)) (sym firm) values
+            ∙ sym (present_seen inputs es place e d)
 
     pub cuts_here : (c : Bool) (e : Entry) → slice_get es place ≡ Some e → c ≡ cut_by t.inputs e → c ≡ cuts_at s place
     cuts_here c e at is = is ∙ cut_by_own e at ∙ (let row = row_cut b n m inputs es s place e y at in sym row.1 ∙ ap (cuts_on s place) (sym row.0))

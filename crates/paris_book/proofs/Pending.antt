@@ -15,7 +15,7 @@ use Rattle.paris_depends.proofs.OriginLemmas.{origin-push}
 use Rattle.paris_events.specs.Rows.{is_settled, is_waiting}
 use Rattle.paris_machine.specs.Orders.{is_firm}
 use Rattle.paris_book.specs.Entries.{Entry, entry_plan, machine_row}
-use Rattle.paris_book.specs.Among.{firm_among, ready_among, next_among}
+use Rattle.paris_book.proofs.Among.{firm_among, ready_among, next_among}
 use Rattle.paris_machine.proofs.Runs.{are_settled, none_ready}
 use Rattle.paris_machine.proofs.Tests.{and_first, and_second}
 

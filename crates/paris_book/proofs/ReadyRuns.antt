@@ -15,8 +15,7 @@ use Rattle.paris_machine.specs.Settling.{run_row, brought_back, after_run}
 use Rattle.paris_machine.proofs.Rests.{take_stays, bring_stays}
 use Rattle.paris_machine.proofs.Runs.{ready_run_is}
 use Rattle.paris_machine.proofs.Tests.{and_second}
-use Rattle.paris_book.specs.Entries.{Entry, machine_row}
-use Rattle.paris_book.specs.Among.{next_among}
+use Rattle.paris_book.specs.Entries.{Entry, machine_row, rows_seen}
 use Rattle.paris_book.specs.Steps.{WasSettled, order_on, own_order, run_on, run_at}
 use Rattle.paris_book.proofs.Finds.{found_passes, row_at}
 use Rattle.paris_book.proofs.Inserts.{state_of}
@@ -65,13 +64,13 @@ run_stays s rests = by_order (take_reply s)
 
 module _ (b : Board) (n m : ℕ) (inputs : Inputs) (es : List Entry) (s : State) (y : state_of b n m inputs es ≡ s) where
   -- the row that a search found
-  pub ready_at : (k : ℕ) → Some k ≡ option_map (λ e. e.0) (next_among es) → (r : Row) × (next_ready s ≡ Some (k, r)) × (slice_get s.rows k ≡ Some r)
+  pub ready_at : (k : ℕ) → Some k ≡ option_map (λ e. e.0) (next_ready (rows_seen es)) → (r : Row) × (next_ready s ≡ Some (k, r)) × (slice_get s.rows k ≡ Some r)
   ready_at k found =
       let e = next_found es k found in
       (machine_row e.0, ap next_ready (sym y) ∙ next_is b n m inputs es ∙ e.1, ap (λ (z : State). slice_get z.rows k) (sym y) ∙ row_at es k e.0 e.2)
 
-  pub none_ready_at : None ≡ option_map (λ e. e.0) (next_among es) → next_ready s ≡ None
-  none_ready_at none = ap next_ready (sym y) ∙ next_is b n m inputs es ∙ by_found (next_among es) none
+  pub none_ready_at : None ≡ option_map (λ e. e.0) (next_ready (rows_seen es)) → next_ready s ≡ None
+  none_ready_at none = ap next_ready (sym y) ∙ by_found (next_ready (rows_seen es)) none
     where
       by_found : (o : Option (ℕ × Row)) → None ≡ option_map (λ e. e.0) o → o ≡ None
       by_found None e = refl

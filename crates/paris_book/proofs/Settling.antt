@@ -17,20 +17,22 @@ use Rattle.paris_field.specs.Fields.{FieldNumbers, field_eq}
 use Rattle.paris_exec.specs.Tasks.{Task, numbers_of, field_of}
 use Rattle.paris_events.specs.Rows.{is_settled}
 use Rattle.paris_events.specs.declared.rows.Status.TheVariants.{Settled}
-use Rattle.paris_machine.specs.State.{Inputs, start_world}
+use Rattle.paris_machine.specs.State.{Inputs, start_world, work_of}
 use Rattle.paris_machine.specs.Orders.{is_firm}
 use Rattle.paris_book.specs.Marks.{out_data, kept_data, again_data}
 use Rattle.paris_book.specs.Kept.{ripen, Sound, present}
 use Rattle.paris_program.specs.Program.{ids_of}
 use Rattle.paris_book.specs.Whole.{RowsBelow, Fitted, AllFitted, IsWhole}
-use Rattle.paris_book.specs.Entries.{Entry, entry_plan, machine_row, with_data}
+use Rattle.paris_book.specs.Entries.{Entry, entry_plan, machine_row, with_data, seen}
 use Rattle.paris_events.specs.declared.verdicts.Verdict.TheVariants.{Stale, Repeated, Foreign, Kept}
-use Rattle.paris_book.specs.Among.{origin_among, firm_among, inputs_among}
+use Rattle.paris_book.proofs.Among.{origin_among, firm_among, inputs_among, present_among}
 use Rattle.std.proofs.lemmas.Slice.Eq.{bytes_eq-Decides}
 use Rattle.paris_book.proofs.Origins.{ripe, ripe_is, is_firm_or}
 use Rattle.paris_book.proofs.Inserts.{right_unsettled}
-use Rattle.paris_book.specs.Verdicts.{present_among, last_among, cut_among, verdict_among}
 use Rattle.paris_machine.proofs.Tests.{and_first, and_second, all_more}
+use Rattle.paris_book.proofs.Shows.{present_seen}
+use Rattle.paris_machine.specs.CutOff.{is_present, is_cut, is_last_present}
+use Rattle.paris_machine.specs.Results.{verdict_at}
 
 ripen_more : (h h' : Key → Bool) (e : Entry) → ((f : Key) → h f ≡ true → h' f ≡ true) → (f : Key) → ripen h e f ≡ true → ripen h' e f ≡ true
 unfolding ripen
@@ -142,8 +144,9 @@ firm_ripe es place (k ∷ ks) h =
     by_origin None t = refl
     by_origin (Some e) t = t
 
-kept_means : (inputs : Inputs) (es : List Entry) (place : ℕ) (e : Entry) (t : Task) → verdict_among inputs es place e t ≡ Kept → present_among inputs es place e t ≡ true
-kept_means inputs es place e t h = go (eqb e.1.edition.0 t.edition.0) (is_settled e.1.status) (present_among inputs es place e t) h
+kept_means : (inputs : Inputs) (es : List Entry) (place : ℕ) (e : Entry) (t : Task) → verdict_at (seen inputs es) (place, machine_row e) t ≡ Kept → present_among inputs es place e t ≡ true
+kept_means inputs es place e t h =
+    sym (present_seen inputs es place e t) ∙ go (eqb e.1.edition.0 t.edition.0) (is_settled e.1.status) (is_present (seen inputs es) place (machine_row e) (work_of t)) h
   where
     go : (a b c : Bool) → cond a (cond b Repeated (cond c Kept Foreign)) (Stale e.1.edition) ≡ Kept → c ≡ true
     go a b true x = refl
@@ -167,7 +170,7 @@ kept_whole b n m inputs es k e t x firm values p w = record {
   sound = sound_kept (start_world inputs) (λ _. true) es k e t x (sym p) (firm_ripe es k (reads e.1.plan) firm) (ap numbers_of (sym values) ∙ numbers_among inputs es k e.1.plan (reads e.1.plan)) w.sound;
 }
 
-pub bring_whole : (b : Board) (n m : ℕ) (inputs : Inputs) (es : List Entry) (k : ℕ) (e : Entry) (t : Task) → slice_get es k ≡ Some e → verdict_among inputs es k e t ≡ Kept → e.1.plan ≡ t.plan → IsWhole b n m inputs es → IsWhole b n m inputs (set es k (with_data (kept_data t) e))
+pub bring_whole : (b : Board) (n m : ℕ) (inputs : Inputs) (es : List Entry) (k : ℕ) (e : Entry) (t : Task) → slice_get es k ≡ Some e → verdict_at (seen inputs es) (k, machine_row e) t ≡ Kept → e.1.plan ≡ t.plan → IsWhole b n m inputs es → IsWhole b n m inputs (set es k (with_data (kept_data t) e))
 bring_whole b n m inputs es k e t x v p w =
     let rest = and_second (plan_eq e.1.plan t.plan) _ (kept_means inputs es k e t v) in
     let firm : list_all (firm_among es k) (reads e.1.plan) ≡ true = and_first (list_all (firm_among es k) (reads e.1.plan)) (pointwise field_eq (inputs_among inputs es k e.1.plan) t.inputs) rest in
@@ -175,14 +178,14 @@ bring_whole b n m inputs es k e t x v p w =
     kept_whole b n m inputs es k e t x firm values p w
 
 -- a row that is cut off is settled by the result that it keeps, which is of its own plan on the present values
-pub again_whole : (b : Board) (n m : ℕ) (inputs : Inputs) (es : List Entry) (k : ℕ) (e : Entry) → slice_get es k ≡ Some e → cut_among inputs es k e ≡ true → ((d : Task) → e.1.done ≡ Some d → e.1.plan ≡ d.plan) → IsWhole b n m inputs es
+pub again_whole : (b : Board) (n m : ℕ) (inputs : Inputs) (es : List Entry) (k : ℕ) (e : Entry) → slice_get es k ≡ Some e → is_cut (seen inputs es) k (machine_row e) ≡ true → ((d : Task) → e.1.done ≡ Some d → e.1.plan ≡ d.plan) → IsWhole b n m inputs es
     → IsWhole b n m inputs (set es k (with_data again_data e))
-again_whole b n m inputs es k e x cut same_plan w = by_done e.1.done refl (and_second (not (is_settled e.1.status)) (last_among inputs es k e e.1.done) cut)
+again_whole b n m inputs es k e x cut same_plan w = by_done e.1.done refl (and_second (not (is_settled e.1.status)) (is_last_present (seen inputs es) k (machine_row e) (option_map work_of e.1.done)) cut)
   where
-    by_done : (o : Option Task) → e.1.done ≡ o → last_among inputs es k e o ≡ true → IsWhole b n m inputs (set es k (with_data again_data e))
+    by_done : (o : Option Task) → e.1.done ≡ o → is_last_present (seen inputs es) k (machine_row e) (option_map work_of o) ≡ true → IsWhole b n m inputs (set es k (with_data again_data e))
     by_done None h t = absurd (let z : false ≡ true = t in cc)
     by_done (Some d) h t =
-        let rest = and_second (plan_eq e.1.plan d.plan) _ t in
+        let rest = and_second (plan_eq e.1.plan d.plan) _ (sym (present_seen inputs es k e d) ∙ t) in
         let firm : list_all (firm_among es k) (reads e.1.plan) ≡ true = and_first (list_all (firm_among es k) (reads e.1.plan)) (pointwise field_eq (inputs_among inputs es k e.1.plan) d.inputs) rest in
         let values : inputs_among inputs es k e.1.plan ≡ d.inputs = same_values (inputs_among inputs es k e.1.plan) d.inputs (and_second (list_all (firm_among es k) (reads e.1.plan)) (pointwise field_eq (inputs_among inputs es k e.1.plan) d.inputs) rest) in
         let plan : e.1.plan ≡ d.plan = same_plan d h in

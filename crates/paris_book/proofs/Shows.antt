@@ -1,6 +1,6 @@
 -- What is shown of a key, by the origin among the entries.
 use Rattle.std.proofs.Common.{◌≡◌, ℕ, ◌<◌, ◌+◌, List, [], ◌∷◌, ◌++◌, Bool, true, false, cond, Option, Some, None, refl, sym, ap, ◌∙◌, subst, arith, map, length, take, zero, suc, get_or, slice_get}
-use Rattle.std.proofs.Math.Path.{ap₂}
+use Rattle.std.proofs.Math.Path.{ap₂, fun_ext}
 use Rattle.std.proofs.lemmas.Bool.{eq-eqb}
 use Rattle.std.proofs.lemmas.List.{take-map, map-append, take_more}
 use Rattle.std.proofs.lemmas.List.Folds.{list_all-append}
@@ -10,29 +10,35 @@ use Rattle.std.specs.List.{list_all}
 use Rattle.paris_names.specs.declared.keys.Key.{Key}
 use Rattle.paris_names.specs.declared.ids.RowId.{RowId}
 use Rattle.paris_names.specs.Keys.{has_key, key_eq}
+use Rattle.paris_names.specs.declared.profiles.Profile.TheVariants.{One}
 use Rattle.paris_names.proofs.KeyLists.{key_eq-is}
 use Rattle.paris_geometry.specs.Geometry.{processor_count}
-use Rattle.paris_board.specs.Board.{Board, is_declared, width_of, count_of}
+use Rattle.paris_board.specs.Board.{Board, empty_board, is_declared, width_of, count_of}
 use Rattle.paris_model.specs.Instructions.{Plan, reads, writes, given, key_width}
+use Rattle.paris_model.specs.Frame.{World}
 use Rattle.paris_model.specs.Run.{run}
 use Rattle.paris_model.specs.Recipe.{origin, same}
-use Rattle.paris_field.specs.Fields.{FieldNumbers}
+use Rattle.paris_field.specs.Fields.{FieldNumbers, field_eq}
 use Rattle.paris_exec.specs.Tasks.{Task, numbers_of, field_of, fits_key, fits_keys, task_value}
 use Rattle.paris_events.specs.Rows.{is_settled}
-use Rattle.paris_machine.specs.State.{Row, Inputs, input_of, numbers_in, start_world, row_plan}
+use Rattle.paris_machine.specs.State.{Row, Inputs, input_of, numbers_in, start_world, row_plan, work_of}
 use Rattle.paris_machine.specs.Show.{now, origin_at, shown_of, show_at}
-use Rattle.paris_machine.specs.Orders.{is_firm}
+use Rattle.paris_machine.specs.Orders.{is_firm, inputs_now}
 use Rattle.paris_book.specs.Kept.{last_kept, Sound, present}
 use Rattle.paris_book.specs.Whole.{shape_on, input_shape, shape_in, Shaped, Fitted, AllFitted}
-use Rattle.paris_book.specs.Entries.{Entry, id_of, entry_plan, machine_row}
+use Rattle.paris_book.specs.Entries.{Entry, id_of, entry_plan, machine_row, seen, rows_seen}
 use Rattle.paris_machine.specs.declared.inputs.Input.{Input}
 use Rattle.paris_machine.specs.declared.events.Shown.TheVariants.{Settled as ShownSettled, Pending}
-use Rattle.paris_book.specs.Among.{origin_among, width_in_shape, value_among, look_among, shared_shown, LookFits, firm_among}
+use Rattle.paris_book.specs.Among.{width_in_shape, shared_shown, LookFits, shown_at}
+use Rattle.paris_book.proofs.Among.{origin_among, value_among, look_among, firm_among, inputs_among, present_among}
 use Rattle.paris_book.proofs.Origins.{origin-map, sound-take, Tells, origin_tells}
 use Rattle.paris_book.specs.Verdicts.{KeptFor, LooksAt}
 use Rattle.paris_book.specs.declared.look.SharedLook.{SharedLook}
 use Rattle.paris_book.specs.declared.look.SharedLook.TheVariants.{Settled as LookSettled, Pending as LookPending}
 use Rattle.paris_book.proofs.Inserts.{state_of}
+use Rattle.std.specs.Cmp.Lexicographic.{pointwise}
+use Rattle.paris_instr.specs.PlanEq.{plan_eq}
+use Rattle.paris_machine.specs.CutOff.{is_present}
 
 pub map-row : (es : List Entry) → map row_plan (map machine_row es) ≡ map entry_plan es
 map-row [] = refl
@@ -59,6 +65,28 @@ show_is b n m inputs es k place shaped d =
 
 pub firm_is : (b : Board) (n m : ℕ) (inputs : Inputs) (es : List Entry) (k : Key) (place : ℕ) → is_firm (origin_at (state_of b n m inputs es) place k) ≡ firm_among es place k
 firm_is b n m inputs es k place = ap is_firm (origin_seen es place k)
+
+-- ---- what the machine sees of them
+
+pub look_seen : (inputs : Inputs) (es : List Entry) (k : Key) (place : ℕ) → shown_at inputs es place k ≡ look_among inputs es place k
+look_seen inputs es k place =
+    ap₂ (λ (o : Option Row) (v : FieldNumbers). shown_of o v) (origin_seen es place k)
+    (λ i. record { width = width_in_shape (shape_in inputs k); numbers = now_is (empty_board One) 0 1 inputs es place i k })
+
+pub firm_seen : (es : List Entry) (place : ℕ) (k : Key) → is_firm (origin_at (rows_seen es) place k) ≡ firm_among es place k
+firm_seen es place k = ap is_firm (origin_seen es place k)
+
+pub all_firm_seen : (es : List Entry) (place : ℕ) (ks : List Key) → list_all (λ k. is_firm (origin_at (rows_seen es) place k)) ks ≡ list_all (firm_among es place) ks
+all_firm_seen es place ks = ap (λ (q : Key → Bool). list_all q ks) (fun_ext (firm_seen es place))
+
+pub inputs_seen : (inputs : Inputs) (es : List Entry) (place : ℕ) (p : Plan) → inputs_now (seen inputs es) place p ≡ inputs_among inputs es place p
+inputs_seen inputs es place p = ap (λ (w : World). map (λ k. field_of p k (w k)) (reads p)) (now_is (empty_board One) 0 1 inputs es place)
+
+pub present_seen : (inputs : Inputs) (es : List Entry) (place : ℕ) (e : Entry) (t : Task) → is_present (seen inputs es) place (machine_row e) (work_of t) ≡ present_among inputs es place e t
+present_seen inputs es place e t =
+    ap₂ (λ b (values : List FieldNumbers). plan_eq e.1.plan t.plan && (b && pointwise field_eq values t.inputs)) (all_firm_seen es place (reads e.1.plan)) (inputs_seen inputs es place e.1.plan)
+
+-- ---- keys
 
 -- a key whose origin is the start
 pub look_start : (inputs : Inputs) (es : List Entry) (k : Key) (place : ℕ) (x : Input) → Sound (start_world inputs) (λ _. true) es → origin_among es place k ≡ None → Some x ≡ input_of inputs k

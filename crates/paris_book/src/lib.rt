@@ -24,6 +24,7 @@ mod shared_index;
 mod snapshot;
 mod statuses;
 mod wanted;
+mod work;
 
 pub use book::Book;
 pub use look::Look;

@@ -11,13 +11,17 @@ ghost use Rattle.paris_depends.specs.Sweeps.{marked};
 ghost use Rattle.paris_events.specs.Rows.{is_settled, is_waiting};
 ghost use Rattle.paris_field.specs.Fields.{field_eq};
 ghost use Rattle.paris_exec.specs.Tasks.{Task, fits};
-ghost use Rattle.paris_machine.specs.State.{input_of, start_world};
-ghost use Rattle.paris_machine.specs.Show.{shown_of};
+ghost use Rattle.paris_machine.specs.State.{input_of, start_world, work_of};
+ghost use Rattle.paris_machine.specs.Show.{origin_at};
+ghost use Rattle.paris_machine.specs.Orders.{is_firm as is_firm_origin, next_ready, inputs_now};
+ghost use Rattle.paris_machine.specs.CutOff.{is_present as is_order_present, is_cut as is_row_cut};
+ghost use Rattle.paris_machine.specs.Results.{verdict_at};
 ghost use Rattle.paris_book.specs.Kept.{Sound, present};
 ghost use Rattle.paris_book.specs.Whole.{AllFitted, Fitted, shape_in};
-ghost use Rattle.paris_book.specs.Among.{inputs_of, look_among, shared_shown, LookFits, firm_among, next_among, firm_inputs, inputs_among, own_among};
-ghost use Rattle.paris_book.specs.Verdicts.{KeptFor, LooksAt, are_present, present_among, verdict_among, cut_among, cut_by};
-ghost use Rattle.paris_book.specs.Entries.{Entry, machine_row};
+ghost use Rattle.paris_book.specs.Among.{inputs_of, shown_at, shared_shown, LookFits};
+ghost use Rattle.paris_book.specs.Verdicts.{KeptFor, LooksAt, cut_by};
+ghost use Rattle.paris_book.specs.Entries.{Entry, machine_row, seen, rows_seen};
+ghost use Rattle.paris_book.specs.Steps.{order_on};
 
 use crate::inputs::{InputData, input_at};
 use crate::look::SharedLook;
@@ -42,7 +46,7 @@ pub(crate) fn look_at<'a>(
     requires within { place ≤ length rows.now.rows }
     requires sound { Sound (start_world (inputs_of inputs.now)) (λ _. true) rows.now.rows }
     requires fitted { AllFitted (inputs_of inputs.now) rows.now.rows }
-    ensures shown { shared_shown result ≡ look_among (inputs_of inputs.entry.now) rows.entry.now.rows place key.now }
+    ensures shown { shared_shown result ≡ shown_at (inputs_of inputs.entry.now) rows.entry.now.rows place key.now }
     ensures fits { LookFits result (shape_in (inputs_of inputs.entry.now) key.now) }
 {
     match rows.origin(place, key) {
@@ -84,7 +88,7 @@ fn pass(pending: &mut [bool; 128], row: &RowData) -> bool
 
 /// The place of the first ready row.
 pub(crate) fn first_ready(rows: &Rows) -> Option<usize>
-    ensures { result ≡ option_map (λ e. e.0) (next_among rows.now.rows) }
+    ensures { result ≡ option_map (λ e. e.0) (next_ready (rows_seen rows.now.rows)) }
 {
     let Some(start) = rows.next_unsettled(0) else {
         return None;
@@ -111,7 +115,9 @@ fn present_inputs(
     requires sound { Sound (start_world (inputs_of inputs.now)) (λ _. true) rows.now.rows }
     requires fitted { AllFitted (inputs_of inputs.now) rows.now.rows }
     requires plan_fitted { Fitted (inputs_of inputs.now) plan.now }
-    ensures values { IfOk result (λ values. option_map (λ v. v.items) values ≡ firm_inputs (inputs_of inputs.now) rows.now.rows place plan.now) }
+    ensures values { IfOk result (λ values. option_map (λ v. v.items) values
+        ≡ (if list_all (λ k. is_firm_origin (origin_at (rows_seen rows.now.rows) place k)) (reads plan.now)
+        then Some (inputs_now (seen (inputs_of inputs.now) rows.now.rows) place plan.now) else None)) }
     ensures fit { IfOk result (λ values. IfSome values (λ values. fits plan.now values.items ≡ true)) }
 {
     let mut values = Vec::new(alloc);
@@ -134,13 +140,13 @@ pub(crate) fn order_at(
     requires within { place < length rows.now.rows }
     requires sound { Sound (start_world (inputs_of inputs.now)) (λ _. true) rows.now.rows }
     requires fitted { AllFitted (inputs_of inputs.now) rows.now.rows }
-    ensures { IfOk result (λ order. (e : Entry) → slice_get rows.now.rows place ≡ Some e → order ≡ own_among (inputs_of inputs.now) rows.now.rows place e) }
+    ensures { IfOk result (λ order. (e : Entry) → slice_get rows.now.rows place ≡ Some e → order ≡ order_on (seen (inputs_of inputs.now) rows.now.rows) place (Some (machine_row e))) }
 {
     let (id, row) = rows.at(place);
     let Some(values) = present_inputs(alloc, inputs, rows, place, row.plan())? else {
         return Ok(None);
     };
-    let plan = row.plan().copy()?;
+    let plan = row.shared_plan()?;
     match Order::new(id, row.edition(), plan, values) {
         Some(order) => Ok(Some(order)),
         None => unreachable!(),
@@ -150,7 +156,7 @@ pub(crate) fn order_at(
 /// Whether the origin of a key at a place is the start or a settled row.
 pub(crate) fn is_firm(rows: &Rows, place: usize, key: &Key) -> bool
     requires { place ≤ length rows.now.rows }
-    ensures { result ≡ firm_among rows.now.rows place key.now }
+    ensures { result ≡ is_firm_origin (origin_at (rows_seen rows.now.rows) place key.now) }
 {
     match rows.origin(place, key) {
         None => true,
@@ -164,7 +170,7 @@ pub(crate) fn is_firm(rows: &Rows, place: usize, key: &Key) -> bool
 /// Whether the origins of all these keys are.
 fn are_firm(rows: &Rows, place: usize, keys: &[Key]) -> bool
     requires { place ≤ length rows.now.rows }
-    ensures { result ≡ list_all (firm_among rows.now.rows place) keys.now }
+    ensures { result ≡ list_all (λ k. is_firm_origin (origin_at (rows_seen rows.now.rows) place k)) keys.now }
 {
     for key in keys {
         if !is_firm(rows, place, key) {
@@ -180,7 +186,8 @@ fn agree(inputs: &InputData, rows: &Rows, place: usize, plan: &Plan, values: &[S
     requires sound { Sound (start_world (inputs_of inputs.now)) (λ _. true) rows.now.rows }
     requires fitted { AllFitted (inputs_of inputs.now) rows.now.rows }
     requires plan_fitted { Fitted (inputs_of inputs.now) plan.now }
-    ensures { result ≡ are_present (inputs_of inputs.now) rows.now.rows place plan.now values.now }
+    ensures { result ≡ (list_all (λ k. is_firm_origin (origin_at (rows_seen rows.now.rows) place k)) (reads plan.now)
+        && pointwise field_eq (inputs_now (seen (inputs_of inputs.now) rows.now.rows) place plan.now) values.now) }
 {
     let keys = plan.reads();
     if keys.len() != values.len() {
@@ -204,7 +211,7 @@ fn is_present(inputs: &InputData, rows: &Rows, place: usize, order: &Order) -> b
     requires within { place < length rows.now.rows }
     requires sound { Sound (start_world (inputs_of inputs.now)) (λ _. true) rows.now.rows }
     requires fitted { AllFitted (inputs_of inputs.now) rows.now.rows }
-    ensures value { (e : Entry) → slice_get rows.now.rows place ≡ Some e → result ≡ present_among (inputs_of inputs.now) rows.now.rows place e order.now }
+    ensures value { (e : Entry) → slice_get rows.now.rows place ≡ Some e → result ≡ is_order_present (seen (inputs_of inputs.now) rows.now.rows) place (machine_row e) (work_of order.now) }
     ensures plan { (e : Entry) → slice_get rows.now.rows place ≡ Some e → result ≡ true → e.1.plan ≡ order.now.plan }
 {
     let (_, row) = rows.at(place);
@@ -217,7 +224,7 @@ pub(crate) fn is_cut(inputs: &InputData, rows: &Rows, place: usize) -> bool
     requires within { place < length rows.now.rows }
     requires sound { Sound (start_world (inputs_of inputs.now)) (λ _. true) rows.now.rows }
     requires fitted { AllFitted (inputs_of inputs.now) rows.now.rows }
-    ensures value { (e : Entry) → slice_get rows.now.rows place ≡ Some e → result ≡ cut_among (inputs_of inputs.now) rows.now.rows place e }
+    ensures value { (e : Entry) → slice_get rows.now.rows place ≡ Some e → result ≡ is_row_cut (seen (inputs_of inputs.now) rows.now.rows) place (machine_row e) }
     ensures plan { (e : Entry) (d : Task) → slice_get rows.now.rows place ≡ Some e → result ≡ true → e.1.done ≡ Some d → e.1.plan ≡ d.plan }
 {
     let (_, row) = rows.at(place);
@@ -266,7 +273,7 @@ pub(crate) fn judge(inputs: &InputData, rows: &Rows, place: usize, done: &Done) 
     requires within { place < length rows.now.rows }
     requires sound { Sound (start_world (inputs_of inputs.now)) (λ _. true) rows.now.rows }
     requires fitted { AllFitted (inputs_of inputs.now) rows.now.rows }
-    ensures verdict { (e : Entry) → slice_get rows.now.rows place ≡ Some e → result ≡ verdict_among (inputs_of inputs.now) rows.now.rows place e done.now }
+    ensures verdict { (e : Entry) → slice_get rows.now.rows place ≡ Some e → result ≡ verdict_at (seen (inputs_of inputs.now) rows.now.rows) (place, machine_row e) done.now }
     ensures plan { (e : Entry) → slice_get rows.now.rows place ≡ Some e → result ≡ Verdict.Kept → e.1.plan ≡ done.now.plan }
 {
     let (_, row) = rows.at(place);

@@ -1,15 +1,15 @@
 //! The rows of a book in program order.
 
-ghost use Rattle.std.specs.Prelude.{◌≡◌, ◌^◌, ◌<◌, ◌≤◌, ◌↔◌, [], length, drop, map, remove, slice_get, Some, IsSome, IfOk, IfSome, OnOk, OnErr};
+ghost use Rattle.std.specs.Prelude.{◌≡◌, ◌^◌, ◌<◌, ◌≤◌, ◌↔◌, [], length, drop, map, remove, slice_get, take, Some, IsSome, IfOk, IfSome, OnOk, OnErr};
 ghost use Rattle.std.specs.Option.{option_copied, option_map};
 ghost use Rattle.paris_names.specs.Keys.{has_key};
 ghost use Rattle.paris_names.specs.declared.limits.TheConstants.{MAX_ROWS};
 ghost use Rattle.paris_program.specs.Program.{IsProgram, Inserts, Stays, place_of, place_in, row_of, with_row};
 ghost use Rattle.paris_depends.specs.Index.{footprint, footprints};
 ghost use Rattle.paris_depends.specs.Sweeps.{touched};
-ghost use Rattle.paris_book.specs.Among.{origin_among};
+ghost use Rattle.paris_model.specs.Recipe.{origin as last_writer};
 ghost use Rattle.paris_machine.specs.Settling.{unsettled_rows};
-ghost use Rattle.paris_book.specs.Entries.{Entry, ChangedAt, machine_row};
+ghost use Rattle.paris_book.specs.Entries.{Entry, ChangedAt, entry_plan, machine_row};
 ghost use Rattle.paris_book.specs.Marks.{data_plan, ids_in, out_data, kept_data, again_data, recalled_data, stale_data};
 ghost use Rattle.paris_book.specs.SharedIndexes.{HasOwnRoom, indexed_in};
 ghost use Rattle.paris_book.specs.Statuses.{next_unsettled};
@@ -129,7 +129,7 @@ impl Rows {
     /// The id of the last row before a place that writes a key. `None` where no row does: the value comes from the start.
     pub(crate) fn origin(&self, place: usize, key: &Key) -> Option<RowId>
         requires { place ≤ length self.now.rows }
-        ensures { option_map (λ id. id.0) result ≡ option_map (λ r. r.0) (origin_among self.now.rows place key.now) }
+        ensures { option_map (λ id. id.0) result ≡ option_map (λ r. r.0) (last_writer entry_plan key.now (take place self.now.rows)) }
     {
         let mut looks = Looks::new();
         origin(&self.program, self.index.get(), place, *key, &mut looks)
@@ -239,7 +239,7 @@ impl Rows {
         ensures ok { IfOk result (Inserts self.old self.new place row) }
         ensures err { OnErr result (Stays self.old self.new) }
     {
-        let plan = row.shared_plan(self.alloc)?;
+        let plan = row.shared_plan()?;
         self.program.room()?;
         self.index.own(self.alloc)?;
         self.index.room(plan.get())?;
@@ -277,7 +277,7 @@ impl Rows {
         ensures next_id { self.new.next_id ≡ self.old.next_id }
         ensures err { OnErr result (Stays self.old self.new) }
     {
-        let plan = row.shared_plan(self.alloc)?;
+        let plan = row.shared_plan()?;
         self.index.own(self.alloc)?;
         self.index.room(plan.get())?;
         let place = self.program.place_of(id).unwrap();

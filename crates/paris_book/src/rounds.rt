@@ -11,6 +11,7 @@ use crate::book::Book;
 use crate::levels::{LeveledRow, level_end, rows_by_level};
 use crate::loose::Loose;
 use crate::settlement::{SettleFault, execute_inside};
+use crate::work::{WORTH_A_THREAD, work_of};
 use paris_exec::{Done, Gate, Order};
 use std::alloc::{AllocError, Global};
 use std::thread;
@@ -44,6 +45,21 @@ impl Slot {
             Some(order) => execute_inside(alloc, gate, order),
         };
     }
+}
+
+/// How many threads it pays to give to the orders of slots, at most so many. Each gets work that takes longer than to start it.
+fn threads_for(slots: &[Slot], workers: usize) -> usize
+    requires { 0 < workers }
+    ensures { 0 < result }
+{
+    let mut work: u64 = 0;
+    for slot in slots {
+        if let Some(order) = &slot.order {
+            work = work.saturating_add(work_of(order.plan()));
+        }
+    }
+    let worth = (work / WORTH_A_THREAD) as usize;
+    workers.min(worth.max(1))
 }
 
 /// Executes the order of each slot, in at most as many threads as there are workers.
@@ -156,7 +172,8 @@ impl Loose {
         match self.orders_of(rows) {
             Err(_) => Err(SettleFault { ran: 0 }),
             Ok(mut slots) => {
-                run_slots(rt, self.alloc, workers, gate, slots.as_mut_slice());
+                let threads = threads_for(&slots, workers);
+                run_slots(rt, self.alloc, threads, gate, slots.as_mut_slice());
                 self.keep_slots(slots)
             }
         }

@@ -150,13 +150,13 @@ impl RowData {
         }
     }
 
-    /// The plan, to be shared. The error says that memory was refused, or that the count of its owners is full.
-    pub(crate) fn shared_plan(&self, alloc: Global) -> Result<SharedPlan, AllocError>
+    /// The plan once more, which is shared. No memory is taken: the error is for a count of owners that is full.
+    pub(crate) fn shared_plan(&self) -> Result<SharedPlan, AllocError>
         ensures { IfOk result (λ plan. plan ≡ self.now.plan) }
     {
         match &self.held {
             RowContent::Plan(plan) | RowContent::Replaced(plan, _) => plan.copy(),
-            RowContent::Done(done) => shared(alloc, done.order().plan().copy()?),
+            RowContent::Done(done) => done.order().shared_plan().copy(),
         }
     }
 

@@ -64,12 +64,22 @@ const FIELDS: &[Given<'static>] = &[
     (b"d", 8, &[0, 0, 0, 0]),
 ];
 
+/// How many processors the fields below have: a row of them is worth a thread.
+const PROCESSORS: usize = 65_536;
+
+const WIDE_FIELDS: &[Given<'static>] = &[
+    (b"a", 64, &[0]),
+    (b"b", 64, &[0]),
+    (b"c", 64, &[0]),
+    (b"d", 64, &[0]),
+];
+
 /// Two rows that are ready at once, and two that are once those are settled.
 const PAIRS: &[Text] = &[
-    b"u-move-constant-1L c 7 8",
-    b"u-move-constant-1L d 9 8",
-    b"logxor-3-1L a c d 8",
-    b"logior-3-1L b c d 8",
+    b"u-move-constant-1L c 7 64",
+    b"u-move-constant-1L d 9 64",
+    b"logxor-3-1L a c d 64",
+    b"logior-3-1L b c d 64",
 ];
 
 /// Two workers execute both rows of a level at once.
@@ -79,12 +89,13 @@ fn two_workers_meet<R: Threads + Abort + Sync, C: Clock + Sync>(
     book: &mut Book,
     gate: &InPairs<'_, C>,
 ) -> Result<(), AllocError> {
-    prepare(rt, alloc, book, &[4], FIELDS)?;
+    prepare(rt, alloc, book, &[PROCESSORS as u64], WIDE_FIELDS)?;
     let count = append(rt, book, PAIRS);
     assert!(rt; book.settle_par(rt, 2, gate) == Ok(count));
     assert!(rt; !gate.is_late());
-    shows(rt, book, b"a", &[14, 14, 14, 14])?;
-    shows(rt, book, b"b", &[15, 15, 15, 15])
+    let (a, b) = (7 ^ 9, 7 | 9);
+    shows(rt, book, b"a", &Vec::from_elem(alloc, a, PROCESSORS)?)?;
+    shows(rt, book, b"b", &Vec::from_elem(alloc, b, PROCESSORS)?)
 }
 
 #[test]

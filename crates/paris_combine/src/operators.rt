@@ -23,3 +23,21 @@ pub fn apply(operator: Combiner, bits: u64, x: u128, y: u128) -> u128
         Combiner::Minimum => x.min(y),
     }
 }
+
+/// Two numbers of `bits` bits, up to 64, combined.
+pub(crate) fn apply_word(operator: Combiner, bits: u64, held: u64, sent: u64) -> u64
+    requires narrow { bits ≤ 64 }
+    requires held_fits { held < 2 ^ bits }
+    requires sent_fits { sent < 2 ^ bits }
+    ensures value { result ≡ combine operator bits held sent }
+    ensures fits { result < 2 ^ bits }
+{
+    match operator {
+        Combiner::Sum => held.wrapping_add(sent) & low_mask(bits) as u64,
+        Combiner::BitOr => held | sent,
+        Combiner::BitAnd => held & sent,
+        Combiner::BitXor => held ^ sent,
+        Combiner::Maximum => held.max(sent),
+        Combiner::Minimum => held.min(sent),
+    }
+}

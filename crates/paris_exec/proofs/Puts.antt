@@ -153,6 +153,20 @@ kept_is mask others x new value planes mask_count wide count fit_x fit_new other
     (subst (λ w. slice_index new.numbers v < 2 ^ w) wide (fit_at new.width new.numbers fit_new v (subst (λ n. v < n) (sym count) below)))) in
     (λ i. record { width = (width_is ∙ wide) i; numbers = same i })
 
+-- a value put into every processor
+full_at : (selected : Bool) (old new L : ℕ) → selected ≡ true → old < 2 ^ L → new < 2 ^ L → new ≡ (if selected then put old new L else old)
+full_at selected old new L e fo fn = sym (ap (λ b. if b then put old new L else old) e ∙ put_whole old new L fo ∙ mod-eq_of_lt fn)
+
+pub full_is : (mask : List Bool) (x new : FieldNumbers) → length mask ≡ length x.numbers → new.width ≡ x.width → length new.numbers ≡ length x.numbers → AllFit x.width x.numbers → AllFit new.width new.numbers
+    → ((v : ℕ) → v < length mask → slice_index_or mask v false ≡ true)
+    → new ≡ record { width = x.width; numbers = stored (length x.numbers) (λ v. slice_index_or mask v false) (slice_index x.numbers) x.width (slice_index new.numbers) }
+full_is mask x new mask_count wide count fit_x fit_new full =
+    let same : new.numbers ≡ stored (length x.numbers) (λ v. slice_index_or mask v false) (slice_index x.numbers) x.width (slice_index new.numbers) =
+    fill_by_all _ new.numbers (length x.numbers) 0 count (λ v below.
+    full_at (slice_index_or mask v false) (slice_index x.numbers v) (slice_index new.numbers v) x.width (full v (subst (λ n. v < n) (sym mask_count) below)) (fit_at x.width x.numbers fit_x v below)
+    (subst (λ w. slice_index new.numbers v < 2 ^ w) wide (fit_at new.width new.numbers fit_new v (subst (λ n. v < n) (sym count) below)))) in
+    (λ i. record { width = wide i; numbers = same i })
+
 -- numbers of a value put over zeros in every processor
 pub widened_is : (x none value : FieldNumbers) (all : List Bool) (planes : List (List Bool)) (w : ℕ) → none ≡ record { width = w; numbers = replicate (length x.numbers) 0 } → all ≡ replicate (length x.numbers) true → AllFit x.width x.numbers
     → ((v : ℕ) → v < length x.numbers → number_at planes v ≡ slice_index x.numbers v) → value.width ≡ none.width

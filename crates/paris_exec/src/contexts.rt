@@ -37,8 +37,7 @@ fn move_always_values(
         return Ok(values);
     }
     let all = Plane::ones(alloc, x.len())?;
-    let mut value = order.input(&Key::Field(to.field)).copy()?;
-    value.merge_in(&all, low, bits);
+    let value = order.input(&Key::Field(to.field)).merged(&all, low, bits)?;
     values.push(value)?;
     Ok(values)
 }

@@ -8,19 +8,19 @@ ghost use Rattle.paris_model.specs.Instructions.{reads, writes, value_at};
 ghost use Rattle.paris_exec.specs.Tasks.{fits, fits_key, fits_keys, beside, field_of, numbers_of, task_outcome, task_value};
 
 use paris_field::{FieldValue, SharedValue};
-use paris_instr::Plan;
+use paris_instr::{Plan, SharedPlan};
 use paris_model::Refusal;
 use paris_names::{Edition, Items, Key, RowId};
 use std::alloc::{AllocError, Global};
 use std::marker::Model;
 use std::sync::Arc;
 
-/// An order for a row: its plan, and a value for each key that the plan reads. A clause sees the task.
+/// An order for a row: its plan, which is shared, and a value for each key that the plan reads. A clause sees the task.
 #[derive(Debug, Drop)]
 pub struct Order {
     id: RowId,
     edition: Edition,
-    plan: Plan,
+    plan: SharedPlan,
     inputs: Vec<SharedValue>,
 }
 
@@ -142,10 +142,15 @@ fn are_same_values(values: &[SharedValue], others: &[SharedValue]) -> bool
 impl Order {
     /// The order of these parts, where the inputs fit the plan: one for each key that it reads, in the order of
     /// `Plan::reads`, of the key's width and with a number for each processor. Else the inputs are dropped.
-    pub fn new(id: RowId, edition: Edition, plan: Plan, inputs: Vec<SharedValue>) -> Option<Order>
+    pub fn new(
+        id: RowId,
+        edition: Edition,
+        plan: SharedPlan,
+        inputs: Vec<SharedValue>,
+    ) -> Option<Order>
         ensures { SomeIff result (fits plan inputs.items ≡ true) (record { id = id; edition = edition; plan = plan; inputs = inputs.items }) }
     {
-        if !are_fit(&plan, plan.reads(), inputs.as_slice()) {
+        if !are_fit(plan.get(), plan.get().reads(), inputs.as_slice()) {
             return None;
         }
         Some(Order {
@@ -174,6 +179,13 @@ impl Order {
     pub fn plan(&self) -> &Plan
         ensures { result.now ≡ self.now.plan }
     {
+        self.plan.get()
+    }
+
+    /// The same plan, to be shared.
+    pub fn shared_plan(&self) -> &SharedPlan
+        ensures { result.now ≡ self.now.plan }
+    {
         &self.plan
     }
 
@@ -200,7 +212,7 @@ impl Order {
         ensures value { result.now ≡ field_of self.now.plan key.now (value_at (reads self.now.plan) (numbers_of self.now.inputs) key.now) }
         ensures count { length result.now.numbers ≡ processor_count self.now.plan.axes }
     {
-        match value_beside(self.plan.reads(), self.inputs.as_slice(), key) {
+        match value_beside(self.plan.get().reads(), self.inputs.as_slice(), key) {
             Some(value) => value,
             None => unreachable!(),
         }
@@ -211,7 +223,7 @@ impl Order {
     pub fn same_work(&self, other: &Order) -> bool
         ensures { IsTrue result ↔ ((self.now.plan ≡ other.now.plan) × (self.now.inputs ≡ other.now.inputs)) }
     {
-        self.plan.equals(&other.plan)
+        self.plan.get().equals(other.plan.get())
             && are_same_values(self.inputs.as_slice(), other.inputs.as_slice())
     }
 

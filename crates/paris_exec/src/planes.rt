@@ -13,7 +13,6 @@ ghost use Rattle.paris_exec.specs.Planes.{flag_value, is_selected_without, AreRe
 use crate::orders::Order;
 use paris_alu::{Overflowing, Sum};
 use paris_field::FieldValue;
-use paris_flags::{TestStep, test_step};
 use paris_model::Operand;
 use paris_names::{FlagName, Key};
 use paris_plane::Plane;
@@ -52,11 +51,15 @@ fn keep_others(
     requires count { length new.numbers ≡ length old.now.numbers }
     ensures { IfOk result (λ value. value ≡ record { width = old.now.width; numbers = stored (length old.now.numbers) (λ v. slice_index_or selected.now v false) (slice_index old.now.numbers) old.now.width (slice_index new.numbers) }) }
 {
+    let width = new.planes().len() as u64;
+    let kept = old.low(width);
+    if selected.is_full() {
+        return Ok(new);
+    }
     let mut others = selected.copy()?;
     others.not_in();
     let mut value = new;
-    let width = value.planes().len() as u64;
-    value.merge_in(&others, old.low(width), width);
+    value.merge_in(&others, kept, width);
     Ok(value)
 }
 
@@ -78,8 +81,7 @@ pub(crate) fn put_where(
     if new.width() == old.width() {
         return keep_others(mask, old, new);
     }
-    let mut value = old.copy()?;
-    value.merge_in(mask, new.planes(), new.width());
+    let value = old.merged(mask, new.planes(), new.width())?;
     Ok(value)
 }
 
@@ -107,8 +109,7 @@ fn put_flag(
     ensures { IfOk result (λ value. value ≡ put_value order.now (Flag order.now.plan.set_no flag.now) (flag_value new.now)) }
 {
     let selected = flag_plane(order, &FlagName::Context);
-    let mut bits = flag_plane(order, flag).copy()?;
-    test_step(TestStep::Load, &mut bits, selected, new);
+    let bits = Plane::selected(alloc, selected, new, flag_plane(order, flag))?;
     FieldValue::from_plane(alloc, bits)
 }
 

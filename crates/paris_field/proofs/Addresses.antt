@@ -49,7 +49,7 @@ plane_long from count n k =
       | inr above ↦ ap length (sym (high_plane from count n k above)) ∙ length-replicate n false
     ]
 
-low_bit : (x count k : ℕ) → k < count → word_bit (x % 2 ^ count) k ≡ word_bit x k
+pub low_bit : (x count k : ℕ) → k < count → word_bit (x % 2 ^ count) k ≡ word_bit x k
 unfolding word_bit
 low_bit x count k h =
     ap (λ b. eqb b 1) (sym (bit_at_cat_low (x / 2 ^ count) count (x % 2 ^ count) k h) ∙ ap (λ y. bit_at y k) (div-add-mod' x (2 ^ count)))

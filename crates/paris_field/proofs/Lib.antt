@@ -3,6 +3,8 @@ pub mod Lists
 pub mod Values
 pub mod Turn
 pub mod Six
+pub mod Four
 pub mod Halves
 pub mod Addresses
 pub mod Places
+pub mod HalfWords

@@ -3,7 +3,7 @@ use Rattle.std.proofs.Common.{◌≡◌, ◌≤◌, ℕ, zero, suc, ◌+◌, ◌
 use Rattle.std.proofs.lemmas.List.FromFn.{length-map-range_with_len, get_or-map-range_with_len, map-range_with_len_more, fill_by_all}
 use Rattle.std.proofs.lemmas.List.{append-nil, append_assoc}
 use Rattle.std.proofs.Math.Seq.{take-suc}
-use Rattle.paris_model.specs.Store.{put, stored}
+use Rattle.paris_model.specs.Store.{everywhere, put, stored}
 use Rattle.paris_field.specs.Numbers.{number_at, numbers}
 use Rattle.paris_field.proofs.Numbers.{number_at_lt, number_at_put, number_at_split}
 
@@ -18,6 +18,12 @@ get_or-numbers n ps v h = get_or-map-range_with_len (number_at ps) 0 n v v 0 h (
 pub numbers_are : (n : ℕ) (ps : List (List Bool)) (xs : List ℕ) → length xs ≡ n → ((v : ℕ) → v < n → number_at ps v ≡ get_or xs v 0) → numbers n ps ≡ xs
 unfolding numbers
 numbers_are n ps xs long each = sym (fill_by_all (number_at ps) xs n 0 long (λ v h. sym (each v h)))
+
+pub numbers_everywhere : (n m : ℕ) (ps : List (List Bool)) (f : ℕ → ℕ) → m ≡ n → ((v : ℕ) → v < m → number_at ps v ≡ f v) → numbers n ps ≡ everywhere m f
+numbers_everywhere n m ps f same each =
+    numbers_are n ps (everywhere m f) (length-map-range_with_len f 0 m ∙ same) (λ v h.
+    let inside : v < m = omega arith in
+    each v inside ∙ sym (get_or-map-range_with_len f 0 m v v 0 inside (omega arith)))
 
 pub number_of : {n : ℕ} (ps : List (List Bool)) {xs : List ℕ} → numbers n ps ≡ xs → (v : ℕ) → v < n → get_or xs v 0 ≡ number_at ps v
 number_of {n} ps is v h = ap (λ l. get_or l v 0) (sym is) ∙ get_or-numbers n ps v h

@@ -71,16 +71,6 @@ all_written n ps k x h long all j below =
 pub double : (k d : ℕ) → 2 ^ (k + 1) * d ≡ (2 * 2 ^ k) * d
 double k d = ap (λ m. 2 ^ m * d) (add-one k) ∙ ap (λ p. p * d) (pow-succ' 2 k)
 
--- a step of the sum of two numbers: plane k of the sum is s, and d is carried
-pub added_more : (k v : ℕ) (ss xs ys : List (List Bool)) (s d x y c c0 : List Bool) → k < length ss → k < length xs → k < length ys → x ≡ plane_at xs k → y ≡ plane_at ys k → bit_in s v + 2 * bit_in d v ≡ bit_in x v + bit_in y v + bit_in c v → number_at (take k ss) v + 2 ^ k * bit_in c v ≡ number_at (take k xs) v + number_at (take k ys) v + bit_in c0 v → number_at (take (k + 1) (set ss k s)) v + 2 ^ (k + 1) * bit_in d v ≡ number_at (take (k + 1) xs) v + number_at (take (k + 1) ys) v + bit_in c0 v
-added_more k v ss xs ys s d x y c c0 hs hx hy ex ey bits below =
-    let step = step_of_numbers (2 ^ k) (number_at (take k ss) v) (number_at (take k xs) v) (number_at (take k ys) v) (bit_in c0 v) (bit_in s v) (bit_in x v) (bit_in y v) (bit_in c v) (bit_in d v) bits below in
-    ap (λ t. t + 2 ^ (k + 1) * bit_in d v) (one_written ss k v s hs)
-    ∙ ap (λ t. number_at (take k ss) v + 2 ^ k * bit_in s v + t) (double k (bit_in d v))
-    ∙ step
-    ∙ ap (λ t. t + (number_at (take k ys) v + 2 ^ k * bit_in y v) + bit_in c0 v) (sym (one_more xs k v x hx ex))
-    ∙ ap (λ t. number_at (take (k + 1) xs) v + t + bit_in c0 v) (sym (one_more ys k v y hy ey))
-
 -- no planes, or those below k and the others
 pub number_at_split : (ps : List (List Bool)) (k v : ℕ) → number_at ps v ≡ number_at (take k ps) v + 2 ^ k * number_at (drop k ps) v
 unfolding number_at

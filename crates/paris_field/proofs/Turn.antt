@@ -5,8 +5,8 @@ use Rattle.std.proofs.Math.Nat.{div-div-eq-div-mul, mul-add, mul-suc, pow-succ'}
 use Rattle.std.proofs.lemmas.Bool.{cases_lt}
 use Rattle.std.proofs.lemmas.Grind.{get_or-set_at}
 use Rattle.std.proofs.lemmas.List.{get_or-set_other, length-set}
-use Rattle.std.proofs.lemmas.Nat.Bits.{bit_at_cat_low, bit_at_cat_high, bit_at-zero}
-use Rattle.std.proofs.lemmas.Nat.{pow-add, div-add-mod'}
+use Rattle.std.proofs.lemmas.Nat.Bits.{bit_at_above, bit_at_cat_low, bit_at_cat_high, bit_at-zero}
+use Rattle.std.proofs.lemmas.Nat.{pow-add, div-add-mod', mod_below}
 use Rattle.paris_plane.specs.Bits.{word_bit}
 use Rattle.paris_plane.specs.Laws.{xor_by_bit, and_by_bit}
 use Rattle.paris_plane.specs.Digits.{digit, MarksZeros}
@@ -31,6 +31,59 @@ low_bit n i h = ap (λ x. eqb x 1) (mod_bit n i h)
 -- a bit of the word that is made of the 64 bits from s on
 pub word_from : (n s i : ℕ) → i < 64 → word_bit (n / 2 ^ s % 2 ^ 64) i ≡ word_bit n (s + i)
 word_from n s i h = low_bit (n / 2 ^ s) i h ∙ shr_bit n s i
+
+-- a bit of the number that is made of the 16 bits from s on
+pub quarter_bit : (n s k : ℕ) → k < 16 → word_bit (n / 2 ^ s % 2 ^ 16) k ≡ word_bit n (s + k)
+unfolding word_bit
+quarter_bit n s k h =
+    ap (λ x. eqb x 1) (sym (bit_at_cat_low (n / 2 ^ s / 2 ^ 16) 16 (n / 2 ^ s % 2 ^ 16) k h) ∙ ap (λ x. bit_at x k) (div-add-mod' (n / 2 ^ s) (2 ^ 16)))
+    ∙ shr_bit n s k
+
+pub quarter_past : (n s k : ℕ) → 16 ≤ k → word_bit (n / 2 ^ s % 2 ^ 16) k ≡ false
+unfolding word_bit
+quarter_past n s k h = ap (λ x. eqb x 1) (bit_at_above (n / 2 ^ s % 2 ^ 16) 16 k (mod_below (n / 2 ^ s) (2 ^ 16) (pow-pos 16)) h)
+
+-- a bit of the lowest 16 bits of four words side by side
+above_bit : (high low i : ℕ) → 16 ≤ i → word_bit (high * 2 ^ 16 + low % 2 ^ 16) i ≡ word_bit high (i - 16)
+unfolding word_bit
+above_bit high low i h = ap (λ x. eqb x 1) (bit_at_cat_high high 16 (low % 2 ^ 16) i (mod_below low (2 ^ 16) (pow-pos 16)) h)
+
+below_bit : (high low i : ℕ) → i < 16 → word_bit (high * 2 ^ 16 + low % 2 ^ 16) i ≡ word_bit low i
+unfolding word_bit
+below_bit high low i h =
+    ap (λ x. eqb x 1) (bit_at_cat_low high 16 (low % 2 ^ 16) i h ∙ sym (bit_at_cat_low (low / 2 ^ 16) 16 (low % 2 ^ 16) i h) ∙ ap (λ x. bit_at x i) (div-add-mod' low (2 ^ 16)))
+
+last_bit : (low i : ℕ) → i < 16 → word_bit (low % 2 ^ 16) i ≡ word_bit low i
+unfolding word_bit
+last_bit low i h = ap (λ x. eqb x 1) (sym (bit_at_cat_low (low / 2 ^ 16) 16 (low % 2 ^ 16) i h) ∙ ap (λ x. bit_at x i) (div-add-mod' low (2 ^ 16)))
+
+pub joined_bit : (words : List ℕ) (j i : ℕ) → i < 64
+    → word_bit (((get_or words (48 + j) 0 % 2 ^ 16 * 2 ^ 16 + get_or words (32 + j) 0 % 2 ^ 16) * 2 ^ 16 + get_or words (16 + j) 0 % 2 ^ 16) * 2 ^ 16 + get_or words j 0 % 2 ^ 16) i ≡ word_bit (get_or words (i / 16 * 16 + j) 0) (i % 16)
+joined_bit words j i h =
+    let a : ℕ = get_or words j 0 in
+    let b : ℕ = get_or words (16 + j) 0 in
+    let c : ℕ = get_or words (32 + j) 0 in
+    let d : ℕ = get_or words (48 + j) 0 in
+    let three : ℕ = (d % 2 ^ 16 * 2 ^ 16 + c % 2 ^ 16) * 2 ^ 16 + b % 2 ^ 16 in
+    let two : ℕ = d % 2 ^ 16 * 2 ^ 16 + c % 2 ^ 16 in
+    let placed : (v k : ℕ) → v ≡ i / 16 * 16 + j → k ≡ i % 16 → word_bit (get_or words v 0) k ≡ word_bit (get_or words (i / 16 * 16 + j) 0) (i % 16) = λ v k ev ek.
+    ap (λ x. word_bit (get_or words x 0) k) ev ∙ ap (word_bit (get_or words (i / 16 * 16 + j) 0)) ek in
+    elim (cases_lt i 16) [
+      | inl one ↦ below_bit three a i one ∙ placed j i (omega arith) (omega arith)
+      | inr over_one ↦
+          above_bit three a i over_one
+          ∙ elim (cases_lt i 32) [
+            | inl second ↦ below_bit two b (i - 16) (omega arith) ∙ placed (16 + j) (i - 16) (omega arith) (omega arith)
+            | inr over_two ↦
+                above_bit two b (i - 16) (omega arith)
+                ∙ elim (cases_lt i 48) [
+                  | inl third ↦ below_bit (d % 2 ^ 16) c (i - 16 - 16) (omega arith) ∙ placed (32 + j) (i - 16 - 16) (omega arith) (omega arith)
+                  | inr over_three ↦
+                      above_bit (d % 2 ^ 16) c (i - 16 - 16) (omega arith)
+                      ∙ last_bit d (i - 16 - 16 - 16) (omega arith) ∙ placed (48 + j) (i - 16 - 16 - 16) (omega arith) (omega arith)
+                ]
+          ]
+    ]
 
 shl_low : (t s i : ℕ) → i < s → i < 64 → word_bit (t * 2 ^ s % 2 ^ 64) i ≡ false
 unfolding word_bit

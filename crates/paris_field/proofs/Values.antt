@@ -38,6 +38,12 @@ all_fit n ps {f} is =
     let below : number_at ps v < 2 ^ f.width = subst (λ w. number_at ps v < 2 ^ w) (width_is n ps is) (number_at_lt ps v) in
     subst (λ x. x < 2 ^ f.width) (at_is n ps is v (omega (arith, vps_is n ps is))) below)
 
+pub planes_fit : (n w : ℕ) (ps : List (List Bool)) {xs : List ℕ} → length ps ≡ w → numbers n ps ≡ xs → AllFit w xs
+planes_fit n w ps {xs} width is =
+    All-from_get_or (λ x. x < 2 ^ w) xs 0 (λ v h.
+    let below : number_at ps v < 2 ^ w = subst (λ k. number_at ps v < 2 ^ k) width (number_at_lt ps v) in
+    subst (λ x. x < 2 ^ w) (sym (number_of ps is v (omega (arith, h, count_of ps is)))) below)
+
 -- planes that are all of n bits, by another name of the list and of the number
 pub all_of : (n m : ℕ) (ps qs : List (List Bool)) → qs ≡ ps → n ≡ m → AllOf n ps → AllOf m qs
 all_of n m ps qs e same all k h =

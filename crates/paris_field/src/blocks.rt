@@ -5,7 +5,7 @@ ghost use Rattle.paris_model.specs.Store.{low};
 ghost use Rattle.paris_plane.specs.Bits.{word_bit};
 ghost use Rattle.paris_field.specs.Numbers.{AllOf, number_at, numbers, plane_at};
 
-use crate::transpose::transpose64;
+use crate::transpose::{transpose16, transpose64};
 use paris_plane::Plane;
 use std::alloc::{AllocError, Global};
 
@@ -13,7 +13,7 @@ use std::alloc::{AllocError, Global};
 const WORD: u128 = 1 << 64;
 
 /// The bits of a plane in the processors of a block, and zeros where there is no such plane.
-fn word_of(planes: &[Plane], k: usize, block: usize, vps: usize) -> u64
+pub(crate) fn word_of(planes: &[Plane], k: usize, block: usize, vps: usize) -> u64
     requires within { 64 * block < vps }
     requires long { AllOf vps planes.now }
     ensures { (i : ℕ) → i < 64 → 64 * block + i < vps → word_bit result i ≡ slice_index_or (plane_at planes.now k) (64 * block + i) false }
@@ -23,6 +23,32 @@ fn word_of(planes: &[Plane], k: usize, block: usize, vps: usize) -> u64
     } else {
         0
     }
+}
+
+/// Four numbers of 16 bits from each of 16 words, those of the lowest bits of each word first.
+fn quarters(rows: &[u64; 64]) -> [u64; 64]
+    ensures { (i : ℕ) → i < 64 → slice_index result i ≡ slice_index rows.now (i % 16) / 2 ^ (i / 16 * 16) % 2 ^ 16 }
+{
+    let mut numbers = [0u64; 64];
+    for i in 0..64usize {
+        numbers[i] = (rows[i % 16] >> (i / 16 * 16)) % 65536;
+    }
+    numbers
+}
+
+/// The number of each processor of a block as a word, where the planes hold its bits, up to 16 of them.
+fn few_bits(planes: &[Plane], block: usize, vps: usize) -> [u64; 64]
+    requires narrow { length planes.now ≤ 16 }
+    requires within { 64 * block < vps }
+    requires long { AllOf vps planes.now }
+    ensures { (i k : ℕ) → i < 64 → k < 64 → 64 * block + i < vps → word_bit (slice_index result i) k ≡ slice_index_or (plane_at planes.now k) (64 * block + i) false }
+{
+    let mut rows = [0u64; 64];
+    for k in 0..16usize {
+        rows[k] = word_of(planes, k, block, vps);
+    }
+    transpose16(&mut rows);
+    quarters(&rows)
 }
 
 /// A word of the number of each processor of a block, of which the planes hold the bits, up to 64 of them.
@@ -35,11 +61,31 @@ fn low_words(planes: &[Plane], block: usize, vps: usize) -> [u64; 64]
     if planes.is_empty() {
         return rows;
     }
+    if planes.len() <= 16 {
+        return few_bits(planes, block, vps);
+    }
     for k in 0..64usize {
         rows[k] = word_of(planes, k, block, vps);
     }
     transpose64(&mut rows);
     rows
+}
+
+/// Each word is below two to the 64th, which a proof knows of words behind a reference.
+pub(crate) fn words_fit(words: &[u64])
+    ensures { (i : ℕ) → slice_index words.now i < 2 ^ 64 }
+{}
+
+/// The number of each processor of a block as a word, the first processor's first. Those past the last processor mean nothing.
+pub fn block_words(planes: &[Plane], block: usize, vps: usize) -> [u64; 64]
+    requires narrow { length planes.now ≤ 64 }
+    requires within { 64 * block < vps }
+    requires long { AllOf vps planes.now }
+    ensures { (i : ℕ) → i < 64 → 64 * block + i < vps → slice_index result i ≡ number_at planes.now (64 * block + i) }
+{
+    let words = low_words(planes, block, vps);
+    words_fit(&words);
+    words
 }
 
 /// The number of each processor of a block, the first processor's first. Those past the last processor mean nothing.
@@ -90,6 +136,38 @@ pub fn numbers_in(alloc: Global, planes: &[Plane], vps: usize) -> Result<Vec<u12
     Ok(list)
 }
 
+/// Adds the numbers of a block, each a word, to those of the blocks below.
+fn push_words(
+    list: &mut Vec<u64>,
+    planes: &[Plane],
+    block: usize,
+    vps: usize,
+) -> Result<(), AllocError>
+    requires narrow { length planes.now ≤ 64 }
+    requires within { 64 * block < vps }
+    requires long { AllOf vps planes.now }
+    requires below { list.old.items ≡ numbers (64 * block) planes.now }
+    ensures { OnOk result (list.new.items ≡ numbers (min (64 * block + 64) vps) planes.now) }
+{
+    let words = block_words(planes, block, vps);
+    let count = (vps - 64 * block).min(64);
+    list.extend_from_slice(&words[..count])?;
+    Ok(())
+}
+
+/// The numbers of `vps` processors, each a word, block by block.
+pub fn words_in(alloc: Global, planes: &[Plane], vps: usize) -> Result<Vec<u64>, AllocError>
+    requires narrow { length planes.now ≤ 64 }
+    requires long { AllOf vps planes.now }
+    ensures { IfOk result (λ list. list.items ≡ numbers vps planes.now) }
+{
+    let mut list = Vec::with_capacity(alloc, vps)?;
+    for block in 0..vps.div_ceil(64) {
+        push_words(&mut list, planes, block, vps)?;
+    }
+    Ok(list)
+}
+
 /// A word of each of the first 64 numbers: the 64 bits from bit `from` on.
 fn words_from(numbers: &[u128], from: u32) -> [u64; 64]
     requires narrow { from < 128 }
@@ -100,6 +178,41 @@ fn words_from(numbers: &[u128], from: u32) -> [u64; 64]
         words[i] = ((numbers[i] >> from) % WORD) as u64;
     }
     words
+}
+
+/// The lowest 16 bits of four words, side by side, those of the first the lowest.
+fn joined(first: u64, second: u64, third: u64, fourth: u64) -> u64
+    ensures { result ≡ ((fourth % 2 ^ 16 * 2 ^ 16 + third % 2 ^ 16) * 2 ^ 16 + second % 2 ^ 16) * 2 ^ 16 + first % 2 ^ 16 }
+{
+    let high = fourth % 65536 * 65536 + third % 65536;
+    let low = second % 65536 * 65536 + first % 65536;
+    high * 65536 * 65536 + low
+}
+
+/// The lowest 16 bits of 64 words, four side by side in each of 16 words.
+fn side_by_side(words: &[u64; 64]) -> [u64; 64]
+    ensures { (j i : ℕ) → j < 16 → i < 64 → word_bit (slice_index result j) i ≡ word_bit (slice_index words.now (i / 16 * 16 + j)) (i % 16) }
+{
+    let mut rows = [0u64; 64];
+    for j in 0..16usize {
+        rows[j] = joined(words[j], words[16 + j], words[32 + j], words[48 + j]);
+    }
+    rows
+}
+
+/// The lowest `count` bits of 64 words, up to 64, turned about the diagonal.
+fn turned(words: [u64; 64], count: usize) -> [u64; 64]
+    requires { count ≤ 64 }
+    ensures { (k i : ℕ) → k < count → i < 64 → word_bit (slice_index result k) i ≡ word_bit (slice_index words i) k }
+{
+    if count <= 16 {
+        let mut few = side_by_side(&words);
+        transpose16(&mut few);
+        return few;
+    }
+    let mut rows = words;
+    transpose64(&mut rows);
+    rows
 }
 
 /// Puts a word of each processor of a block into the planes from plane `from` on, up to 64 of them.
@@ -117,9 +230,9 @@ pub(crate) fn put_rows(
     ensures low { (k : ℕ) → k < from → plane_at planes.new k ≡ plane_at planes.old k }
     ensures others { (k : ℕ) → k < length planes.old → (v : ℕ) → v < vps → v / 64 ≢ block → slice_index_or (plane_at planes.new k) v false ≡ slice_index_or (plane_at planes.old k) v false }
 {
-    let mut rows = words;
-    transpose64(&mut rows);
-    for k in 0..planes.len().saturating_sub(from).min(64) {
+    let count = planes.len().saturating_sub(from).min(64);
+    let rows = turned(words, count);
+    for k in 0..count {
         planes[from + k].set_word(block, rows[k]);
     }
 }
@@ -137,6 +250,18 @@ fn put_words(planes: &mut [Plane], numbers: &[u128], block: usize, from: usize, 
 {
     let words = words_from(numbers, from as u32);
     put_rows(planes, words, block, from, vps);
+}
+
+/// Puts words, the first processor's first, into the processors of a block, as far as their bits have planes.
+pub fn put_block_words(planes: &mut [Plane], words: [u64; 64], block: usize, vps: usize)
+    requires narrow { length planes.old ≤ 64 }
+    requires within { 64 * block < vps }
+    requires long { AllOf vps planes.old }
+    ensures long { AllOf vps planes.new }
+    ensures numbers { (i : ℕ) → i < 64 → 64 * block + i < vps → number_at planes.new (64 * block + i) ≡ low (length planes.old) (slice_index words i) }
+    ensures others { (v : ℕ) → v < vps → v / 64 ≢ block → number_at planes.new v ≡ number_at planes.old v }
+{
+    put_rows(planes, words, block, 0, vps);
 }
 
 /// Puts numbers into the processors of a block, as far as their bits have planes.

@@ -2,15 +2,15 @@
 
 ghost use Rattle.std.specs.Prelude.{◌≡◌, ◌↔◌, ℕ, ◌<◌, ◌≤◌, ◌+◌, ◌/◌, ◌%◌, ◌^◌, IfOk, IsTrue, None, false, length, map, nat_le, position, replicate, slice_index, slice_index_or};
 ghost use Rattle.paris_model.specs.Store.{bit, everywhere, low, stored};
-ghost use Rattle.paris_field.specs.Fields.{AllFit, field_eq, overwritten};
+ghost use Rattle.paris_field.specs.Fields.{AllFit, field_eq, operand, overwritten};
 ghost use Rattle.paris_field.specs.Numbers.{AllOf, bit_in, value_of_planes, number_at};
 
-use crate::blocks::{numbers_in, put_all};
+use crate::blocks::{numbers_in, put_all, words_in};
 use crate::planes::{
-    address_planes, copy_planes, fill_planes, merge_planes, number_in, put_numbers, same_planes,
-    zero_planes,
+    address_planes, constant_planes, copy_planes, merge_planes, merged_planes, number_in,
+    put_numbers, same_planes, zero_planes,
 };
-use crate::words::put_words_from;
+use crate::words::{put_words_from, words_of};
 use paris_plane::Plane;
 use std::alloc::{AllocError, Global};
 use std::marker::Model;
@@ -55,8 +55,7 @@ impl FieldValue {
         requires fits { number < 2 ^ width }
         ensures { IfOk result (λ value. value ≡ record { width = width; numbers = replicate vps number }) }
     {
-        let mut planes = zero_planes(alloc, width as usize, vps)?;
-        fill_planes(&mut planes, number, vps);
+        let planes = constant_planes(alloc, width as usize, number, vps)?;
         Ok(FieldValue { planes, vps })
     }
 
@@ -91,6 +90,18 @@ impl FieldValue {
         let vps = numbers.len();
         let mut planes = zero_planes(alloc, width as usize, vps)?;
         put_all(&mut planes, numbers);
+        Ok(FieldValue { planes, vps })
+    }
+
+    /// The value of this width in bits, up to 128, with these numbers, each a word.
+    pub fn from_words(alloc: Global, width: u64, words: &[u64]) -> Result<FieldValue, AllocError>
+        requires narrow { width ≤ 128 }
+        requires fit { AllFit width words.now }
+        ensures { IfOk result (λ value. value ≡ record { width = width; numbers = words.now }) }
+    {
+        let vps = words.len();
+        let mut planes = zero_planes(alloc, width as usize, vps)?;
+        put_words_from(&mut planes, 0, words, vps);
         Ok(FieldValue { planes, vps })
     }
 
@@ -162,13 +173,37 @@ impl FieldValue {
         numbers_in(*self.planes.allocator(), &self.planes, self.vps)
     }
 
+    /// All numbers, of up to 64 bits, by processor, each a word.
+    pub fn words(&self) -> Result<Vec<u64>, AllocError>
+        requires { self.now.width ≤ 64 }
+        ensures value { IfOk result (λ words. words.items ≡ self.now.numbers) }
+        ensures fit { IfOk result (λ _. AllFit self.now.width self.now.numbers) }
+    {
+        words_in(*self.planes.allocator(), &self.planes, self.vps)
+    }
+
+    /// The low `bits` bits of each number, up to 64, by processor, each a word.
+    pub fn low_words(&self, bits: u64) -> Result<Vec<u64>, AllocError>
+        requires room { bits ≤ self.now.width }
+        requires narrow { bits ≤ 64 }
+        ensures value { IfOk result (λ words. words.items ≡ everywhere (length self.now.numbers) (operand bits self.now)) }
+        ensures fit { IfOk result (λ words. AllFit bits words.items) }
+    {
+        words_in(*self.planes.allocator(), self.low(bits), self.vps)
+    }
+
     /// A copy with these numbers in place of as many from a processor on.
     pub fn with_numbers(&self, from: usize, numbers: &[u128]) -> Result<FieldValue, AllocError>
         requires within { from + length numbers.now ≤ length self.now.numbers }
         requires fit { AllFit self.now.width numbers.now }
         ensures { IfOk result (λ value. value ≡ record { width = self.now.width; numbers = overwritten self.now.numbers from numbers.now }) }
     {
-        let mut planes = copy_planes(*self.planes.allocator(), &self.planes)?;
+        let alloc = *self.planes.allocator();
+        if self.planes.len() <= 64 {
+            let words = words_of(alloc, numbers)?;
+            return self.with_words(from, &words);
+        }
+        let mut planes = copy_planes(alloc, &self.planes)?;
         put_numbers(&mut planes, from, numbers, self.vps);
         Ok(FieldValue {
             planes,
@@ -257,6 +292,24 @@ impl FieldValue {
         ensures { map bit result.now ≡ self.now.numbers }
     {
         &self.planes[0]
+    }
+
+    /// A copy with the low `bits` bits of the numbers that `other` holds where the mask is 1.
+    pub fn merged(&self, mask: &Plane, other: &[Plane], bits: u64) -> Result<FieldValue, AllocError>
+        requires room { bits ≤ self.now.width }
+        requires there { bits ≤ length other.now }
+        requires mask { length mask.now ≡ length self.now.numbers }
+        requires others { AllOf (length self.now.numbers) other.now }
+        ensures width { IfOk result (λ value. value.width ≡ self.now.width) }
+        ensures count { IfOk result (λ value. length value.numbers ≡ length self.now.numbers) }
+        ensures numbers { IfOk result (λ value. value.numbers ≡ stored (length self.now.numbers) (λ v. slice_index_or mask.now v false) (slice_index self.now.numbers) bits (number_at other.now)) }
+    {
+        let alloc = *self.planes.allocator();
+        let planes = merged_planes(alloc, mask, &self.planes, other, bits as usize)?;
+        Ok(FieldValue {
+            planes,
+            vps: self.vps,
+        })
     }
 
     /// Puts the low `bits` bits of the numbers that `other` holds where the mask is 1. Where it is 0 nothing changes.

@@ -3,13 +3,15 @@
 
 mod blocks;
 mod field;
+mod pairs;
 mod planes;
 mod shared;
 mod transpose;
 mod words;
 
-pub use blocks::{block_numbers, put_block};
+pub use blocks::{block_numbers, block_words, put_block, put_block_words};
 pub use field::FieldValue;
-pub use planes::{add_planes, copy_planes, merge_planes, zero_planes};
+pub use pairs::block_pairs;
+pub use planes::{chosen_planes, copy_planes, merge_planes, zero_planes};
 pub use shared::SharedValue;
 pub use transpose::transpose64;

@@ -4,7 +4,7 @@ ghost use Rattle.std.specs.Prelude.{◌≡◌, ◌≢◌, ◌↔◌, ℕ, ◌+�
 ghost use Rattle.paris_model.specs.Store.{low};
 ghost use Rattle.paris_field.specs.Numbers.{AllOf, bit_in, number_at, numbers};
 
-use paris_plane::{Plane, add_step};
+use paris_plane::Plane;
 use std::alloc::{AllocError, Global};
 
 /// `width` planes of zeros, for `vps` processors.
@@ -72,20 +72,51 @@ pub fn merge_planes(planes: &mut [Plane], mask: &Plane, other: &[Plane], bits: u
     }
 }
 
-/// Adds the numbers of `x`, `y` and `carry` into `sum`, and leaves in `carry` what is carried out.
-pub fn add_planes(x: &[Plane], y: &[Plane], carry: &mut Plane, sum: &mut [Plane])
-    requires xy { length x.now ≡ length y.now }
-    requires xs { length x.now ≡ length sum.old }
-    requires x_planes { AllOf (length carry.old) x.now }
-    requires y_planes { AllOf (length carry.old) y.now }
-    requires s_planes { AllOf (length carry.old) sum.old }
-    ensures long { length carry.new ≡ length carry.old }
-    ensures planes { AllOf (length carry.old) sum.new }
-    ensures exact { (v : ℕ) → v < length carry.old → number_at sum.new v + 2 ^ length x.now * bit_in carry.new v ≡ number_at x.now v + number_at y.now v + bit_in carry.old v }
+/// The numbers of `chosen` where the mask is 1, and those of `others` elsewhere.
+pub fn chosen_planes(
+    alloc: Global,
+    mask: &Plane,
+    chosen: &[Plane],
+    others: &[Plane],
+) -> Result<Vec<Plane>, AllocError>
+    requires same { length others.now ≡ length chosen.now }
+    requires chosen { AllOf (length mask.now) chosen.now }
+    requires others { AllOf (length mask.now) others.now }
+    ensures count { IfOk result (λ planes. length planes.items ≡ length others.now) }
+    ensures long { IfOk result (λ planes. AllOf (length mask.now) planes.items) }
+    ensures numbers { IfOk result (λ planes. (v : ℕ) → v < length mask.now → number_at planes.items v ≡ cond (slice_index_or mask.now v false) (number_at chosen.now v) (number_at others.now v)) }
 {
-    for k in 0..x.len() {
-        add_step(&x[k], &y[k], carry, &mut sum[k]);
+    let mut planes = Vec::with_capacity(alloc, others.len())?;
+    for k in 0..others.len() {
+        let plane = Plane::selected(alloc, mask, &chosen[k], &others[k])?;
+        planes.push(plane)?;
     }
+    Ok(planes)
+}
+
+/// The planes of `old`, of which the low `bits` have the bits of `new` where the mask is 1.
+pub(crate) fn merged_planes(
+    alloc: Global,
+    mask: &Plane,
+    old: &[Plane],
+    new: &[Plane],
+    bits: usize,
+) -> Result<Vec<Plane>, AllocError>
+    requires room { bits ≤ length old.now }
+    requires there { bits ≤ length new.now }
+    requires old { AllOf (length mask.now) old.now }
+    requires new { AllOf (length mask.now) new.now }
+    ensures count { IfOk result (λ planes. length planes.items ≡ length old.now) }
+    ensures long { IfOk result (λ planes. AllOf (length mask.now) planes.items) }
+    ensures low { IfOk result (λ planes. (v : ℕ) → v < length mask.now → number_at (take bits planes.items) v ≡ cond (slice_index_or mask.now v false) (number_at (take bits new.now) v) (number_at (take bits old.now) v)) }
+    ensures high { IfOk result (λ planes. drop bits planes.items ≡ drop bits old.now) }
+{
+    let mut planes = chosen_planes(alloc, mask, &new[..bits], &old[..bits])?;
+    let high = &old[bits..];
+    for plane in high {
+        planes.push(plane.copy()?)?;
+    }
+    Ok(planes)
 }
 
 /// Whether two lists of as many planes are the same plane by plane.
@@ -115,17 +146,25 @@ pub fn number_in(planes: &[Plane], v: usize, vps: usize) -> u128
     number
 }
 
-/// Puts a number into each of `vps` processors, as far as its bits have planes.
-pub(crate) fn fill_planes(planes: &mut [Plane], number: u128, vps: usize)
-    requires { AllOf vps planes.old }
-    ensures long { AllOf vps planes.new }
-    ensures numbers { (v : ℕ) → v < vps → number_at planes.new v ≡ low (length planes.old) number }
+/// `width` planes that hold a number in each of `vps` processors, as far as its bits have planes.
+pub(crate) fn constant_planes(
+    alloc: Global,
+    width: usize,
+    number: u128,
+    vps: usize,
+) -> Result<Vec<Plane>, AllocError>
+    ensures width { IfOk result (λ planes. length planes.items ≡ width) }
+    ensures long { IfOk result (λ planes. AllOf vps planes.items) }
+    ensures numbers { IfOk result (λ planes. (v : ℕ) → v < vps → number_at planes.items v ≡ low width number) }
 {
+    let mut planes = Vec::with_capacity(alloc, width)?;
     let mut rest = number;
-    for k in 0..planes.len() {
-        planes[k].fill(rest % 2 == 1);
+    for _ in 0..width {
+        let plane = Plane::filled(alloc, rest % 2 == 1, vps)?;
+        planes.push(plane)?;
         rest /= 2;
     }
+    Ok(planes)
 }
 
 /// Puts a number into processor `v` of `vps`, as far as its bits have planes.

@@ -1,6 +1,6 @@
-//! A square of 64 by 64 bits, turned about its diagonal.
+//! Squares of bits, turned about their diagonals: one of 64 by 64, or four of 16 by 16 side by side.
 
-ghost use Rattle.std.specs.Prelude.{◌≡◌, ℕ, ◌+◌, ◌-◌, ◌*◌, ◌/◌, ◌<◌, ◌≤◌, ◌==◌, cond, slice_index};
+ghost use Rattle.std.specs.Prelude.{◌≡◌, ℕ, ◌+◌, ◌-◌, ◌*◌, ◌/◌, ◌%◌, ◌<◌, ◌≤◌, ◌==◌, cond, slice_index};
 ghost use Rattle.paris_plane.specs.Bits.{word_bit};
 ghost use Rattle.paris_plane.specs.Digits.{MarksZeros, digit};
 ghost use Rattle.paris_field.specs.Square.{crossed};
@@ -9,22 +9,33 @@ ghost use Rattle.paris_field.specs.Square.{crossed};
 pub fn transpose64(rows: &mut [u64; 64])
     ensures { (j i : ℕ) → j < 64 → i < 64 → word_bit (slice_index rows.new j) i ≡ word_bit (slice_index rows.old i) j }
 {
-    exchange_digits::<32>(rows, 0x0000_0000_FFFF_FFFF);
-    exchange_digits::<16>(rows, 0x0000_FFFF_0000_FFFF);
-    exchange_digits::<8>(rows, 0x00FF_00FF_00FF_00FF);
-    exchange_digits::<4>(rows, 0x0F0F_0F0F_0F0F_0F0F);
-    exchange_digits::<2>(rows, 0x3333_3333_3333_3333);
-    exchange_digits::<1>(rows, 0x5555_5555_5555_5555);
+    exchange_digits::<32>(rows, 32, 0x0000_0000_FFFF_FFFF);
+    exchange_digits::<16>(rows, 32, 0x0000_FFFF_0000_FFFF);
+    exchange_digits::<8>(rows, 32, 0x00FF_00FF_00FF_00FF);
+    exchange_digits::<4>(rows, 32, 0x0F0F_0F0F_0F0F_0F0F);
+    exchange_digits::<2>(rows, 32, 0x3333_3333_3333_3333);
+    exchange_digits::<1>(rows, 32, 0x5555_5555_5555_5555);
 }
 
-/// Moves each bit to where the binary digits of weight `S` of its row and of its place are exchanged.
-fn exchange_digits<const S: usize>(rows: &mut [u64; 64], mask: u64)
-    requires shift { (0 < S) × (S < 64) }
-    requires blocks { 32 / S * S ≡ 32 }
-    requires mask { MarksZeros S mask }
-    ensures { (j i : ℕ) → j < 64 → i < 64 → word_bit (slice_index rows.new j) i ≡ word_bit (slice_index rows.old (crossed S j i)) (crossed S i j) }
+/// Turns four squares of 16 by 16 bits, which lie side by side in the first 16 words, each about its own diagonal.
+pub(crate) fn transpose16(rows: &mut [u64; 64])
+    ensures { (j i : ℕ) → j < 16 → i < 64 → word_bit (slice_index rows.new j) i ≡ word_bit (slice_index rows.old (i % 16)) (i / 16 * 16 + j) }
 {
-    for block in 0..32 / S {
+    exchange_digits::<8>(rows, 8, 0x00FF_00FF_00FF_00FF);
+    exchange_digits::<4>(rows, 8, 0x0F0F_0F0F_0F0F_0F0F);
+    exchange_digits::<2>(rows, 8, 0x3333_3333_3333_3333);
+    exchange_digits::<1>(rows, 8, 0x5555_5555_5555_5555);
+}
+
+/// In the first `2 * half` rows, moves each bit to where the binary digits of weight `S` of its row and of its place are exchanged.
+fn exchange_digits<const S: usize>(rows: &mut [u64; 64], half: usize, mask: u64)
+    requires shift { (0 < S) × (S < 64) }
+    requires blocks { half / S * S ≡ half }
+    requires within { half ≤ 32 }
+    requires mask { MarksZeros S mask }
+    ensures { (j i : ℕ) → j < 2 * half → i < 64 → word_bit (slice_index rows.new j) i ≡ word_bit (slice_index rows.old (crossed S j i)) (crossed S i j) }
+{
+    for block in 0..half / S {
         exchange_block::<S>(rows, 2 * S * block, mask);
     }
 }

@@ -1,13 +1,15 @@
 //! Numbers of one word each, put into the planes of some processors.
 
-ghost use Rattle.std.specs.Prelude.{◌≡◌, ◌≢◌, ℕ, ◌+◌, ◌*◌, ◌/◌, ◌%◌, ◌^◌, ◌<◌, ◌≤◌, false, length, min, slice_index, slice_index_or};
+ghost use Rattle.std.specs.Prelude.{◌≡◌, ◌≢◌, ℕ, ◌+◌, ◌*◌, ◌/◌, ◌%◌, ◌^◌, ◌<◌, ◌≤◌, IfOk, false, length, min, slice_index, slice_index_or};
 ghost use Rattle.paris_model.specs.Store.{low};
 ghost use Rattle.paris_plane.specs.Bits.{word_bit};
+ghost use Rattle.paris_field.specs.Fields.{AllFit};
 ghost use Rattle.paris_field.specs.Numbers.{AllOf, number_at, plane_at};
 
 use crate::blocks::put_rows;
 use crate::planes::put_number;
 use paris_plane::Plane;
+use std::alloc::{AllocError, Global};
 
 /// The first 64 words, with zeros past the last.
 fn first_words(words: &[u64]) -> [u64; 64]
@@ -98,4 +100,16 @@ pub(crate) fn put_words_from(planes: &mut [Plane], from: usize, words: &[u64], v
     for block in from / 64..(from + words.len()).div_ceil(64) {
         put_in_block(planes, from, words, block, vps);
     }
+}
+
+/// Numbers below `2 ^ 64` as words.
+pub(crate) fn words_of(alloc: Global, numbers: &[u128]) -> Result<Vec<u64>, AllocError>
+    requires { AllFit 64 numbers.now }
+    ensures { IfOk result (λ words. words.items ≡ numbers.now) }
+{
+    let mut words = Vec::with_capacity(alloc, numbers.len())?;
+    for number in numbers {
+        words.push(*number as u64)?;
+    }
+    Ok(words)
 }

@@ -1,3 +1,4 @@
+pub mod Outcomes
 pub mod Rows
 pub mod Signs
 pub mod Turned

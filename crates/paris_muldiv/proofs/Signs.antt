@@ -1,5 +1,5 @@
 -- Products in two's complement, by absolute values.
-use Rattle.std.proofs.Common.{◌≡◌, ◌≤◌, ℕ, zero, suc, ◌+◌, ◌-◌, ◌*◌, ◌%◌, ◌^◌, ◌<◌, ℤ, pos, negsuc, ◌*ℤ◌, Bool, true, false, cond, refl, arith, ◌∙◌, sym, ap, leb, ltb, inl, inr}
+use Rattle.std.proofs.Common.{◌≡◌, ◌≤◌, ℕ, zero, suc, ◌+◌, ◌-◌, ◌*◌, ◌%◌, ◌^◌, ◌<◌, ℤ, pos, negsuc, ◌*ℤ◌, Bool, true, false, cond, not, refl, arith, ◌∙◌, sym, ap, leb, ltb, inl, inr}
 use Rattle.std.specs.Prelude.{unsigned_abs}
 use mathlib.Core.Bool.{beq}
 use Rattle.std.proofs.Math.IntN.{neg_ℤ}
@@ -8,6 +8,7 @@ use Rattle.std.proofs.lemmas.Bool.{cases_lt}
 use Rattle.std.proofs.lemmas.Bool.Decides.{nat_tests}
 use Rattle.std.proofs.lemmas.Nat.{pow_pos, mod_below}
 use Rattle.paris_model.specs.Store.{low, signed, low_signed, is_outside_signed}
+use Rattle.paris_plane.specs.Bits.{differ}
 use Rattle.paris_muldiv.proofs.Wholes.{low_of_whole, none_of_whole}
 
 abbrev is_below_zero : ℤ → Bool
@@ -66,30 +67,30 @@ pub outside_unlike : (L p : ℕ) → leb (2 ^ (L - 1) + 1) p ≡ is_outside_sign
 outside_unlike L zero = grind (arith, nat_tests, pow_pos (L - 1))
 outside_unlike L (suc q) = grind (arith, nat_tests)
 
--- what the low 128 bits of the absolute values' product say
-pub alike_value : (L x y n high : ℕ) → L ≤ 128 → n < 2 ^ 128 → n + 2 ^ 128 * high ≡ unsigned_abs (signed L x) * unsigned_abs (signed L y) → leb (2 ^ (L - 1)) x ≡ leb (2 ^ (L - 1)) y → low L n ≡ low L (low_signed L (signed L x *ℤ signed L y))
-alike_value L x y n high narrow fits whole signs =
+-- what the low W bits of the absolute values' product say, and the whole of it
+pub alike_value : (W L x y n high : ℕ) → L ≤ W → n < 2 ^ W → n + 2 ^ W * high ≡ unsigned_abs (signed L x) * unsigned_abs (signed L y) → leb (2 ^ (L - 1)) x ≡ leb (2 ^ (L - 1)) y → low L n ≡ low L (low_signed L (signed L x *ℤ signed L y))
+alike_value W L x y n high narrow fits whole signs =
     let p : ℕ = unsigned_abs (signed L x) * unsigned_abs (signed L y) in
-    low_of_whole L n high p narrow fits whole ∙ sym (mod-mod p (2 ^ L))
+    low_of_whole W L n high p narrow fits whole ∙ sym (mod-mod p (2 ^ L))
     ∙ sym (ap (λ z. low L (low_signed L z)) (product_alike (signed L x) (signed L y) (sign_is L x ∙ signs ∙ sym (sign_is L y))))
 
-pub alike_overflow : (L x y n high : ℕ) (r : Bool) → n + 2 ^ 128 * high ≡ unsigned_abs (signed L x) * unsigned_abs (signed L y) → leb (2 ^ (L - 1)) x ≡ leb (2 ^ (L - 1)) y → r ≡ leb (2 ^ (L - 1)) (n + 2 ^ 128 * high) → r ≡ is_outside_signed L (signed L x *ℤ signed L y)
-alike_overflow L x y n high r whole signs is =
+pub alike_overflow : (L x y m : ℕ) (r : Bool) → m ≡ unsigned_abs (signed L x) * unsigned_abs (signed L y) → leb (2 ^ (L - 1)) x ≡ leb (2 ^ (L - 1)) y → r ≡ leb (2 ^ (L - 1)) m → r ≡ is_outside_signed L (signed L x *ℤ signed L y)
+alike_overflow L x y m r whole signs is =
     is ∙ ap (leb (2 ^ (L - 1))) whole
     ∙ sym (ap (is_outside_signed L) (product_alike (signed L x) (signed L y) (sign_is L x ∙ signs ∙ sym (sign_is L y))))
 
 pub unlike_signs : (L x y : ℕ) → leb (2 ^ (L - 1)) x ≡ cond (leb (2 ^ (L - 1)) y) false true → is_below_zero (signed L x) ≡ cond (is_below_zero (signed L y)) false true
 unlike_signs L x y signs = sign_is L x ∙ signs ∙ sym (ap (λ b. cond b false true) (sign_is L y))
 
-pub unlike_value : (L x y n r high : ℕ) → L ≤ 128 → n + 2 ^ 128 * high ≡ unsigned_abs (signed L x) * unsigned_abs (signed L y) → leb (2 ^ (L - 1)) x ≡ cond (leb (2 ^ (L - 1)) y) false true → (r + n) % 2 ^ 128 ≡ 0 → low L r ≡ low L (low_signed L (signed L x *ℤ signed L y))
-unlike_value L x y n r high narrow whole signs none =
+pub unlike_value : (W L x y n r high : ℕ) → L ≤ W → n + 2 ^ W * high ≡ unsigned_abs (signed L x) * unsigned_abs (signed L y) → leb (2 ^ (L - 1)) x ≡ cond (leb (2 ^ (L - 1)) y) false true → (r + n) % 2 ^ W ≡ 0 → low L r ≡ low L (low_signed L (signed L x *ℤ signed L y))
+unlike_value W L x y n r high narrow whole signs none =
     let p : ℕ = unsigned_abs (signed L x) * unsigned_abs (signed L y) in
-    let sum : (r + p) % 2 ^ 128 ≡ 0 = ap (λ t. t % 2 ^ 128) (omega (arith, whole)) ∙ add-mul-mod_self_left (r + n) (2 ^ 128) high ∙ none in
-    opposite_low L r p (none_of_whole L (r + p) narrow sum)
+    let sum : (r + p) % 2 ^ W ≡ 0 = ap (λ t. t % 2 ^ W) (omega (arith, whole)) ∙ add-mul-mod_self_left (r + n) (2 ^ W) high ∙ none in
+    opposite_low L r p (none_of_whole W L (r + p) narrow sum)
     ∙ sym (ap (λ z. low L (low_signed L z)) (product_unlike (signed L x) (signed L y) (unlike_signs L x y signs)))
 
-pub unlike_overflow : (L x y n high : ℕ) (r : Bool) → n + 2 ^ 128 * high ≡ unsigned_abs (signed L x) * unsigned_abs (signed L y) → leb (2 ^ (L - 1)) x ≡ cond (leb (2 ^ (L - 1)) y) false true → r ≡ leb (2 ^ (L - 1) + 1) (n + 2 ^ 128 * high) → r ≡ is_outside_signed L (signed L x *ℤ signed L y)
-unlike_overflow L x y n high r whole signs is =
+pub unlike_overflow : (L x y m : ℕ) (r : Bool) → m ≡ unsigned_abs (signed L x) * unsigned_abs (signed L y) → leb (2 ^ (L - 1)) x ≡ cond (leb (2 ^ (L - 1)) y) false true → r ≡ leb (2 ^ (L - 1) + 1) m → r ≡ is_outside_signed L (signed L x *ℤ signed L y)
+unlike_overflow L x y m r whole signs is =
     is ∙ ap (leb (2 ^ (L - 1) + 1)) whole ∙ outside_unlike L (unsigned_abs (signed L x) * unsigned_abs (signed L y))
     ∙ sym (ap (is_outside_signed L) (product_unlike (signed L x) (signed L y) (unlike_signs L x y signs)))
 
@@ -105,3 +106,35 @@ unlike_flags true true e = grind (arith, e)
 unlike_flags true false e = refl
 unlike_flags false true e = refl
 unlike_flags false false e = grind (arith, e)
+
+pub unlike_of : (a c : Bool) → true ≡ differ a c → a ≡ cond c false true
+unlike_of true true e = grind (arith, e)
+unlike_of true false e = refl
+unlike_of false true e = refl
+unlike_of false false e = grind (arith, e)
+
+pub alike_of : (a c : Bool) → false ≡ differ a c → a ≡ c
+alike_of true true e = refl
+alike_of true false e = grind (arith, e)
+alike_of false true e = grind (arith, e)
+alike_of false false e = refl
+
+pub unlike_test : (a b : Bool) → not (beq a b) ≡ differ a b
+unlike_test true true = refl
+unlike_test true false = refl
+unlike_test false true = refl
+unlike_test false false = refl
+
+-- the low word of the product r, by n of the absolute values' product, and whether it overflows, by the whole of that and the least
+-- that does
+pub word_value : (L x y n r high : ℕ) (b : Bool) → L ≤ 64 → n < 2 ^ 64 → n + 2 ^ 64 * high ≡ unsigned_abs (signed L x) * unsigned_abs (signed L y) → b ≡ differ (leb (2 ^ (L - 1)) x) (leb (2 ^ (L - 1)) y) → (b ≡ false → r ≡ n) → (b ≡ true → (r + n) % 2 ^ 64 ≡ 0) → low L r ≡ low L (low_signed L (signed L x *ℤ signed L y))
+word_value L x y n r high true narrow fits whole signs same opposite =
+    unlike_value 64 L x y n r high narrow whole (unlike_of _ _ signs) (opposite refl)
+word_value L x y n r high false narrow fits whole signs same opposite =
+    ap (low L) (same refl) ∙ alike_value 64 L x y n high narrow fits whole (alike_of _ _ signs)
+
+pub word_overflow : (L x y m least : ℕ) (b r : Bool) → m ≡ unsigned_abs (signed L x) * unsigned_abs (signed L y) → b ≡ differ (leb (2 ^ (L - 1)) x) (leb (2 ^ (L - 1)) y) → least ≡ cond b (2 ^ (L - 1) + 1) (2 ^ (L - 1)) → r ≡ leb least m → r ≡ is_outside_signed L (signed L x *ℤ signed L y)
+word_overflow L x y m least true r whole signs limit is =
+    unlike_overflow L x y m r whole (unlike_of _ _ signs) (is ∙ ap (λ h. leb h m) limit)
+word_overflow L x y m least false r whole signs limit is =
+    alike_overflow L x y m r whole (alike_of _ _ signs) (is ∙ ap (λ h. leb h m) limit)

@@ -19,7 +19,7 @@ use Rattle.paris_field.proofs.Places.{bits_same, everywhere_same, get_or-bits_ev
 use Rattle.paris_alu.specs.Alu.{binary_field, overflow_plane, unary_field, unary_overflow_plane}
 use Rattle.paris_alu.proofs.Signs.{pow_half}
 use Rattle.paris_muldiv.specs.Products.{absolute_field, least_plane, opposite_field, unlike_plane}
-use Rattle.paris_muldiv.proofs.Signs.{sign_is, product_alike, product_unlike, opposite_low, outside_unlike, unlike_signs}
+use Rattle.paris_muldiv.proofs.Signs.{alike_of, unlike_of, sign_is, product_alike, product_unlike, opposite_low, outside_unlike, unlike_signs}
 
 -- a value by its two parts
 made : ℕ → List ℕ → FieldNumbers
@@ -64,19 +64,6 @@ absolute_of h m x false some below is = mod-eq_of_lt below ∙ grind (arith, nat
 pub turned_absolute : (L x : ℕ) (b : Bool) → x < 2 ^ L → b ≡ leb (2 ^ (L - 1)) x → low L (cond b (2 ^ L - x) x) ≡ unsigned_abs (signed L x)
 turned_absolute L x b below is =
     absolute_of (2 ^ (L - 1)) (2 ^ L) x b (pow_pos (L - 1)) below is ∙ sym (absolute_by_test (ltb x (2 ^ (L - 1))) x (2 ^ L - 1 - x))
-
--- the signs of two numbers
-unlike_of : (a c : Bool) → true ≡ differ a c → a ≡ cond c false true
-unlike_of true true e = grind (arith, e)
-unlike_of true false e = refl
-unlike_of false true e = refl
-unlike_of false false e = grind (arith, e)
-
-alike_of : (a c : Bool) → false ≡ differ a c → a ≡ c
-alike_of true true e = refl
-alike_of true false e = grind (arith, e)
-alike_of false true e = grind (arith, e)
-alike_of false false e = refl
 
 -- the low bits of a signed product
 comes_to_none : (m p : ℕ) → 0 < m → (m - p % m + p) % m ≡ 0

@@ -7,6 +7,7 @@ mod planes;
 mod products;
 mod quotients;
 mod signed_planes;
+mod words;
 
 pub use products::multiply;
 pub use quotients::{remainder, truncate};

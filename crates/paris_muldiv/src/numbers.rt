@@ -6,6 +6,11 @@ ghost use Rattle.paris_model.specs.declared.operators.BinaryOperator.TheVariants
 ghost use Rattle.paris_model.specs.Elementwise.{binary_overflow, binary_result};
 ghost use Rattle.paris_model.specs.Store.{low, signed};
 
+use crate::words::{
+    absolute_word, have_unlike_signs, is_word_wide, least_outside, signed_word, word_product,
+    word_reaches,
+};
+
 /// One more than the greatest word.
 const WORD: u128 = 1 << 64;
 
@@ -16,6 +21,15 @@ pub(crate) trait NumberOp {
     fn apply(bits: u64, x: u128, y: u128) -> (u128, bool)
         requires positive { 0 < bits }
         requires narrow { bits ≤ 128 }
+        requires x_fits { x < 2 ^ bits }
+        requires y_fits { y < 2 ^ bits }
+        ensures value { low bits result.0 ≡ low bits (binary_result operator bits x y 0 0) }
+        ensures overflow { result.1 ≡ binary_overflow operator bits x y 0 };
+
+    /// The same, where each number fits a word.
+    fn apply_words(bits: u64, x: u64, y: u64) -> (u64, bool)
+        requires positive { 0 < bits }
+        requires narrow { bits ≤ 64 }
         requires x_fits { x < 2 ^ bits }
         requires y_fits { y < 2 ^ bits }
         ensures value { low bits result.0 ≡ low bits (binary_result operator bits x y 0 0) }
@@ -108,6 +122,11 @@ impl NumberOp for UnsignedProduct {
         let (low, high) = whole_product(x, y);
         (low, is_wide(low, high, bits))
     }
+
+    fn apply_words(bits: u64, x: u64, y: u64) -> (u64, bool) {
+        let (low, high) = word_product(x, y);
+        (low, is_word_wide(low, high, bits))
+    }
 }
 
 /// Products of numbers in two's complement.
@@ -124,6 +143,13 @@ impl NumberOp for SignedProduct {
         } else {
             (low.wrapping_neg(), reaches(low, high, half + 1))
         }
+    }
+
+    fn apply_words(bits: u64, x: u64, y: u64) -> (u64, bool) {
+        let unlike = have_unlike_signs(bits, x, y);
+        let (low, high) = word_product(absolute_word(bits, x), absolute_word(bits, y));
+        let overflows = word_reaches(low, high, least_outside(bits, unlike));
+        (signed_word(low, unlike), overflows)
     }
 }
 
@@ -164,6 +190,10 @@ impl NumberOp for UnsignedQuotient {
             (quotient(x, y), false)
         }
     }
+
+    fn apply_words(bits: u64, x: u64, y: u64) -> (u64, bool) {
+        if y == 0 { (0, true) } else { (x / y, false) }
+    }
 }
 
 /// Remainders of unsigned numbers.
@@ -178,5 +208,9 @@ impl NumberOp for UnsignedRest {
         } else {
             (rest(x, y), false)
         }
+    }
+
+    fn apply_words(bits: u64, x: u64, y: u64) -> (u64, bool) {
+        if y == 0 { (0, true) } else { (x % y, false) }
     }
 }

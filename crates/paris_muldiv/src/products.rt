@@ -16,9 +16,9 @@ use std::alloc::{AllocError, Global};
 
 /// The most bits at which products are made plane by plane. With more of them a turn to numbers is faster.
 ///
-/// For 65,536 processors, on planes and by numbers, unsigned ones took 0.08 and 1.15 ms at 8 bits, 1.05 and 1.39 ms at 32, and 2.6
-/// and 1.7 ms at 48; signed ones 0.11 and 1.97 ms at 8 bits, 1.34 and 2.21 ms at 32, and 2.9 and 2.5 ms at 48.
-const PLANE_BITS: u64 = 32;
+/// For 65,536 processors, on planes and by numbers, unsigned ones took 0.27 and 0.39 ms at 16 bits, 0.41 and 0.42 ms at 20, and 0.59
+/// and 0.44 ms at 24; signed ones 0.36 and 0.58 ms at 16 bits, 0.56 and 0.60 ms at 20, and 0.74 and 0.63 ms at 24.
+const PLANE_BITS: u64 = 20;
 
 /// The low `bits` bits of the products of unsigned numbers, and where the whole product needs more.
 fn unsigned_products(

@@ -1,11 +1,12 @@
 //! Loops over words: four at a time by lanes, and the words that are left one by one.
 
-ghost use Rattle.std.specs.Prelude.{◌≡◌, ◌↔◌, ◌≤◌, IsTrue, ℕ, ◌<◌, ◌^◌, ◌-◌, ◌+◌, ◌*◌, Bool, cond, ◌&&◌, ◌||◌, length, slice_index, bit_and};
+ghost use Rattle.std.specs.Prelude.{◌≡◌, ◌↔◌, ◌≤◌, IfOk, IsTrue, ℕ, ◌<◌, ◌^◌, ◌-◌, ◌+◌, ◌*◌, Bool, cond, ◌&&◌, ◌||◌, length, slice_index, bit_and};
 ghost use Rattle.std.specs.Int.Bits.{bit_or, bit_xor};
 ghost use Rattle.std.specs.Simd.Lanes.{zip2};
 ghost use Rattle.paris_plane.specs.Bits.{word_bit, ByBit, ByBit3, borrow_bit, borrow_word, carry_word, differ, sum_word};
 ghost use Rattle.paris_plane.specs.Laws.{and_by_bit, borrow_by_bit, or_by_bit, xor_by_bit, select_by_bit};
 
+use std::alloc::{AllocError, Global};
 use std::simd::prelude::*;
 
 /// An operation on two words that does the same to each two bits. `Plane::put` runs it over planes.
@@ -179,35 +180,6 @@ pub fn put_triples<O: TripleOp>(xs: &mut [u64], ys: &[u64], zs: &[u64])
     }
 }
 
-/// One step of an addition of numbers whose bits lie in planes: the sums of `xs`, `ys` and `carry` into `sum`, which is
-/// written over, and what they carry into `carry`.
-pub fn add_words(xs: &[u64], ys: &[u64], carry: &mut [u64], sum: &mut [u64])
-    requires xy { length xs.now ≡ length ys.now }
-    requires xc { length xs.now ≡ length carry.old }
-    requires xd { length xs.now ≡ length sum.old }
-    ensures sums { (i : ℕ) → i < length xs.now → slice_index sum.new i ≡ sum_word (slice_index xs.now i) (slice_index ys.now i) (slice_index carry.old i) }
-    ensures carries { (i : ℕ) → i < length xs.now → slice_index carry.new i ≡ carry_word (slice_index xs.now i) (slice_index ys.now i) (slice_index carry.old i) }
-{
-    let whole = xs.len() / 4;
-    for k in 0..whole {
-        let at = 4 * k;
-        let x = u64x4::from_slice(&xs[at..]);
-        let y = u64x4::from_slice(&ys[at..]);
-        let c = u64x4::from_slice(&carry[at..]);
-        let t = x ^ y;
-        (t ^ c).copy_to_slice(&mut sum[at..]);
-        ((x & y) | (t & c)).copy_to_slice(&mut carry[at..]);
-    }
-    for i in 4 * whole..xs.len() {
-        let x = xs[i];
-        let y = ys[i];
-        let c = carry[i];
-        let t = x ^ y;
-        sum[i] = t ^ c;
-        carry[i] = (x & y) | (t & c);
-    }
-}
-
 /// One step of an addition in place: the sums of `xs`, `sum` and `carry` into `sum`, and what they carry into `carry`.
 pub(crate) fn accumulate_words(xs: &[u64], sum: &mut [u64], carry: &mut [u64])
     requires xs { length xs.now ≡ length sum.old }
@@ -232,35 +204,6 @@ pub(crate) fn accumulate_words(xs: &[u64], sum: &mut [u64], carry: &mut [u64])
         let t = x ^ s;
         sum[i] = t ^ c;
         carry[i] = (x & s) | (t & c);
-    }
-}
-
-/// One step of a subtraction of numbers whose bits lie in planes: what is left of `xs` without `ys` and `borrow` into
-/// `difference`, which is written over, and what they borrow into `borrow`.
-pub fn subtract_words(xs: &[u64], ys: &[u64], borrow: &mut [u64], difference: &mut [u64])
-    requires xy { length xs.now ≡ length ys.now }
-    requires xc { length xs.now ≡ length borrow.old }
-    requires xd { length xs.now ≡ length difference.old }
-    ensures differences { (i : ℕ) → i < length xs.now → slice_index difference.new i ≡ sum_word (slice_index xs.now i) (slice_index ys.now i) (slice_index borrow.old i) }
-    ensures borrows { (i : ℕ) → i < length xs.now → slice_index borrow.new i ≡ borrow_word (slice_index borrow.old i) (slice_index xs.now i) (slice_index ys.now i) }
-{
-    let whole = xs.len() / 4;
-    for k in 0..whole {
-        let at = 4 * k;
-        let x = u64x4::from_slice(&xs[at..]);
-        let y = u64x4::from_slice(&ys[at..]);
-        let b = u64x4::from_slice(&borrow[at..]);
-        let t = x ^ y;
-        (t ^ b).copy_to_slice(&mut difference[at..]);
-        (b ^ ((b ^ y) & t)).copy_to_slice(&mut borrow[at..]);
-    }
-    for i in 4 * whole..xs.len() {
-        let x = xs[i];
-        let y = ys[i];
-        let b = borrow[i];
-        let t = x ^ y;
-        difference[i] = t ^ b;
-        borrow[i] = b ^ ((b ^ y) & t);
     }
 }
 
@@ -323,12 +266,132 @@ fn stripe_word(k: u32, block: usize) -> u64
     }
 }
 
-/// Writes bit `k` of each place's number into the place.
-pub(crate) fn fill_stripes(xs: &mut [u64], k: u32)
+/// So many new words, in which each place has bit `k` of its number.
+pub(crate) fn many_stripes(alloc: Global, k: u32, count: usize) -> Result<Vec<u64>, AllocError>
     requires { k < 64 }
-    ensures { (i j : ℕ) → i < length xs.old → j < 64 → word_bit (slice_index xs.new i) j ≡ word_bit (64 * i + j) k }
+    ensures count { IfOk result (λ made. length made.items ≡ count) }
+    ensures words { IfOk result (λ made. (i j : ℕ) → i < count → j < 64 → word_bit (slice_index made.items i) j ≡ word_bit (64 * i + j) k) }
+{
+    let mut made = Vec::with_capacity(alloc, count)?;
+    for i in 0..count {
+        made.push_reserved(stripe_word(k, i));
+    }
+    Ok(made)
+}
+
+/// What the operation makes of each two words, in new words.
+pub(crate) fn many_words<O: WordOp>(
+    alloc: Global,
+    xs: &[u64],
+    ys: &[u64],
+) -> Result<Vec<u64>, AllocError>
+    requires { length xs.now ≡ length ys.now }
+    ensures count { IfOk result (λ made. length made.items ≡ length xs.now) }
+    ensures words { IfOk result (λ made. (i : ℕ) → i < length xs.now → slice_index made.items i ≡ O.op (slice_index xs.now i) (slice_index ys.now i)) }
+{
+    let count = xs.len();
+    let mut made = Vec::with_capacity(alloc, count)?;
+    for i in 0..count {
+        made.push_reserved(O::word(xs[i], ys[i]));
+    }
+    Ok(made)
+}
+
+/// What the operation makes of each three words, in new words.
+pub(crate) fn many_triples<O: TripleOp>(
+    alloc: Global,
+    xs: &[u64],
+    ys: &[u64],
+    zs: &[u64],
+) -> Result<Vec<u64>, AllocError>
+    requires xy { length xs.now ≡ length ys.now }
+    requires xz { length xs.now ≡ length zs.now }
+    ensures count { IfOk result (λ made. length made.items ≡ length xs.now) }
+    ensures words { IfOk result (λ made. (i : ℕ) → i < length xs.now → slice_index made.items i ≡ O.op (slice_index xs.now i) (slice_index ys.now i) (slice_index zs.now i)) }
+{
+    let count = xs.len();
+    let mut made = Vec::with_capacity(alloc, count)?;
+    for i in 0..count {
+        made.push_reserved(O::word(xs[i], ys[i], zs[i]));
+    }
+    Ok(made)
+}
+
+/// Each word with every bit turned, in new words.
+pub(crate) fn many_inverted(alloc: Global, xs: &[u64]) -> Result<Vec<u64>, AllocError>
+    ensures count { IfOk result (λ made. length made.items ≡ length xs.now) }
+    ensures words { IfOk result (λ made. (i : ℕ) → i < length xs.now → slice_index made.items i ≡ bit_xor (slice_index xs.now i) (2 ^ 64 - 1)) }
+{
+    let count = xs.len();
+    let mut made = Vec::with_capacity(alloc, count)?;
+    for i in 0..count {
+        made.push_reserved(xs[i] ^ u64::MAX);
+    }
+    Ok(made)
+}
+
+/// One step of an addition of numbers whose bits lie in planes: the sums of `xs`, `ys` and `carry` in new words, and what they
+/// carry in `carry`.
+pub(crate) fn many_sums(
+    alloc: Global,
+    xs: &[u64],
+    ys: &[u64],
+    carry: &mut [u64],
+) -> Result<Vec<u64>, AllocError>
+    requires xy { length xs.now ≡ length ys.now }
+    requires xc { length xs.now ≡ length carry.old }
+    ensures count { IfOk result (λ sum. length sum.items ≡ length xs.now) }
+    ensures sums { IfOk result (λ sum. (i : ℕ) → i < length xs.now → slice_index sum.items i ≡ sum_word (slice_index xs.now i) (slice_index ys.now i) (slice_index carry.old i)) }
+    ensures carries { IfOk result (λ _. (i : ℕ) → i < length xs.now → slice_index carry.new i ≡ carry_word (slice_index xs.now i) (slice_index ys.now i) (slice_index carry.old i)) }
+{
+    let count = xs.len();
+    let mut sum = Vec::with_capacity(alloc, count)?;
+    for i in 0..count {
+        let x = xs[i];
+        let y = ys[i];
+        let c = carry[i];
+        let t = x ^ y;
+        sum.push_reserved(t ^ c);
+        carry[i] = (x & y) | (t & c);
+    }
+    Ok(sum)
+}
+
+/// One step of a subtraction of numbers whose bits lie in planes: what is left of `xs` without `ys` and `borrow` in new words, and
+/// what they borrow in `borrow`.
+pub(crate) fn many_differences(
+    alloc: Global,
+    xs: &[u64],
+    ys: &[u64],
+    borrow: &mut [u64],
+) -> Result<Vec<u64>, AllocError>
+    requires xy { length xs.now ≡ length ys.now }
+    requires xc { length xs.now ≡ length borrow.old }
+    ensures count { IfOk result (λ difference. length difference.items ≡ length xs.now) }
+    ensures differences { IfOk result (λ difference. (i : ℕ) → i < length xs.now → slice_index difference.items i ≡ sum_word (slice_index xs.now i) (slice_index ys.now i) (slice_index borrow.old i)) }
+    ensures borrows { IfOk result (λ _. (i : ℕ) → i < length xs.now → slice_index borrow.new i ≡ borrow_word (slice_index borrow.old i) (slice_index xs.now i) (slice_index ys.now i)) }
+{
+    let count = xs.len();
+    let mut difference = Vec::with_capacity(alloc, count)?;
+    for i in 0..count {
+        let x = xs[i];
+        let y = ys[i];
+        let b = borrow[i];
+        let t = x ^ y;
+        difference.push_reserved(t ^ b);
+        borrow[i] = b ^ ((b ^ y) & t);
+    }
+    Ok(difference)
+}
+
+/// Whether each word is all ones.
+pub(crate) fn are_full(xs: &[u64]) -> bool
+    ensures { IsTrue result → (i : ℕ) → i < length xs.now → slice_index xs.now i ≡ 2 ^ 64 - 1 }
 {
     for i in 0..xs.len() {
-        xs[i] = stripe_word(k, i);
+        if xs[i] != u64::MAX {
+            return false;
+        }
     }
+    true
 }

@@ -2,10 +2,12 @@
 #![tactic(auto)]
 
 mod exchange;
+mod few;
 mod kernel;
 mod moves;
 mod plane;
 mod turns;
+mod words;
 
 pub use kernel::{And, Borrow, Or, Select, TripleOp, WordOp, Xor};
-pub use plane::{Plane, accumulate_step, add_step, subtract_step};
+pub use plane::{Plane, accumulate_step};

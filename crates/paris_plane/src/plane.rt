@@ -8,11 +8,15 @@ ghost use Rattle.paris_plane.specs.Digits.{digit};
 
 use crate::exchange::exchange_words;
 use crate::kernel::{
-    And, Or, Select, TripleOp, WordOp, Xor, accumulate_words, add_words, fill_stripes,
-    invert_words, put_triples, put_words, same_words, subtract_words,
+    And, Or, Select, TripleOp, WordOp, Xor, accumulate_words, are_full, invert_words, put_triples,
+    put_words, same_words,
 };
 use crate::moves::{lower_words, raise_words};
 use crate::turns::{turn_down_words, turn_up_words};
+use crate::words::{
+    Words, copied_words, difference_words, filled_words, new_inverted, new_triples, new_words,
+    stripe_words, sum_words,
+};
 use std::alloc::{AllocError, Global};
 use std::marker::Model;
 
@@ -22,20 +26,20 @@ use std::marker::Model;
 /// at any value, and no contract speaks of them.
 #[derive(Debug, Drop)]
 pub struct Plane {
-    words: Vec<u64>,
+    words: Words,
     len: usize,
 }
 
 impl Model for Plane {
     ghost use Rattle.std.specs.Prelude.{List, Bool, ◌≡◌};
-    ghost use Rattle.std.specs.Vec.{vec_len};
+    ghost use Rattle.smallvec.specs.SmallVec.{small_vec_len};
     ghost use Rattle.paris_plane.specs.Bits.{bits, words_for};
 
     ghost Value = { List Bool };
 
     ghost view = { λ p. bits p.len p.words.items };
 
-    ghost invariant = { λ p. vec_len p.words ≡ words_for p.len };
+    ghost invariant = { λ p. small_vec_len p.words ≡ words_for p.len };
 }
 
 /// The words that hold `len` bits.
@@ -50,7 +54,7 @@ impl Plane {
     pub fn zeros(alloc: Global, len: usize) -> Result<Plane, AllocError>
         ensures { IfOk result (λ p. p ≡ replicate len false) }
     {
-        let words = Vec::from_elem(alloc, 0u64, words_needed(len))?;
+        let words = filled_words(alloc, 0, words_needed(len))?;
         Ok(Plane { words, len })
     }
 
@@ -58,8 +62,19 @@ impl Plane {
     pub fn ones(alloc: Global, len: usize) -> Result<Plane, AllocError>
         ensures { IfOk result (λ p. p ≡ replicate len true) }
     {
-        let words = Vec::from_elem(alloc, u64::MAX, words_needed(len))?;
+        let words = filled_words(alloc, u64::MAX, words_needed(len))?;
         Ok(Plane { words, len })
+    }
+
+    /// A plane of `len` bits that are all the same. Fails only for want of memory.
+    pub fn filled(alloc: Global, bit: bool, len: usize) -> Result<Plane, AllocError>
+        ensures { IfOk result (λ p. p ≡ replicate len bit) }
+    {
+        if bit {
+            Plane::ones(alloc, len)
+        } else {
+            Plane::zeros(alloc, len)
+        }
     }
 
     /// A plane of `len` bits, of which that of each processor is bit `k` of its own number. Fails only for want of memory.
@@ -67,8 +82,7 @@ impl Plane {
         requires { k < 64 }
         ensures { IfOk result (λ p. p ≡ stripes k len) }
     {
-        let mut words = Vec::from_elem(alloc, 0u64, words_needed(len))?;
-        fill_stripes(&mut words, k);
+        let words = stripe_words(alloc, k, words_needed(len))?;
         Ok(Plane { words, len })
     }
 
@@ -76,11 +90,102 @@ impl Plane {
     pub fn copy(&self) -> Result<Plane, AllocError>
         ensures { IfOk result (λ p. p ≡ self.now) }
     {
-        let words = self.words.clone()?;
+        let words = copied_words(*self.words.allocator(), &self.words)?;
         Ok(Plane {
             words,
             len: self.len,
         })
+    }
+
+    /// What the operation makes of each two bits. Fails only for want of memory.
+    #[tactic(auto, using(crate::proofs::Rules::plane))]
+    pub fn combined<O: WordOp>(alloc: Global, x: &Plane, y: &Plane) -> Result<Plane, AllocError>
+        requires { length x.now ≡ length y.now }
+        ensures { IfOk result (λ p. p ≡ zip2 O.bit x.now y.now) }
+    {
+        let words = new_words::<O>(alloc, &x.words, &y.words)?;
+        Ok(Plane { words, len: x.len })
+    }
+
+    /// What the operation makes of each three bits. Fails only for want of memory.
+    #[tactic(auto, using(crate::proofs::Rules::plane))]
+    pub fn combined_triple<O: TripleOp>(
+        alloc: Global,
+        x: &Plane,
+        y: &Plane,
+        z: &Plane,
+    ) -> Result<Plane, AllocError>
+        requires second { length x.now ≡ length y.now }
+        requires third { length x.now ≡ length z.now }
+        ensures { IfOk result (λ p. p ≡ zip3 O.bit x.now y.now z.now) }
+    {
+        let words = new_triples::<O>(alloc, &x.words, &y.words, &z.words)?;
+        Ok(Plane { words, len: x.len })
+    }
+
+    /// The bits of `chosen` where `mask` is 1, and those of `others` elsewhere. Fails only for want of memory.
+    pub fn selected(
+        alloc: Global,
+        mask: &Plane,
+        chosen: &Plane,
+        others: &Plane,
+    ) -> Result<Plane, AllocError>
+        requires chosen { length others.now ≡ length chosen.now }
+        requires mask { length others.now ≡ length mask.now }
+        ensures { IfOk result (λ p. p ≡ zip3 (λ x y m. cond m y x) others.now chosen.now mask.now) }
+    {
+        Plane::combined_triple::<Select>(alloc, others, chosen, mask)
+    }
+
+    /// Another plane with every bit turned. Fails only for want of memory.
+    pub fn inverted(alloc: Global, x: &Plane) -> Result<Plane, AllocError>
+        ensures { IfOk result (λ p. p ≡ map not x.now) }
+    {
+        let words = new_inverted(alloc, &x.words)?;
+        Ok(Plane { words, len: x.len })
+    }
+
+    /// Adds three bits in each place, as one step of an addition of numbers whose bits lie in planes: their sums, and in `carry`
+    /// what they carry. Fails only for want of memory; the carries then mean nothing.
+    pub fn summed(
+        alloc: Global,
+        x: &Plane,
+        y: &Plane,
+        carry: &mut Plane,
+    ) -> Result<Plane, AllocError>
+        requires second { length x.now ≡ length y.now }
+        requires carries { length x.now ≡ length carry.old }
+        ensures long { length carry.new ≡ length carry.old }
+        ensures sums { IfOk result (λ p. p ≡ zip3 sum_bit x.now y.now carry.old) }
+        ensures carries { IfOk result (λ _. carry.new ≡ zip3 carry_bit x.now y.now carry.old) }
+    {
+        let words = sum_words(alloc, &x.words, &y.words, &mut carry.words)?;
+        Ok(Plane { words, len: x.len })
+    }
+
+    /// Takes two bits from a third in each place, as one step of a subtraction of numbers whose bits lie in planes: what is left of
+    /// `x` without `y` and `borrow`, and in `borrow` what they borrow. Fails only for want of memory; the borrows then mean nothing.
+    pub fn difference(
+        alloc: Global,
+        x: &Plane,
+        y: &Plane,
+        borrow: &mut Plane,
+    ) -> Result<Plane, AllocError>
+        requires second { length x.now ≡ length y.now }
+        requires borrows { length x.now ≡ length borrow.old }
+        ensures long { length borrow.new ≡ length borrow.old }
+        ensures differences { IfOk result (λ p. p ≡ zip3 sum_bit x.now y.now borrow.old) }
+        ensures borrows { IfOk result (λ _. borrow.new ≡ zip3 borrow_bit borrow.old x.now y.now) }
+    {
+        let words = difference_words(alloc, &x.words, &y.words, &mut borrow.words)?;
+        Ok(Plane { words, len: x.len })
+    }
+
+    /// Whether it is known at once that every bit is 1: only a plane of whole words is looked at.
+    pub fn is_full(&self) -> bool
+        ensures { IsTrue result → (v : ℕ) → v < length self.now → slice_index_or self.now v false ≡ true }
+    {
+        self.len % 64 == 0 && are_full(&self.words)
     }
 
     /// The number of bits.
@@ -286,18 +391,6 @@ impl Plane {
     }
 }
 
-/// Adds three bits in each place, as one step of an addition of numbers whose bits lie in planes: their sum goes into
-/// `sum`, which is written over, and what they carry into `carry`.
-pub fn add_step(x: &Plane, y: &Plane, carry: &mut Plane, sum: &mut Plane)
-    requires second { length x.now ≡ length y.now }
-    requires carries { length x.now ≡ length carry.old }
-    requires sums { length x.now ≡ length sum.old }
-    ensures sums { sum.new ≡ zip3 sum_bit x.now y.now carry.old }
-    ensures carries { carry.new ≡ zip3 carry_bit x.now y.now carry.old }
-{
-    add_words(&x.words, &y.words, &mut carry.words, &mut sum.words);
-}
-
 /// Adds three bits in each place, as one step of an addition in place: their sum goes into `sum`, which is one of the
 /// three, and what they carry into `carry`.
 pub fn accumulate_step(x: &Plane, sum: &mut Plane, carry: &mut Plane)
@@ -307,16 +400,4 @@ pub fn accumulate_step(x: &Plane, sum: &mut Plane, carry: &mut Plane)
     ensures carries { carry.new ≡ zip3 carry_bit x.now sum.old carry.old }
 {
     accumulate_words(&x.words, &mut sum.words, &mut carry.words);
-}
-
-/// Takes two bits from a third in each place, as one step of a subtraction of numbers whose bits lie in planes: what is
-/// left of `x` without `y` and `borrow` goes into `difference`, which is written over, and what they borrow into `borrow`.
-pub fn subtract_step(x: &Plane, y: &Plane, borrow: &mut Plane, difference: &mut Plane)
-    requires second { length x.now ≡ length y.now }
-    requires borrows { length x.now ≡ length borrow.old }
-    requires differences { length x.now ≡ length difference.old }
-    ensures differences { difference.new ≡ zip3 sum_bit x.now y.now borrow.old }
-    ensures borrows { borrow.new ≡ zip3 borrow_bit borrow.old x.now y.now }
-{
-    subtract_words(&x.words, &y.words, &mut borrow.words, &mut difference.words);
 }

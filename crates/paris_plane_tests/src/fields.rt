@@ -7,7 +7,7 @@ use crate::beside::{
     seen_by_all, seen_by_selected, unary, with_carry,
 };
 use crate::cases::{Sample, everywhere, plane};
-use paris_field::{FieldValue, add_planes, copy_planes, merge_planes, transpose64, zero_planes};
+use paris_field::{FieldValue, chosen_planes, copy_planes, merge_planes, transpose64, zero_planes};
 use paris_model::{BinaryOperator, UnaryOperator};
 use paris_plain::Inputs;
 use paris_plane::Plane;
@@ -29,9 +29,10 @@ enum Call {
     Plane(u64),
     Mask,
     MergeIn,
+    Merged,
     MergePlanes,
     WithNumbers,
-    AddPlanes,
+    ChosenPlanes,
 }
 
 /// What is named where a call fails.
@@ -259,6 +260,16 @@ fn merged_in(alloc: Global, sample: &Sample, length: u64) -> Result<FieldValue, 
     Ok(value)
 }
 
+/// The same in a copy.
+fn merged_copy(alloc: Global, sample: &Sample, length: u64) -> Result<FieldValue, AllocError>
+    requires within { length ≤ sample.now.width }
+{
+    let mask = plane(alloc, sample.context.as_slice())?;
+    let other = left(alloc, sample)?;
+    let value = old(alloc, sample)?;
+    value.merged(&mask, other.planes(), length)
+}
+
 /// The same, by planes.
 fn merged_planes(alloc: Global, sample: &Sample, length: u64) -> Result<FieldValue, AllocError>
     requires within { length ≤ sample.now.width }
@@ -282,6 +293,9 @@ fn merges(
 {
     let value = merged_in(alloc, sample, length)?;
     let case = short_case(Call::MergeIn, sample, length);
+    moves(rt, alloc, &case, seen, value, sample.width)?;
+    let value = merged_copy(alloc, sample, length)?;
+    let case = short_case(Call::Merged, sample, length);
     moves(rt, alloc, &case, seen, value, sample.width)?;
     let value = merged_planes(alloc, sample, length)?;
     let case = short_case(Call::MergePlanes, sample, length);
@@ -359,46 +373,20 @@ fn takes_numbers(
     renumbers(rt, alloc, sample, &seen, from, to)
 }
 
-/// The sums of two values and carried bits. Leaves in `carry` what they carry.
-fn summed(
-    alloc: Global,
-    x: &FieldValue,
-    y: &FieldValue,
-    carry: &mut Plane,
-) -> Result<FieldValue, AllocError>
-    requires narrow { x.now.width ≤ 64 }
-    requires width { x.now.width ≡ y.now.width }
-    requires count { length x.now.numbers ≡ length carry.old }
-    requires others { length y.now.numbers ≡ length carry.old }
-{
-    let count = carry.len();
-    let mut planes = zero_planes(alloc, x.width() as usize, count)?;
-    add_planes(x.planes(), y.planes(), carry, &mut planes);
-    Ok(FieldValue::from_planes(planes, count))
-}
-
-/// The sums of the left and the right numbers and carried bits.
-fn sum_of(alloc: Global, sample: &Sample, carry: &mut Plane) -> Result<FieldValue, AllocError>
-    requires { length carry.old ≡ sample.now.count }
-{
+/// The left numbers in the processors of the context, and the old ones in the others, in new planes.
+fn chosen(alloc: Global, sample: &Sample) -> Result<FieldValue, AllocError> {
+    let mask = plane(alloc, sample.context.as_slice())?;
     let x = left(alloc, sample)?;
-    let y = right(alloc, sample)?;
-    summed(alloc, &x, &y, carry)
+    let others = old(alloc, sample)?;
+    let planes = chosen_planes(alloc, &mask, x.planes(), others.planes())?;
+    Ok(FieldValue::from_planes(planes, sample.count))
 }
 
-/// What a sum of planes makes of a sample.
-fn sum_made(alloc: Global, sample: &Sample) -> Result<Made, AllocError> {
-    let mut carry = plane(alloc, sample.carry.as_slice())?;
-    let value = sum_of(alloc, sample, &mut carry)?;
-    with_carry(alloc, value, carry)
-}
-
-/// A sum of planes is the sum of the instruction that takes the carry.
-fn adds(rt: &impl Abort, alloc: Global, sample: &Sample, seen: &Inputs) -> Result<(), Fail> {
-    let made = sum_made(alloc, sample)?;
-    let action = binary(BinaryOperator::UnsignedAddCarry, sample.width);
-    let case = case_of(Call::AddPlanes, sample);
-    agrees(rt, alloc, &case, seen, &action, made.as_slice())
+/// A choice by a mask is a move in the processors of the mask.
+fn chooses(rt: &impl Abort, alloc: Global, sample: &Sample, seen: &Inputs) -> Result<(), Fail> {
+    let value = chosen(alloc, sample)?;
+    let case = case_of(Call::ChosenPlanes, sample);
+    moves(rt, alloc, &case, seen, value, sample.width)
 }
 
 /// Whether a value equals one with another number in a processor just where that number is the same, either way.
@@ -484,8 +472,7 @@ pub(crate) fn turns(rt: &impl Abort, square: &[u64; 64]) {
 
 /// Runs the calls that are instructions in all processors, beside what these see.
 fn run_all(rt: &impl Abort, alloc: Global, sample: &Sample, seen: &Inputs) -> Result<(), Fail> {
-    lends_planes(rt, alloc, sample, seen)?;
-    adds(rt, alloc, sample, seen)
+    lends_planes(rt, alloc, sample, seen)
 }
 
 /// Runs the calls that are instructions in all processors.
@@ -502,6 +489,7 @@ fn run_selected(
     seen: &Inputs,
 ) -> Result<(), Fail> {
     let width = sample.width;
+    chooses(rt, alloc, sample, seen)?;
     merges(rt, alloc, sample, seen, width)?;
     merges(rt, alloc, sample, seen, width - width / 2)
 }

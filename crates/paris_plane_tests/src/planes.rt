@@ -12,7 +12,7 @@ use paris_field::FieldValue;
 use paris_model::{Action, BinaryOperator, Operand, UnaryOperator};
 use paris_names::SetNo;
 use paris_plain::Inputs;
-use paris_plane::{And, Or, Plane, Select, Xor, add_step, subtract_step};
+use paris_plane::{And, Or, Plane, Select, Xor};
 use std::alloc::{AllocError, Global};
 use std::process::Abort;
 use std::test::Fail;
@@ -27,6 +27,10 @@ enum Operation {
     PutAnd,
     PutOr,
     PutXor,
+    NewAnd,
+    NewOr,
+    NewXor,
+    Inverted,
 }
 
 const OPERATIONS: &[Operation] = &[
@@ -37,12 +41,18 @@ const OPERATIONS: &[Operation] = &[
     Operation::PutAnd,
     Operation::PutOr,
     Operation::PutXor,
+    Operation::NewAnd,
+    Operation::NewOr,
+    Operation::NewXor,
+    Operation::Inverted,
 ];
 
 impl Operation {
-    fn run(self, x: &mut Plane, y: &Plane)
-        requires { length x.old ≡ length y.now }
+    /// The plane that it leaves, which is the first one where it works in place.
+    fn run(self, alloc: Global, x: Plane, y: &Plane) -> Result<Plane, AllocError>
+        requires { length x ≡ length y.now }
     {
+        let mut x = x;
         match self {
             Operation::AndIn => x.and_in(y),
             Operation::OrIn => x.or_in(y),
@@ -51,15 +61,19 @@ impl Operation {
             Operation::PutAnd => x.put::<And>(y),
             Operation::PutOr => x.put::<Or>(y),
             Operation::PutXor => x.put::<Xor>(y),
+            Operation::NewAnd => return Plane::combined::<And>(alloc, &x, y),
+            Operation::NewOr => return Plane::combined::<Or>(alloc, &x, y),
+            Operation::NewXor => return Plane::combined::<Xor>(alloc, &x, y),
+            Operation::Inverted => return Plane::inverted(alloc, &x),
         }
+        Ok(x)
     }
 
     /// What the operation makes of a sample.
     fn made(self, alloc: Global, sample: &Sample) -> Result<Made, AllocError> {
-        let mut x = plane(alloc, sample.left.as_slice())?;
+        let x = plane(alloc, sample.left.as_slice())?;
         let y = plane(alloc, sample.right.as_slice())?;
-        self.run(&mut x, &y);
-        stored(alloc, x)
+        stored(alloc, self.run(alloc, x, &y)?)
     }
 
     /// The instruction that leaves the same.
@@ -67,10 +81,19 @@ impl Operation {
         ensures { (axes : List ℕ) → IsNarrow axes result }
     {
         match self {
-            Operation::AndIn | Operation::PutAnd => beside::binary(BinaryOperator::BitAnd, 1),
-            Operation::OrIn | Operation::PutOr => beside::binary(BinaryOperator::BitOr, 1),
-            Operation::XorIn | Operation::PutXor => beside::binary(BinaryOperator::BitXor, 1),
-            Operation::NotIn => beside::unary(UnaryOperator::BitNot, 1),
+            Operation::AndIn | Operation::PutAnd | Operation::NewAnd => beside::binary(
+                BinaryOperator::BitAnd,
+                1,
+            ),
+            Operation::OrIn | Operation::PutOr | Operation::NewOr => beside::binary(
+                BinaryOperator::BitOr,
+                1,
+            ),
+            Operation::XorIn | Operation::PutXor | Operation::NewXor => beside::binary(
+                BinaryOperator::BitXor,
+                1,
+            ),
+            Operation::NotIn | Operation::Inverted => beside::unary(UnaryOperator::BitNot, 1),
         }
     }
 }
@@ -93,13 +116,23 @@ enum Call {
 enum Choice {
     SelectIn,
     PutSelect,
+    Selected,
+    NewSelect,
 }
+
+const CHOICES: &[Choice] = &[
+    Choice::SelectIn,
+    Choice::PutSelect,
+    Choice::Selected,
+    Choice::NewSelect,
+];
 
 /// How a plane of one bit is made.
 #[derive(Clone, Copy, Debug)]
 enum Filling {
     Zeros,
     Ones,
+    AllOf(bool),
     Clear,
     Fill,
 }
@@ -108,6 +141,8 @@ enum Filling {
 const FILLINGS: &[(Filling, u128)] = &[
     (Filling::Zeros, 0),
     (Filling::Ones, 1),
+    (Filling::AllOf(false), 0),
+    (Filling::AllOf(true), 1),
     (Filling::Clear, 0),
     (Filling::Fill, 1),
 ];
@@ -141,6 +176,8 @@ fn chosen(alloc: Global, sample: &Sample, choice: Choice) -> Result<Plane, Alloc
     match choice {
         Choice::SelectIn => x.select_in(&mask, &other),
         Choice::PutSelect => x.put_triple::<Select>(&other, &mask),
+        Choice::Selected => return Plane::selected(alloc, &mask, &other, &x),
+        Choice::NewSelect => return Plane::combined_triple::<Select>(alloc, &x, &other, &mask),
     }
     Ok(x)
 }
@@ -148,9 +185,9 @@ fn chosen(alloc: Global, sample: &Sample, choice: Choice) -> Result<Plane, Alloc
 /// A choice by a mask is a move in the processors of the mask.
 fn selects(rt: &impl Abort, alloc: Global, sample: &Sample, seen: &Inputs) -> Result<(), Fail> {
     let action = beside::unary(UnaryOperator::Move, 1);
-    for choice in [Choice::SelectIn, Choice::PutSelect] {
-        let made = stored(alloc, chosen(alloc, sample, choice)?)?;
-        let case = (choice, sample.count);
+    for choice in CHOICES {
+        let made = stored(alloc, chosen(alloc, sample, *choice)?)?;
+        let case = (*choice, sample.count);
         agrees(rt, alloc, &case, seen, &action, made.as_slice())?;
     }
     Ok(())
@@ -161,8 +198,7 @@ fn added(alloc: Global, sample: &Sample) -> Result<(Plane, Plane), AllocError> {
     let x = plane(alloc, sample.left.as_slice())?;
     let y = plane(alloc, sample.right.as_slice())?;
     let mut carry = plane(alloc, sample.carry.as_slice())?;
-    let mut sum = plane(alloc, sample.old.as_slice())?;
-    add_step(&x, &y, &mut carry, &mut sum);
+    let sum = Plane::summed(alloc, &x, &y, &mut carry)?;
     Ok((sum, carry))
 }
 
@@ -180,8 +216,7 @@ fn subtracted(alloc: Global, sample: &Sample) -> Result<(Plane, Plane), AllocErr
     let x = plane(alloc, sample.left.as_slice())?;
     let y = plane(alloc, sample.right.as_slice())?;
     let mut borrow = Plane::zeros(alloc, x.len())?;
-    let mut difference = plane(alloc, sample.old.as_slice())?;
-    subtract_step(&x, &y, &mut borrow, &mut difference);
+    let difference = Plane::difference(alloc, &x, &y, &mut borrow)?;
     Ok((difference, borrow))
 }
 
@@ -207,6 +242,7 @@ fn filled(alloc: Global, sample: &Sample, filling: Filling) -> Result<Plane, All
     match filling {
         Filling::Zeros => return Plane::zeros(alloc, sample.count),
         Filling::Ones => return Plane::ones(alloc, sample.count),
+        Filling::AllOf(bit) => return Plane::filled(alloc, bit, sample.count),
         Filling::Clear => x.fill(false),
         Filling::Fill => x.fill(true),
     }

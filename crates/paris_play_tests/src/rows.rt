@@ -217,7 +217,7 @@ fn order_like(
     edition: u64,
 ) -> Result<Order, AllocError> {
     let inputs = inputs_like(alloc, like)?;
-    let plan = like.plan().copy()?;
+    let plan = like.shared_plan().copy()?;
     Ok(Order::new(RowId(row), Edition(edition), plan, inputs).expect(rt, "the inputs fit"))
 }
 

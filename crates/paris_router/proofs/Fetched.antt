@@ -1,6 +1,7 @@
 -- Lists of numbers by processor: low bits, and what is fetched from an address.
-use Rattle.std.proofs.Common.{◌≡◌, ℕ, ◌<◌, ◌^◌, Bool, true, false, List, All, length, get_or, map, cond, refl, sym, ap, subst, ◌∙◌, arith, inl, inr}
+use Rattle.std.proofs.Common.{◌≡◌, ℕ, ◌<◌, ◌≤◌, ◌^◌, Bool, true, false, List, All, length, get_or, map, cond, refl, sym, ap, subst, ◌∙◌, arith, inl, inr}
 use Rattle.std.proofs.Math.ListN.{get_or-eq_default}
+use Rattle.std.proofs.Math.Pow.{pow_mono}
 use Rattle.std.proofs.lemmas.Bool.{cases_lt}
 use Rattle.std.proofs.lemmas.List.{get_or-map, length-map}
 use Rattle.std.proofs.lemmas.List.Elements.{All-from_get_or, All-get_or, All-map}
@@ -9,9 +10,10 @@ use Rattle.std.proofs.lemmas.Nat.{mod_below}
 use lib.Pow.{pow_pos}
 use Rattle.paris_model.specs.Store.{everywhere, low}
 use Rattle.paris_field.specs.Fields.{FieldNumbers, operand}
+use Rattle.paris_field.proofs.Numbers.{same_lists}
 use Rattle.paris_field.proofs.Places.{everywhere_same}
 use Rattle.paris_field.specs.Numbers.{has}
-use Rattle.paris_router.specs.Mail.{selected_addresses}
+use Rattle.paris_router.specs.Mail.{clipped, selected_addresses}
 
 pub length-everywhere : (n : ℕ) (f : ℕ → ℕ) → length (everywhere n f) ≡ n
 length-everywhere n f = length-map-range_with_len f 0 n
@@ -24,6 +26,14 @@ cut_everywhere L xs = fill_by_all (λ v. low L (get_or xs v 0)) (map (low L) xs)
 
 pub cut_fit : (L : ℕ) (xs : List ℕ) → All (λ x. x < 2 ^ L) (map (low L) xs)
 cut_fit L xs = All-map (λ x. x < 2 ^ L) (low L) xs (λ k d there. mod_below (get_or xs k d) (2 ^ L) (pow_pos L))
+
+-- numbers that fit a word are not clipped
+pub clipped_all : (w : ℕ) (xs : List ℕ) → w ≤ 64 → All (λ x. x < 2 ^ w) xs → xs ≡ map clipped xs
+clipped_all w xs narrow fit =
+    same_lists 0 xs (map clipped xs) (sym (length-map xs clipped)) (λ k h.
+    let small : get_or xs k 0 < 2 ^ w = All-get_or (λ x. x < 2 ^ w) xs k 0 h fit in
+    let whole : get_or xs k 0 ≡ clipped (get_or xs k 0) = omega (arith, small, pow_mono narrow) in
+    whole ∙ sym (get_or-map clipped xs k 0 0 h))
 
 -- each number of a list that fits, and the 0 past its end
 pub small : (L : ℕ) (xs : List ℕ) (i : ℕ) → All (λ x. x < 2 ^ L) xs → get_or xs i 0 < 2 ^ L
@@ -53,19 +63,25 @@ address_at addresses selected v h does =
     get_or-everywhere (length addresses.numbers) (λ v. cond (has selected v) (get_or addresses.numbers v 0) 0) v h
     ∙ ap (λ b. cond b (get_or addresses.numbers v 0) 0) does
 
-pub fetched_is : (L n : ℕ) (x addresses : FieldNumbers) (selected : List Bool) → n ≡ length addresses.numbers → length addresses.numbers ≡ length x.numbers → All (λ r. r < length addresses.numbers) (selected_addresses addresses selected)
-    → everywhere n (λ v. cond (has selected v) (get_or (everywhere (length x.numbers) (operand L x)) (get_or (selected_addresses addresses selected) v 0) 0) 0) ≡ everywhere (length x.numbers) (λ v. cond (has selected v) (operand L x (get_or addresses.numbers v 0)) 0)
-fetched_is L n x addresses selected count same within =
-    ap (λ k. everywhere k (λ v. cond (has selected v) (get_or (everywhere (length x.numbers) (operand L x)) (get_or (selected_addresses addresses selected) v 0) 0) 0)) (count ∙ same)
+-- what is fetched from the places in a list
+pub fetched_is : (L : ℕ) (x : FieldNumbers) (addresses : List ℕ) (selected : List Bool) → length addresses ≡ length x.numbers → All (λ r. r < length x.numbers) addresses
+    → everywhere (length addresses) (λ v. cond (has selected v) (get_or (everywhere (length x.numbers) (operand L x)) (get_or addresses v 0) 0) 0) ≡ everywhere (length x.numbers) (λ v. cond (has selected v) (operand L x (get_or addresses v 0)) 0)
+fetched_is L x addresses selected count within =
+    ap (λ k. everywhere k (λ v. cond (has selected v) (get_or (everywhere (length x.numbers) (operand L x)) (get_or addresses v 0) 0) 0)) count
     ∙ everywhere_same (length x.numbers)
-    (λ v. cond (has selected v) (get_or (everywhere (length x.numbers) (operand L x)) (get_or (selected_addresses addresses selected) v 0) 0) 0)
+    (λ v. cond (has selected v) (get_or (everywhere (length x.numbers) (operand L x)) (get_or addresses v 0) 0) 0)
+    (λ v. cond (has selected v) (operand L x (get_or addresses v 0)) 0)
+    (λ v h. ap (λ y. cond (has selected v) y 0) (get_or-everywhere (length x.numbers) (operand L x) (get_or addresses v 0) (within v 0 (omega arith))))
+
+-- the list of the selected processors' addresses serves as well as their field
+pub fetched_selected : (L : ℕ) (x addresses : FieldNumbers) (selected : List Bool) → length addresses.numbers ≡ length x.numbers
+    → everywhere (length x.numbers) (λ v. cond (has selected v) (operand L x (get_or (selected_addresses addresses selected) v 0)) 0) ≡ everywhere (length x.numbers) (λ v. cond (has selected v) (operand L x (get_or addresses.numbers v 0)) 0)
+fetched_selected L x addresses selected same =
+    everywhere_same (length x.numbers)
+    (λ v. cond (has selected v) (operand L x (get_or (selected_addresses addresses selected) v 0)) 0)
     (λ v. cond (has selected v) (operand L x (get_or addresses.numbers v 0)) 0)
     (λ v h. at v h (has selected v) refl)
   where
-    at : (v : ℕ) → v < length x.numbers → (b : Bool) → has selected v ≡ b → cond b (get_or (everywhere (length x.numbers) (operand L x)) (get_or (selected_addresses addresses selected) v 0) 0) 0 ≡ cond b (operand L x (get_or addresses.numbers v 0)) 0
-    at v h true does =
-        let long = length-everywhere (length addresses.numbers) (λ v. cond (has selected v) (get_or addresses.numbers v 0) 0) in
-        let inside : get_or (selected_addresses addresses selected) v 0 < length x.numbers = subst (λ n. get_or (selected_addresses addresses selected) v 0 < n) same (within v 0 (omega arith)) in
-        get_or-everywhere (length x.numbers) (operand L x) (get_or (selected_addresses addresses selected) v 0) inside
-        ∙ ap (operand L x) (address_at addresses selected v (omega arith) does)
+    at : (v : ℕ) → v < length x.numbers → (b : Bool) → has selected v ≡ b → cond b (operand L x (get_or (selected_addresses addresses selected) v 0)) 0 ≡ cond b (operand L x (get_or addresses.numbers v 0)) 0
+    at v h true does = ap (operand L x) (address_at addresses selected v (omega arith) does)
     at v h false stays = refl

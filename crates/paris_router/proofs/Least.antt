@@ -1,5 +1,5 @@
 -- The least number that passes a test, looked for by rising number.
-use Rattle.std.proofs.Common.{◌≡◌, ℕ, suc, ◌+◌, ◌-◌, ◌<◌, ◌≤◌, Bool, true, false, List, [], ◌∷◌, Option, Some, None, cond, length, get_or, arith, refl, ap, ◌∙◌}
+use Rattle.std.proofs.Common.{◌≡◌, ℕ, suc, ◌+◌, ◌-◌, ◌<◌, ◌≤◌, Bool, true, false, List, [], ◌∷◌, Option, Some, None, cond, length, get_or, min, arith, refl, ap, ◌∙◌}
 use Rattle.std.specs.Prelude.{◌&&◌, nat_le}
 use Rattle.std.proofs.lemmas.Bool.Decides.{nat_tests}
 use Rattle.std.specs.List.{find, range_with_len}
@@ -26,19 +26,26 @@ least_none test v n h =
     let e : n - v ≡ 0 = omega arith in
     ap (λ k. find test (range_with_len v k)) e
 
--- whether a processor is a bad sender, by the number that is looked at
-pub is_bad : (b : Bool) (x n number : ℕ) → number ≡ cond b x 0 → n ≤ number → 0 < n → (b && nat_le n x) ≡ true
-is_bad true x n number is above some = grind (arith, nat_tests)
-is_bad false x n number is above some = absurd (omega arith)
+-- whether a processor is a bad sender, by its address that is cut at a greatest number
+pub is_bad : (b : Bool) (x n most number : ℕ) → number ≡ cond b (min x most) 0 → n ≤ number → 0 < n → (b && nat_le n x) ≡ true
+is_bad true x n most number is above some = grind (arith, nat_tests)
+is_bad false x n most number is above some = absurd (omega arith)
 
-pub is_good : (b : Bool) (x n number : ℕ) → number ≡ cond b x 0 → number < n → (b && nat_le n x) ≡ false
-is_good true x n number is below = grind (arith, nat_tests)
-is_good false x n number is below = refl
+pub is_good : (b : Bool) (x n most number : ℕ) → number ≡ cond b (min x most) 0 → number < n → n ≤ most → (b && nat_le n x) ≡ false
+is_good true x n most number is below room = grind (arith, nat_tests)
+is_good false x n most number is below room = refl
+
+pub is_whole : (b : Bool) (x n most number : ℕ) → number ≡ cond b (min x most) 0 → number < n → n ≤ most → number ≡ cond b x 0
+is_whole true x n most number is below room = omega arith
+is_whole false x n most number is below room = is
 
 -- tests that agree on each number of a list
 find_agree : (f g : ℕ → Bool) (xs : List ℕ) → ((i : ℕ) → i < length xs → f (get_or xs i 0) ≡ g (get_or xs i 0)) → find f xs ≡ find g xs
 find_agree f g [] same = refl
 find_agree f g (x ∷ xs) same = ap (λ b. cond b (Some x) (find f xs)) (same 0 (omega arith)) ∙ ap (λ r. cond (g x) (Some x) r) (find_agree f g xs (λ i h. same (suc i) (omega (arith, h))))
+
+pub find_same : (f g : ℕ → Bool) (xs : List ℕ) → ((x : ℕ) → f x ≡ g x) → find f xs ≡ find g xs
+find_same f g xs same = find_agree f g xs (λ i h. same (get_or xs i 0))
 
 -- the least place of a plane whose bit is 1
 pub least_one : (n : ℕ) (f : ℕ → Bool) (plane : List Bool) → plane ≡ bits_everywhere n f → find (λ v. get_or plane v false) (numbers_below (length plane)) ≡ find f (numbers_below n)

@@ -1,4 +1,5 @@
 pub mod Least
 pub mod Posted
 pub mod Sent
+pub mod Senders
 pub mod Fetched

@@ -9,6 +9,7 @@ use Rattle.std.proofs.lemmas.List.Elements.{filter-append}
 use Rattle.std.proofs.lemmas.List.FromFn.{fill_by_all, get_or-map-range_with_len, length-map-range_with_len}
 use Rattle.paris_geometry.specs.Geometry.{numbers_below}
 use Rattle.paris_model.specs.Mail.{arrivals}
+use Rattle.paris_router.specs.Mail.{number_of_first}
 
 -- what arrives of one message more
 posted : (mail : List (ℕ × ℕ)) (message : ℕ × ℕ) (r : ℕ) → arrivals (mail ++ message ∷ []) r ≡ arrivals mail r ++ arrivals (message ∷ []) r
@@ -23,16 +24,16 @@ alone message r = go (message.0 == r) refl
     go true e = simp e
     go false e = simp e
 
-pub arrives : (mail : List (ℕ × ℕ)) (i r : ℕ) (d : ℕ × ℕ) → i < length mail → (get_or mail i d).0 ≡ r → arrivals (take (i + 1) mail) r ≡ arrivals (take i mail) r ++ (get_or mail i d).1 ∷ []
-arrives mail i r d h here =
-    ap (λ l. arrivals l r) (take_more mail i d h) ∙ posted (take i mail) (get_or mail i d) r
-    ∙ ap (λ xs. arrivals (take i mail) r ++ xs) (alone (get_or mail i d) r ∙ ap (λ b. cond b ((get_or mail i d).1 ∷ []) []) (eq-eqb (get_or mail i d).0 r here))
+pub arrives_there : (mail : List (ℕ × ℕ)) (message : ℕ × ℕ) (r : ℕ) → message.0 ≡ r → arrivals (mail ++ message ∷ []) r ≡ arrivals mail r ++ message.1 ∷ []
+arrives_there mail message r here =
+    posted mail message r
+    ∙ ap (λ xs. arrivals mail r ++ xs) (alone message r ∙ ap (λ b. cond b (message.1 ∷ []) []) (eq-eqb message.0 r here))
 
-pub passes : (mail : List (ℕ × ℕ)) (i r : ℕ) (d : ℕ × ℕ) → i < length mail → (get_or mail i d).0 ≢ r → arrivals (take (i + 1) mail) r ≡ arrivals (take i mail) r
-passes mail i r d h there =
-    ap (λ l. arrivals l r) (take_more mail i d h) ∙ posted (take i mail) (get_or mail i d) r
-    ∙ ap (λ xs. arrivals (take i mail) r ++ xs) (alone (get_or mail i d) r ∙ ap (λ b. cond b ((get_or mail i d).1 ∷ []) []) (ne_eqb (get_or mail i d).0 r there))
-    ∙ append-nil (arrivals (take i mail) r)
+pub passes_by : (mail : List (ℕ × ℕ)) (message : ℕ × ℕ) (r : ℕ) → message.0 ≢ r → arrivals (mail ++ message ∷ []) r ≡ arrivals mail r
+passes_by mail message r there =
+    posted mail message r
+    ∙ ap (λ xs. arrivals mail r ++ xs) (alone message r ∙ ap (λ b. cond b (message.1 ∷ []) []) (ne_eqb message.0 r there))
+    ∙ append-nil (arrivals mail r)
 
 -- what each of n processors makes of the values that arrive there
 abbrev pub seen : {X : Type 0} → (ℕ → List ℕ → X) → ℕ → List (ℕ × ℕ) → List X
@@ -49,35 +50,39 @@ pub none_seen : {X : Type 0} (h : ℕ → List ℕ → X) (n : ℕ) (x : X) → 
 none_seen h n x all = fill_by_all (λ r. h r []) (replicate n x) n x (length-replicate n x) (λ r inside. get_or-replicate n r x x inside ∙ sym (all r))
 
 -- the receiver of one message more makes x of its values
-pub seen_more : {X : Type 0} (h : ℕ → List ℕ → X) (n : ℕ) (mail : List (ℕ × ℕ)) (i : ℕ) (d : ℕ × ℕ) (x : X) → i < length mail → (get_or mail i d).0 < n → h (get_or mail i d).0 (arrivals (take i mail) (get_or mail i d).0 ++ (get_or mail i d).1 ∷ []) ≡ x → set (seen h n (take i mail)) (get_or mail i d).0 x ≡ seen h n (take (i + 1) mail)
-seen_more h n mail i d x at inside made =
-    let before = seen h n (take i mail) in
-    let long : length before ≡ n = length-seen h n (take i mail) in
-    let there : (get_or mail i d).0 < length before = omega arith in
-    fill_by_all (λ r. h r (arrivals (take (i + 1) mail) r)) (set before (get_or mail i d).0 x) n x (length-set before (get_or mail i d).0 x ∙ long) (λ r within.
-    elim (cases_eq (get_or mail i d).0 r) [
+pub seen_sent : {X : Type 0} (h : ℕ → List ℕ → X) (n : ℕ) (mail : List (ℕ × ℕ)) (message : ℕ × ℕ) (x : X) → message.0 < n → h message.0 (arrivals mail message.0 ++ message.1 ∷ []) ≡ x → set (seen h n mail) message.0 x ≡ seen h n (mail ++ message ∷ [])
+seen_sent h n mail message x inside made =
+    let before = seen h n mail in
+    let long : length before ≡ n = length-seen h n mail in
+    let there : message.0 < length before = omega arith in
+    fill_by_all (λ r. h r (arrivals (mail ++ message ∷ []) r)) (set before message.0 x) n x (length-set before message.0 x ∙ long) (λ r within.
+    elim (cases_eq message.0 r) [
       | inl same ↦
-          ap (λ k. get_or (set before (get_or mail i d).0 x) k x) (sym same)
-          ∙ get_or-set_same before (get_or mail i d).0 x x there
+          ap (λ k. get_or (set before message.0 x) k x) (sym same)
+          ∙ get_or-set_same before message.0 x x there
           ∙ sym made
-          ∙ ap (λ k. h k (arrivals (take i mail) k ++ (get_or mail i d).1 ∷ [])) same
-          ∙ ap (h r) (sym (arrives mail i r d at same))
+          ∙ ap (λ k. h k (arrivals mail k ++ message.1 ∷ [])) same
+          ∙ ap (h r) (sym (arrives_there mail message r same))
       | inr other ↦
-          get_or-set_other before (get_or mail i d).0 r x x (λ e. other (sym e))
-          ∙ get_or-seen h n (take i mail) r x within
-          ∙ ap (h r) (sym (passes mail i r d at other))
+          get_or-set_other before message.0 r x x (λ e. other (sym e))
+          ∙ get_or-seen h n mail r x within
+          ∙ ap (h r) (sym (passes_by mail message r other))
     ])
 
+pub seen_more : {X : Type 0} (h : ℕ → List ℕ → X) (n : ℕ) (mail : List (ℕ × ℕ)) (i : ℕ) (d : ℕ × ℕ) (x : X) → i < length mail → (get_or mail i d).0 < n → h (get_or mail i d).0 (arrivals (take i mail) (get_or mail i d).0 ++ (get_or mail i d).1 ∷ []) ≡ x → set (seen h n (take i mail)) (get_or mail i d).0 x ≡ seen h n (take (i + 1) mail)
+seen_more h n mail i d x at inside made =
+    seen_sent h n (take i mail) (get_or mail i d) x inside made ∙ ap (seen h n) (sym (take_more mail i d at))
+
 -- a message that changes nothing at its receiver
-pub seen_same : {X : Type 0} (h : ℕ → List ℕ → X) (n : ℕ) (mail : List (ℕ × ℕ)) (i : ℕ) (d : ℕ × ℕ) (x : X) → i < length mail → h (get_or mail i d).0 (arrivals (take i mail) (get_or mail i d).0 ++ (get_or mail i d).1 ∷ []) ≡ h (get_or mail i d).0 (arrivals (take i mail) (get_or mail i d).0) → seen h n (take i mail) ≡ seen h n (take (i + 1) mail)
-seen_same h n mail i d x at made =
-    fill_by_all (λ r. h r (arrivals (take (i + 1) mail) r)) (seen h n (take i mail)) n x (length-seen h n (take i mail)) (λ r within.
-    get_or-seen h n (take i mail) r x within
-    ∙ elim (cases_eq (get_or mail i d).0 r) [
+pub seen_kept : {X : Type 0} (h : ℕ → List ℕ → X) (n : ℕ) (mail : List (ℕ × ℕ)) (message : ℕ × ℕ) (x : X) → h message.0 (arrivals mail message.0 ++ message.1 ∷ []) ≡ h message.0 (arrivals mail message.0) → seen h n mail ≡ seen h n (mail ++ message ∷ [])
+seen_kept h n mail message x made =
+    fill_by_all (λ r. h r (arrivals (mail ++ message ∷ []) r)) (seen h n mail) n x (length-seen h n mail) (λ r within.
+    get_or-seen h n mail r x within
+    ∙ elim (cases_eq message.0 r) [
       | inl same ↦
-          sym (ap (λ k. h k (arrivals (take i mail) k ++ (get_or mail i d).1 ∷ [])) (sym same) ∙ made ∙ ap (λ k. h k (arrivals (take i mail) k)) same)
-          ∙ ap (h r) (sym (arrives mail i r d at same))
-      | inr other ↦ ap (h r) (sym (passes mail i r d at other))
+          sym (ap (λ k. h k (arrivals mail k ++ message.1 ∷ [])) (sym same) ∙ made ∙ ap (λ k. h k (arrivals mail k)) same)
+          ∙ ap (h r) (sym (arrives_there mail message r same))
+      | inr other ↦ ap (h r) (sym (passes_by mail message r other))
     ])
 
 -- tests of an order
@@ -105,10 +110,11 @@ one_now xs x none =
     let empty = at_most 0 (length xs) none in
     not_less 1 (length (xs ++ x ∷ [])) (omega (arith, length-append xs (x ∷ []))) ∙ sym (not_less 1 (length xs) (omega arith))
 
-pub first_kept : (xs : List ℕ) (x : ℕ) → nat_lt 0 (length xs) ≡ true → get_or (xs ++ x ∷ []) 0 0 ≡ get_or xs 0 0
-first_kept [] x some = absurd (omega (arith, is_less 0 0 some))
-first_kept (y ∷ ys) x some = refl
+-- the first sender stays the first
+pub first_stays : {X : Type 0} (numbers : List X) (zero : X) (ps : List ℕ) (p : ℕ) → nat_lt 0 (length ps) ≡ true → number_of_first numbers zero (ps ++ p ∷ []) ≡ number_of_first numbers zero ps
+first_stays numbers zero [] p some = absurd (omega (arith, is_less 0 0 some))
+first_stays numbers zero (q ∷ ps) p some = refl
 
-pub first_now : (xs : List ℕ) (x : ℕ) → nat_lt 0 (length xs) ≡ false → get_or (xs ++ x ∷ []) 0 0 ≡ x
-first_now [] x none = refl
-first_now (y ∷ ys) x none = absurd (omega (arith, at_most 0 (length (y ∷ ys)) none))
+pub first_comes : {X : Type 0} (numbers : List X) (zero : X) (ps : List ℕ) (p : ℕ) → nat_lt 0 (length ps) ≡ false → number_of_first numbers zero (ps ++ p ∷ []) ≡ get_or numbers p zero
+first_comes numbers zero [] p none = refl
+first_comes numbers zero (q ∷ ps) p none = absurd (omega (arith, at_most 0 (length (q ∷ ps)) none))

@@ -1,5 +1,6 @@
 -- Messages between processors whose addresses and values lie in fields.
-use Rattle.std.specs.Prelude.{ℕ, Bool, nat_lt, List, length, slice_index, Option, Some, None, Result, Ok, Err, if◌then◌else◌}
+use Rattle.std.specs.Prelude.{ℕ, ◌-◌, ◌^◌, min, Bool, nat_lt, List, [], ◌∷◌, map, length, slice_index, slice_index_or, Option, Some, None, Result, Ok, Err, if◌then◌else◌}
+use Rattle.paris_geometry.specs.Geometry.{numbers_below}
 use Rattle.paris_model.specs.declared.actions.Refusal.{Refusal}
 use Rattle.paris_model.specs.Mail.{arrivals, bad_sender, gets_mail, messages}
 use Rattle.paris_model.specs.Store.{everywhere}
@@ -19,6 +20,14 @@ bad_sender_of addresses selected = bad_sender (length addresses.numbers) (has se
 abbrev pub selected_addresses : FieldNumbers → List Bool → List ℕ
 selected_addresses addresses selected = everywhere (length addresses.numbers) (λ v. if has selected v then slice_index addresses.numbers v else 0)
 
+-- a number as a word, and the greatest word for one that is too wide
+abbrev pub clipped : ℕ → ℕ
+clipped x = min x (2 ^ 64 - 1)
+
+-- in each selected processor the low L bits at its address, where a list has the addresses
+abbrev pub fetched_from : ℕ → List ℕ → FieldNumbers → List Bool → FieldNumbers
+fetched_from L addresses x selected = record { width = L; numbers = everywhere (length x.numbers) (λ v. if has selected v then operand L x (slice_index addresses v) else 0) }
+
 -- in each selected processor the low L bits at its address
 abbrev pub fetched_field : ℕ → FieldNumbers → FieldNumbers → List Bool → FieldNumbers
 fetched_field L addresses x selected = record { width = L; numbers = everywhere (length x.numbers) (λ v. if has selected v then operand L x (slice_index addresses.numbers v) else 0) }
@@ -26,6 +35,23 @@ fetched_field L addresses x selected = record { width = L; numbers = everywhere 
 -- the messages of the selected processors
 abbrev pub mail_in : ℕ → FieldNumbers → FieldNumbers → List Bool → List (ℕ × ℕ)
 mail_in L addresses x selected = messages (length x.numbers) (has selected) (slice_index addresses.numbers) (operand L x)
+
+-- the messages of the selected processors, where a list has the addresses
+abbrev pub mail_to : ℕ → List ℕ → FieldNumbers → List Bool → List (ℕ × ℕ)
+mail_to L addresses x selected = messages (length x.numbers) (has selected) (slice_index addresses) (operand L x)
+
+-- the selected processors as messages, each with its own number
+abbrev pub senders : List ℕ → List Bool → List (ℕ × ℕ)
+senders addresses selected = messages (length addresses) (has selected) (slice_index addresses) (λ p. p)
+
+-- the number of the first of some processors, and zero where there is none
+abbrev pub number_of_first : {X : Type 0} → List X → X → List ℕ → X
+number_of_first numbers zero [] = zero
+number_of_first numbers zero (p ∷ ps) = slice_index_or numbers p zero
+
+-- in each of n processors the number of the first sender to it, and zero where there is none
+abbrev pub first_numbers : {X : Type 0} → ℕ → List X → X → List (ℕ × ℕ) → List X
+first_numbers n numbers zero mail = map (λ r. number_of_first numbers zero (arrivals mail r)) (numbers_below n)
 
 -- in each of n processors the first number that arrives
 abbrev pub delivered_field : ℕ → ℕ → List (ℕ × ℕ) → FieldNumbers

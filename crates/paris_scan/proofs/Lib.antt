@@ -15,3 +15,4 @@ pub mod Own
 pub mod Summed
 pub mod Copied
 pub mod Brought
+pub mod OneLine

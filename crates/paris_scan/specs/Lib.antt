@@ -7,3 +7,4 @@ pub mod Shown
 pub mod Sums
 pub mod Without
 pub mod Blocks
+pub mod Whole

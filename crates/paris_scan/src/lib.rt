@@ -16,6 +16,7 @@ mod scans;
 mod sources;
 mod spreads;
 mod sums;
+mod whole;
 
 pub use bitwise::{Ors, Xors};
 pub use butterfly::spread_planes;
@@ -29,3 +30,4 @@ pub use scans::{copy_scan, scan};
 pub use sources::{complement_planes, invert_planes, selected_planes};
 pub use spreads::{Reduced, copy_spread, reduce, spread};
 pub use sums::Sums;
+pub use whole::Total;

@@ -21,8 +21,7 @@ fn masked_planes<O: WordOp>(
 {
     let mut planes = Vec::with_capacity(alloc, x.len() + 1)?;
     for k in 0..x.len() {
-        let mut plane = mask.copy()?;
-        plane.put::<O>(&x[k]);
+        let plane = Plane::combined::<O>(alloc, mask, &x[k])?;
         planes.push(plane)?;
     }
     Ok(planes)

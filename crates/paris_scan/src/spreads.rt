@@ -8,20 +8,20 @@ ghost use Rattle.paris_scan.specs.Shown.{complement_shown, shown_field};
 
 use crate::bitwise::{Ors, Xors};
 use crate::butterfly::spread_planes;
-use crate::combine::Commute;
 use crate::maxima::Maxima;
 use crate::results::{Combined, complement_value, sum_value, without_overflow};
 use crate::sources::{complement_planes, selected_planes, summed_planes};
 use crate::sums::Sums;
+use crate::whole::{Total, is_whole, whole_complements, whole_place, whole_shown, whole_sums};
 use paris_field::FieldValue;
 use paris_geometry::Geometry;
 use paris_model::Combiner;
 use paris_news::coordinate_plane;
-use paris_plane::Plane;
+use paris_plane::{And, Plane};
 use std::alloc::{AllocError, Global};
 
 /// What the values of each line come to, where the operator's unit is 0.
-fn spread_shown<C: Commute>(
+fn spread_shown<C: Total>(
     alloc: Global,
     geometry: Geometry,
     axis: usize,
@@ -37,13 +37,16 @@ fn spread_shown<C: Commute>(
     requires plain { C.extra ≡ 0 }
     ensures { IfOk result (λ value. value ≡ shown_field C.shows bits (processor_count geometry) (of_lines geometry axis selected.now bits x.now)) }
 {
+    if is_whole(geometry, axis) {
+        return whole_shown::<C>(alloc, geometry, axis, x, selected, bits);
+    }
     let state = selected_planes(alloc, selected, x.low(bits))?;
     let planes = spread_planes::<C>(alloc, geometry, axis, state)?;
     Ok(FieldValue::from_planes(planes, x.len()))
 }
 
 /// The complement of what the complements of the values of each line come to.
-fn spread_complements<C: Commute>(
+fn spread_complements<C: Total>(
     alloc: Global,
     geometry: Geometry,
     axis: usize,
@@ -59,6 +62,9 @@ fn spread_complements<C: Commute>(
     requires plain { C.extra ≡ 0 }
     ensures { IfOk result (λ value. value ≡ shown_field (complement_shown C.shows) bits (processor_count geometry) (of_lines geometry axis selected.now bits x.now)) }
 {
+    if is_whole(geometry, axis) {
+        return whole_complements::<C>(alloc, geometry, axis, x, selected, bits);
+    }
     let state = complement_planes(alloc, selected, x.low(bits))?;
     let planes = spread_planes::<C>(alloc, geometry, axis, state)?;
     Ok(complement_value(planes, x.len()))
@@ -83,6 +89,9 @@ fn spread_sums(
       overflow = Some (sums_overflow bits (processor_count geometry) (of_lines geometry axis selected.now bits x.now));
     }) }
 {
+    if bits <= 96 && is_whole(geometry, axis) {
+        return whole_sums(alloc, geometry, axis, x, selected, bits);
+    }
     let state = summed_planes(alloc, selected, x.low(bits))?;
     let planes = spread_planes::<Sums>(alloc, geometry, axis, state)?;
     Ok(sum_value(planes, x.len()))
@@ -154,8 +163,7 @@ fn store_plane(
     ensures { IfOk result (λ plane. plane ≡ stores_at geometry axis place selected.now) }
 {
     let at = coordinate_plane(alloc, geometry, axis, place)?;
-    let mut stores = selected.copy()?;
-    stores.and_in(&at);
+    let stores = Plane::combined::<And>(alloc, selected, &at)?;
     Ok(stores)
 }
 
@@ -205,6 +213,9 @@ pub fn copy_spread(
     requires count { length x.now.numbers ≡ processor_count geometry }
     ensures { IfOk result (λ value. value ≡ placed_field geometry axis place bits x.now) }
 {
+    if is_whole(geometry, axis) {
+        return whole_place(alloc, geometry, axis, place, x, bits);
+    }
     let vps = geometry.vps();
     let at = coordinate_plane(alloc, geometry, axis, place)?;
     let state = selected_planes(alloc, &at, x.low(bits))?;

@@ -6,7 +6,7 @@ ghost use Rattle.paris_plain.specs.Narrow.{IsNarrow};
 ghost use Rattle.paris_model.specs.declared.actions.Action.TheVariants.{AlongLine};
 
 use crate::calls::{Call, Case, run_case};
-use crate::cases::{SETS, Sample, random_sample};
+use crate::cases::{LINES, SETS, Sample, random_sample};
 use crate::expected::expected;
 use paris_field::FieldValue;
 use paris_geometry::{Direction, Geometry};
@@ -230,7 +230,7 @@ fn run_widths(
     turn: usize,
 ) -> Result<(), Fail> {
     for (k, width) in widths.iter().enumerate() {
-        let sample = random_sample(rt, alloc, lengths, *width)?;
+        let sample = random_sample(rt, alloc, lengths, *width, 6)?;
         run(rt, alloc, &sample, every, turn.wrapping_add(k))?;
     }
     Ok(())
@@ -240,6 +240,58 @@ fn run_widths(
 fn lines_combine_to_what_their_numbers_do(rt: HostRuntime) -> Result<(), Fail> {
     for (lengths, widths, every, turn) in SETS {
         run_widths(&rt, rt.alloc(), *lengths, *widths, *every, *turn)?;
+    }
+    Ok(())
+}
+
+/// Runs what has one result for each line, along each axis, by an operator.
+fn run_lines(
+    rt: &impl Abort,
+    alloc: Global,
+    sample: &Sample,
+    operator: Combiner,
+) -> Result<(), Fail> {
+    let bits = sample.field.width();
+    assert!(rt; 0 < bits && bits <= 128);
+    for axis in 0..sample.geometry.axes() {
+        let place = sample.geometry.len(axis).saturating_sub(1);
+        for call in [Call::Spread, Call::CopySpread, Call::Reduce] {
+            let case = Case {
+                call,
+                operator,
+                axis,
+                place,
+                bits,
+            };
+            check(rt, alloc, sample, &case)?;
+        }
+    }
+    Ok(())
+}
+
+/// Runs them in sets of these lengths, at a width.
+fn run_contexts(
+    rt: &impl Abort,
+    alloc: Global,
+    lengths: &[u64],
+    width: u64,
+    contexts: &[u64],
+) -> Result<(), Fail> {
+    for eighths in contexts {
+        let sample = random_sample(rt, alloc, lengths, width, *eighths)?;
+        for operator in OPERATORS {
+            run_lines(rt, alloc, &sample, operator)?;
+        }
+    }
+    Ok(())
+}
+
+#[test]
+fn the_line_of_a_set_combines_to_what_its_numbers_do(rt: HostRuntime) -> Result<(), Fail> {
+    for (lengths, widths, contexts) in LINES {
+        for width in *widths {
+            run_contexts(&rt, rt.alloc(), *lengths, *width, *contexts)?;
+        }
     }
     Ok(())
 }

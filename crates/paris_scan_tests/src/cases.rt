@@ -32,6 +32,18 @@ pub(crate) const SETS: &[(&[u64], &[u64], usize, usize)] = &[
     (&[256, 256], &[8], 19, 6),
 ];
 
+/// Sets of which each axis but one has a single place: the lengths of their axes, widths, and in how many eighths of the processors the
+/// context is 1.
+pub(crate) const LINES: &[(&[u64], &[u64], &[u64])] = &[
+    (&[1], &[1, 8, 64, 128], &[0, 8]),
+    (&[32], &[1, 8, 64, 128], &[0, 5, 8]),
+    (&[64], &[1, 8, 64, 96, 97, 128], &[0, 1, 8]),
+    (&[1, 128], &[8, 128], &[0, 5, 8]),
+    (&[1, 1, 256, 1], &[64], &[5]),
+    (&[1, 1, 1, 2048], &[8], &[8]),
+    (&[65_536], &[8], &[8]),
+];
+
 /// A word that looks random, and is the same in each run.
 fn word(seed: u64, place: u64) -> u64 {
     let state = seed.wrapping_add(place.wrapping_mul(0x9E37_79B9_7F4A_7C15));
@@ -115,19 +127,20 @@ pub(crate) fn sample_with(
     })
 }
 
-/// A sample from the generator.
+/// A sample from the generator, whose context is 1 in so many eighths of the processors.
 pub(crate) fn random_sample(
     rt: &impl Abort,
     alloc: Global,
     lengths: &[u64],
     width: u64,
+    eighths: u64,
 ) -> Result<Sample, Fail> {
     assert!(rt; 0 < width && width <= 128);
     let low = u128::MAX >> (128 - width);
     let count = Geometry::new(lengths)?.vps();
     let seed = word(count as u64, width);
     let numbers = numbers(alloc, low, word(seed, 1), count)?;
-    let context = bits(alloc, 6, word(seed, 2), count)?;
+    let context = bits(alloc, eighths, word(seed, 2), count)?;
     let cuts = bits(alloc, seed % 3, word(seed, 3), count)?;
     sample_with(rt, alloc, lengths, width, numbers, context, cuts)
 }

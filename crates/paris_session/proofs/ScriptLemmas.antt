@@ -1,11 +1,17 @@
 -- A script that goes on: its lines, its session and its replies.
-use Rattle.std.proofs.Common.{◌≡◌, ℕ, List, [], ◌∷◌, ◌++◌, refl, sym, ap, ◌∙◌, append_assoc, if◌then◌else◌, nat_eq, true, false}
+use Rattle.std.proofs.Common.{◌≡◌, ℕ, zero, suc, ◌+◌, ◌-◌, ◌<◌, ◌≤◌, List, [], ◌∷◌, ◌++◌, Bool, not, inl, inr, min, length, take, get_or, refl, sym, ap, ◌∙◌, arith, append_assoc, append-nil, if◌then◌else◌, nat_eq, nat_le, true, false}
+use Rattle.std.specs.Prelude.{All}
+use Rattle.std.specs.List.{position_or_len}
+use Rattle.std.proofs.lemmas.Bool.{cases_lt, leb-true, leb-false}
+use Rattle.std.proofs.lemmas.List.{get_or-take, length-take, length-append, take-take, take_all}
+use Rattle.std.proofs.lemmas.List.Elements.{All-head, All-tail, All-from_get_or}
+use Rattle.std.proofs.lemmas.List.Sums.{prefix_len_passes}
 use Rattle.std.specs.Io.KnownBytes.{Appends}
 use Rattle.std.proofs.KnownBytes.{Appends-trans}
 use Rattle.std.proofs.Common.{Option}
 use Rattle.paris_calls.specs.Texts.{WritesFront}
 use Rattle.paris_session.specs.Transcript.{Sitting}
-use Rattle.paris_session.specs.Transcript.{after_lines, replies, answer}
+use Rattle.paris_session.specs.Transcript.{after_lines, replies, answer, longest_line}
 use Rattle.paris_session.specs.Progress.{with_byte, ended_lines, open_line, said, sitting_at}
 
 pub ended-append : (begun xs ys : List ℕ) → ended_lines begun (xs ++ ys) ≡ ended_lines begun xs ++ ended_lines (open_line begun xs) ys
@@ -22,6 +28,62 @@ open-append begun (b ∷ xs) ys =
     elim (nat_eq b 10) as (λ t. (if t then open_line [] (xs ++ ys) else open_line (with_byte begun b) (xs ++ ys))
     ≡ open_line (if t then open_line [] xs else open_line (with_byte begun b) xs) ys)
     [ true ↦ open-append [] xs ys | false ↦ open-append (with_byte begun b) xs ys ]
+
+-- bytes that end no line
+abbrev pub EndsNone : List ℕ → Type 0
+EndsNone bytes = All (λ b. nat_eq b 10 ≡ false) bytes
+
+pub none_ends : (begun bytes : List ℕ) → EndsNone bytes → ended_lines begun bytes ≡ []
+none_ends begun [] clear = refl
+none_ends begun (b ∷ bs) clear =
+    let no : nat_eq b 10 ≡ false = All-head (λ x. nat_eq x 10 ≡ false) b bs clear in
+    rw no (none_ends (with_byte begun b) bs (All-tail (λ x. nat_eq x 10 ≡ false) b bs clear))
+
+take_none : (k : ℕ) → take {A = ℕ} k [] ≡ []
+take_none zero = refl
+take_none (suc k) = refl
+
+-- a line goes on with them, as far as it keeps any
+pub goes_on : (begun bytes : List ℕ) → EndsNone bytes → open_line begun bytes ≡ begun ++ take (longest_line + 1 - length begun) bytes
+goes_on begun [] clear = sym (ap (λ (l : List ℕ). begun ++ l) (take_none (longest_line + 1 - length begun)) ∙ append-nil begun)
+goes_on begun (b ∷ bs) clear =
+    let no : nat_eq b 10 ≡ false = All-head (λ x. nat_eq x 10 ≡ false) b bs clear in
+    rw no (go (nat_le (length begun) longest_line) refl (λ line. goes_on line bs (All-tail (λ x. nat_eq x 10 ≡ false) b bs clear)))
+  where
+    go : (t : Bool) → nat_le (length begun) longest_line ≡ t → ((line : List ℕ) → open_line line bs ≡ line ++ take (longest_line + 1 - length line) bs)
+        → open_line (if t then begun ++ b ∷ [] else begun) bs ≡ begun ++ take (longest_line + 1 - length begun) (b ∷ bs)
+    go true e rest =
+        let within : length begun ≤ longest_line = leb-true (length begun) longest_line e in
+        let more : longest_line + 1 - length begun ≡ suc (longest_line - length begun) = omega (arith, within) in
+        let later : longest_line + 1 - length (begun ++ b ∷ []) ≡ longest_line - length begun = omega (arith, length-append begun (b ∷ [])) in
+        rest (begun ++ b ∷ [])
+        ∙ ap (λ (k : ℕ). (begun ++ b ∷ []) ++ take k bs) later
+        ∙ append_assoc begun (b ∷ []) (take (longest_line - length begun) bs)
+        ∙ ap (λ (k : ℕ). begun ++ take k (b ∷ bs)) (sym more)
+    go false e rest =
+        let full : longest_line + 1 - length begun ≡ 0 = omega (arith, leb-false (length begun) longest_line e) in
+        rest begun
+        ∙ ap (λ (k : ℕ). begun ++ take k bs) full
+        ∙ ap (λ (k : ℕ). begun ++ take k (b ∷ bs)) (sym full)
+
+pub take_least : (m n : ℕ) (l : List ℕ) → take (min n m) l ≡ take m (take n l)
+take_least m n l = elim (cases_lt m n) [
+  | inl less ↦ let e : min n m ≡ m = omega (arith, less) in ap (λ (k : ℕ). take k l) e ∙ sym (take-take m n l (omega (arith, less)))
+  | inr more ↦ let e : min n m ≡ n = omega (arith, more) in ap (λ (k : ℕ). take k l) e ∙ sym (take_all m (take n l) (omega (arith, more, length-take n l)))
+]
+
+-- the bytes before the first line feed end none
+pub run_ends_none : (bytes : List ℕ) → EndsNone (take (position_or_len (λ b. nat_eq b 10) bytes) bytes)
+run_ends_none bytes =
+    let n = position_or_len (λ b. nat_eq b 10) bytes in
+    All-from_get_or (λ b. nat_eq b 10 ≡ false) (take n bytes) 0 (λ i h.
+    let within : i < n = omega (arith, h, length-take n bytes) in
+    let pass : not (nat_eq (get_or bytes i 0) 10) ≡ true = prefix_len_passes (λ b. not (nat_eq b 10)) bytes i 0 within in
+    rw (get_or-take n bytes i 0 within) (of_not (nat_eq (get_or bytes i 0) 10) pass))
+  where
+    of_not : (t : Bool) → not t ≡ true → t ≡ false
+    of_not false e = refl
+    of_not true e = sym e
 
 pub after-append : (r : Sitting) (xs ys : List (List ℕ)) → after_lines r (xs ++ ys) ≡ after_lines (after_lines r xs) ys
 after-append r [] ys = refl

@@ -1,15 +1,17 @@
 //! Runs a script: reads it from any reader, and writes the reply to each of its commands to any writer.
 
-ghost use Rattle.std.specs.Prelude.{◌≡◌, ℕ, ◌+◌, ◌^◌, ◌<◌, ◌≤◌, List, [], ◌∷◌, length, true, false, IfOk, IfErr, OnOk, OnErr};
+ghost use Rattle.std.specs.Prelude.{◌≡◌, ℕ, ◌+◌, ◌^◌, ◌<◌, ◌≤◌, List, [], ◌∷◌, length, nat_eq, take, true, false, IfOk, IfErr, OnOk, OnErr};
 ghost use Rattle.std.specs.Io.KnownBytes.{Appends, Keeps};
+ghost use Rattle.std.specs.List.{position_or_len};
 ghost use Rattle.paris_calls.specs.Calls.{no_marks, SameReads};
 ghost use Rattle.paris_calls.specs.Texts.{WritesFront};
 ghost use Rattle.paris_session.specs.Transcript.{answer, start};
-ghost use Rattle.paris_session.specs.Progress.{open_line, said, sitting_at};
+ghost use Rattle.paris_session.specs.Progress.{ended_lines, open_line, said, sitting_at};
 ghost use Rattle.paris_session.specs.Run.{most_reads, IsWriteFault, HasCause, HasEnded, EndsWell, StopsShort};
 
 use crate::answers::{Session, Summary};
 use crate::settlers::Settler;
+use crate::whole::is_line_feed;
 use paris_calls::{Given, Tally, read_once, write_out};
 use paris_names::limits::{MAX_LINE, MAX_READS};
 use std::alloc::Global;
@@ -48,6 +50,19 @@ fn write_reply<W: Write>(
     }
 }
 
+/// How many bytes stand before a line feed.
+fn len_before_line_feed(bytes: &[u8]) -> usize
+    ensures within { result ≤ length bytes.now }
+    ensures value { result ≡ position_or_len (λ b. nat_eq b 10) bytes.now }
+{
+    for (i, byte) in bytes.iter().enumerate() {
+        if is_line_feed(*byte) {
+            return i;
+        }
+    }
+    bytes.len()
+}
+
 /// A session, and the line that has begun.
 #[derive(Drop)]
 struct Script {
@@ -84,36 +99,53 @@ impl Script {
         }
     }
 
-    /// Takes one byte, and answers the line that it ends.
-    fn take_byte<H: Wait, S: Settler, W: Write>(
+    /// Takes the bytes that stand before a line feed into the line that has begun. The answer is how many they are.
+    fn take_run(&mut self, bytes: &[u8]) -> Result<usize, RunFault>
+        ensures session { self.new.session ≡ self.old.session }
+        ensures count { IfOk result (λ n. n ≡ position_or_len (λ b. nat_eq b 10) bytes.now) }
+        ensures ends { IfOk result (λ n. ended_lines self.old.line.items (take n bytes.now) ≡ []) }
+        ensures line { IfOk result (λ n. self.new.line.items ≡ open_line self.old.line.items (take n bytes.now)) }
+        ensures err { IfErr result (λ e. e ≡ RunFault.NoMemory) }
+    {
+        let count = len_before_line_feed(bytes);
+        let room = (MAX_LINE + 1).saturating_sub(self.line.len());
+        match self.line.extend_from_slice(&bytes[..count.min(room)]) {
+            Ok(()) => Ok(count),
+            Err(_) => Err(RunFault::NoMemory),
+        }
+    }
+
+    /// Takes a line feed, and answers the line that it ends, or the bytes that stand before one. The answer is how many bytes it took.
+    fn take_part<H: Wait, S: Settler, W: Write>(
         &mut self,
         rt: &H,
         settler: &S,
         writer: &mut W,
         tally: &mut Tally,
-        byte: u8,
-    ) -> Result<(), RunFault>
+        bytes: &[u8],
+    ) -> Result<usize, RunFault>
         requires room { self.old.session.commands < 2 ^ 62 }
         requires settler { S.can_settle settler.now }
-        ensures session { OnOk result (self.new.session ≡ sitting_at self.old.session self.old.line.items (byte ∷ [])) }
-        ensures line { OnOk result (self.new.line.items ≡ open_line self.old.line.items (byte ∷ [])) }
-        ensures written { OnOk result (Appends (W.contents writer.old) (W.contents writer.new)
-            (said self.old.session self.old.line.items (byte ∷ []))) }
+        requires some { 0 < length bytes.now }
+        ensures some { IfOk result (λ n. (0 < n) × (n ≤ length bytes.now)) }
+        ensures session { IfOk result (λ n. self.new.session ≡ sitting_at self.old.session self.old.line.items (take n bytes.now)) }
+        ensures line { IfOk result (λ n. self.new.line.items ≡ open_line self.old.line.items (take n bytes.now)) }
+        ensures written { IfOk result (λ n. Appends (W.contents writer.old) (W.contents writer.new)
+            (said self.old.session self.old.line.items (take n bytes.now))) }
         ensures err { OnErr result (WritesFront (W.contents writer.old) (W.contents writer.new)
-            (said self.old.session self.old.line.items (byte ∷ []))) }
+            (said self.old.session self.old.line.items (take 1 bytes.now))) }
         ensures fault { IfErr result (λ e. IsWriteFault e tally.old tally.new) }
         ensures reads { SameReads tally.old tally.new }
         ensures kept { OnOk result (tally.new ≡ tally.old) }
-        ensures count { OnOk result (self.new.session.commands ≤ self.old.session.commands + 1) }
+        ensures count { IfOk result (λ n. self.new.session.commands ≤ self.old.session.commands + n) }
     {
-        if byte == b'\n' {
-            let reply = self.end_line(settler)?;
-            return write_reply(rt, writer, tally, reply.as_slice());
+        if bytes[0] != b'\n' {
+            let count = self.take_run(bytes)?;
+            return Ok(count);
         }
-        if self.line.len() <= MAX_LINE && self.line.push(byte).is_err() {
-            return Err(RunFault::NoMemory);
-        }
-        Ok(())
+        let answer = self.end_line(settler)?;
+        write_reply(rt, writer, tally, answer.as_slice())?;
+        Ok(1)
     }
 
     /// Takes some bytes, and answers each line that they end.
@@ -138,8 +170,9 @@ impl Script {
         ensures kept { OnOk result (tally.new ≡ tally.old) }
         ensures count { OnOk result (self.new.session.commands ≤ self.old.session.commands + length bytes.now) }
     {
-        for byte in bytes {
-            self.take_byte(rt, settler, writer, tally, *byte)?;
+        let mut at = 0;
+        while at < bytes.len() {
+            at += self.take_part(rt, settler, writer, tally, &bytes[at..])?;
         }
         Ok(())
     }

@@ -7,7 +7,7 @@ use crate::answers::Session;
 use crate::settlers::Alone;
 use std::alloc::{AllocError, Global};
 
-fn is_line_feed(byte: u8) -> bool
+pub(crate) fn is_line_feed(byte: u8) -> bool
     ensures { result ≡ nat_eq byte 10 }
 {
     byte == b'\n'

@@ -2,7 +2,7 @@ use crate::common::Place::{Field, Flag};
 use crate::common::*;
 use paris_exec::{Done, Order, Outcome, execute};
 use paris_field::{FieldValue, SharedValue};
-use paris_instr::Plan;
+use paris_instr::{Plan, SharedPlan};
 use paris_names::FlagName::{Carry, Overflow};
 use paris_names::{Edition, Key, RowId, has_key};
 use std::alloc::Global;
@@ -50,9 +50,17 @@ fn values(rt: &impl Abort, alloc: Global, parts: &[Part]) -> Vec<SharedValue> {
     values
 }
 
+/// A plan with one owner.
+fn shared_plan(rt: &impl Abort, alloc: Global, plan: Plan) -> SharedPlan {
+    SharedPlan::new(alloc, plan)
+        .ok()
+        .expect(rt, "there is memory")
+}
+
 /// The result of the order of a plan with these inputs.
 fn executed(rt: &impl Abort, alloc: Global, plan: Plan, parts: &[Part]) -> Done {
     let inputs = values(rt, alloc, parts);
+    let plan = shared_plan(rt, alloc, plan);
     let order = Order::new(RowId(7), Edition(9), plan, inputs).expect(rt, "the inputs fit");
     execute(alloc, order).ok().expect(rt, "there is memory")
 }
@@ -211,6 +219,7 @@ fn a_store_keeps_the_bits_above_its_length(rt: HostRuntime) {
 /// Whether these are the inputs of an order of `u-move-constant-1L c 5 4`, of 8 bits and 2 processors.
 fn is_order(rt: &impl Abort, alloc: Global, parts: &[Part]) -> bool {
     let plan = plan_of(rt, alloc, b"u-move-constant-1L c 5 4", 8, 2);
+    let plan = shared_plan(rt, alloc, plan);
     Order::new(RowId(1), Edition(1), plan, values(rt, alloc, parts)).is_some()
 }
 

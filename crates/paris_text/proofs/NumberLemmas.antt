@@ -1,7 +1,10 @@
 -- A number is spelled in one way: by its decimal text.
-use Rattle.std.proofs.Common.{◌≡◌, ℕ, ◌+◌, ◌-◌, ◌*◌, ◌/◌, ◌%◌, ◌^◌, ◌<◌, ◌≤◌, List, [], ◌∷◌, ◌++◌, length, true, false, refl, sym, ap, ◌∙◌, arith, append_assoc, append-nil, None, Some, nat_lt, if◌then◌else◌}
+use Rattle.std.proofs.Common.{◌≡◌, ℕ, zero, suc, ◌+◌, ◌-◌, ◌*◌, ◌/◌, ◌%◌, ◌^◌, ◌<◌, ◌≤◌, List, [], ◌∷◌, ◌++◌, length, true, false, refl, sym, ap, ◌∙◌, arith, get_or, append_assoc, append-nil, None, Some, nat_lt, if◌then◌else◌}
 use Rattle.std.specs.Prelude.{Bool, IfSome, slice_index}
 use Rattle.std.specs.List.{list_all}
+use Rattle.std.proofs.lemmas.List.Folds.{list_all_at}
+use Rattle.std.proofs.Math.Nat.{pow-suc, add-zero, add-suc}
+use Rattle.std.proofs.Math.Nat.{le_refl}
 use Rattle.std.specs.Fmt.{decimal}
 use Rattle.std.proofs.lemmas.Fmt.{decimal_digit, decimal_step_wide}
 use Rattle.std.proofs.lemmas.Bool.{ltb-true}
@@ -90,3 +93,27 @@ number_spelled w = go (is_number w) refl (nat_lt (value_from 0 w) (2 ^ 64)) refl
     go true e true f =
         let lt : value_from 0 w < 2 ^ 64 = ltb-true (value_from 0 w) (2 ^ 64) f in
         spelled_back w e (omega (arith, lt))
+
+-- each of some digits is one
+pub digit_at : (w : List ℕ) (i : ℕ) → list_all is_digit w ≡ true → i < length w → (48 ≤ get_or w i 0) × (get_or w i 0 ≤ 57)
+digit_at w i digits within = go (is_digit (get_or w i 0)) refl
+  where
+    go : (t : Bool) → is_digit (get_or w i 0) ≡ t → (48 ≤ get_or w i 0) × (get_or w i 0 ≤ 57)
+    go true e = digit_bounds (get_or w i 0) e
+    go false e = absurd (grind (arith, list_all_at is_digit w i 0 within e, digits))
+
+-- a number of so many digits with one digit more
+pub more_digits : (n i b : ℕ) → n < 10 ^ i → b ≤ 57 → n * 10 + (b - 48) < 10 ^ suc i
+more_digits n i b small digit = rw (pow-suc 10 i) (omega (arith, small, digit))
+
+tens_ge : (k i : ℕ) → 10 ^ i ≤ 10 ^ (i + k)
+tens_ge zero i = rw (add-zero i) (le_refl (10 ^ i))
+tens_ge (suc k) i = let ih = tens_ge k i in rw (add-suc i k, pow-suc 10 (i + k)) (omega (arith, ih))
+
+-- a number of fewer than 19 digits has 18 at most
+pub eighteen_digits : (n i : ℕ) → n < 10 ^ i → i < 19 → n < 10 ^ 18
+eighteen_digits n i small few =
+    let ge = tens_ge (18 - i) i in
+    let all : i + (18 - i) ≡ 18 = omega (arith, few) in
+    let ge18 : 10 ^ i ≤ 10 ^ 18 = rw all at ge in
+    omega (arith, ge18, small)

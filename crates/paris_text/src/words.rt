@@ -1,6 +1,6 @@
 //! The words of a line, and what each of them spells.
 
-ghost use Rattle.std.specs.Prelude.{◌≡◌, ℕ, ◌+◌, ◌-◌, ◌^◌, ◌<◌, ◌≤◌, List, length, take, drop, nat_eq, nat_lt, nat_le, slice_index, ◌||◌, Option, Some, None, if◌then◌else◌, true, false, IfOk};
+ghost use Rattle.std.specs.Prelude.{◌≡◌, ℕ, ◌+◌, ◌-◌, ◌^◌, ◌<◌, ◌≤◌, List, length, min, take, drop, nat_eq, nat_lt, nat_le, slice_index, ◌||◌, Option, Some, None, if◌then◌else◌, true, false, IfOk};
 ghost use Rattle.std.specs.Fmt.{decimal};
 ghost use Rattle.std.specs.List.{position_or_len, list_all};
 ghost use Rattle.std.specs.Option.{IfSome};
@@ -57,12 +57,26 @@ fn is_number(word: &[u8]) -> bool
     !word.is_empty() && digits && plain
 }
 
-/// The value of some digits, if it is below `2 ^ 128`.
-fn value_of_digits(word: &[u8]) -> Option<u128>
+/// How many digits spell a number below `2 ^ 64`, whichever they are.
+const WORD_DIGITS: usize = 19;
+
+/// The value of the first 19 of some digits, or of all where they are fewer.
+fn value_of_first_digits(word: &[u8]) -> u64
     requires { list_all is_digit word.now ≡ true }
-    ensures { result ≡ (if nat_lt (value_from 0 word.now) (2 ^ 128) then Some (value_from 0 word.now) else None) }
+    ensures { value_from result (drop (min (length word.now) 19) word.now) ≡ value_from 0 word.now }
 {
-    let mut value = 0u128;
+    let mut value = 0u64;
+    for i in 0..word.len().min(WORD_DIGITS) {
+        value = value * 10 + u64::from(word[i].saturating_sub(b'0'));
+    }
+    value
+}
+
+/// The value of the digits of a number with some more behind it, if it is below `2 ^ 128`.
+fn value_with_digits(start: u64, word: &[u8]) -> Option<u128>
+    ensures { result ≡ (if nat_lt (value_from start word.now) (2 ^ 128) then Some (value_from start word.now) else None) }
+{
+    let mut value = u128::from(start);
     for byte in word {
         let digit = u128::from(byte.saturating_sub(b'0'));
         let Some(tens) = value.checked_mul(10) else {
@@ -74,6 +88,15 @@ fn value_of_digits(word: &[u8]) -> Option<u128>
         value = sum;
     }
     Some(value)
+}
+
+/// The value of some digits, if it is below `2 ^ 128`.
+fn value_of_digits(word: &[u8]) -> Option<u128>
+    requires { list_all is_digit word.now ≡ true }
+    ensures { result ≡ (if nat_lt (value_from 0 word.now) (2 ^ 128) then Some (value_from 0 word.now) else None) }
+{
+    let rest = &word[word.len().min(WORD_DIGITS)..];
+    value_with_digits(value_of_first_digits(word), rest)
 }
 
 /// The number below `2 ^ 128` that a word spells.

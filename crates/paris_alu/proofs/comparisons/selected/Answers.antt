@@ -1,13 +1,12 @@
-use Rattle.std.proofs.Common.{◌∙◌, ℕ, ap, length}
-use Rattle.paris_plane.proofs.Bits.{written}
-use Rattle.paris_field.specs.Numbers.{value_of_planes}
-use Rattle.paris_alu.proofs.Compares.{selected_field}
+use Rattle.std.proofs.Common.{◌∙◌, ℕ, Bool, List, ap, length, get_or, false, if◌then◌else◌}
+use Rattle.paris_field.specs.Numbers.{number_at, value_of_planes}
+use Rattle.paris_field.proofs.Places.{field_is}
 use Rattle.paris_alu.proofs.comparisons.selected.Goals as goal
 
 pub returns : goal.returns
 returns c =
+    let m : List Bool = c.args.mask.now in
+    let ps : List (List Bool) = c.in_ok-planes.planes.items in
     c.from_planes.ensures
-    ∙ ap (value_of_planes c.len.result) (written _ c.merge_planes.new.planes _ (c.merge_planes.auto.planes ∙ c.deref_mut.ensures.len))
-    ∙ ap (λ (m : ℕ). value_of_planes m c.merge_planes.new.planes) c.len.ensures
-    ∙ selected_field (length c.args.mask.now) c.args.x.now c.args.y.now c.deref_mut.result.now c.merge_planes.new.planes c.args.mask.now c.requires.same
-    (c.deref_mut.ensures.value ∙ c.in_ok-planes.ensures) c.merge_planes.auto.planes c.merge_planes.ensures.low
+    ∙ ap (λ (n : ℕ). value_of_planes n ps) c.len.ensures
+    ∙ field_is (length m) (length c.args.x.now) ps (λ v. if get_or m v false then number_at c.args.y.now v else number_at c.args.x.now v) c.in_ok-planes.ensures.count c.in_ok-planes.ensures.numbers

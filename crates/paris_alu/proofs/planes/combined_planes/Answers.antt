@@ -1,4 +1,4 @@
-use Rattle.std.proofs.Common.{◌≡◌, ◌<◌, ◌∙◌, ap, arith, length, List, Bool, []}
+use Rattle.std.proofs.Common.{◌≡◌, ◌<◌, arith, length, List, Bool, []}
 use Rattle.std.specs.Simd.Lanes.{zip2}
 use Rattle.std.proofs.lemmas.List.{get_or_read}
 use Rattle.paris_field.specs.Numbers.{plane_at}
@@ -12,5 +12,4 @@ loop-k-preserved g c =
     let y : List Bool = c.index-y-k.result in
     let ex : x ≡ plane_at c.args.x.now c.loop-k.k = get_or_read c.args.x.now c.loop-k.k x c.loop-k-test.true c.index-x-k.is [] in
     let ey : y ≡ plane_at c.args.y.now c.loop-k.k = get_or_read c.args.y.now c.loop-k.k y iny c.index-y-k.is [] in
-    let e : c.put.new.self ≡ zip2 g.O.WordOp.bit x y = c.put.ensures ∙ ap (λ (p : List Bool). zip2 g.O.WordOp.bit p y) c.in_ok-plane.ensures in
-    zip2_more (zip2 g.O.WordOp.bit) c.loop-k.k c.args.x.now c.args.y.now x y c.put.new.self c.loop-k.planes.items c.push.new.self.items c.loop-k-test.true iny ex ey e c.loop-k.invariant c.in_ok-push.ensures.items
+    zip2_more (zip2 g.O.WordOp.bit) c.loop-k.k c.args.x.now c.args.y.now x y c.in_ok-plane.plane c.loop-k.planes.items c.push.new.self.items c.loop-k-test.true iny ex ey c.in_ok-plane.ensures c.loop-k.invariant c.in_ok-push.ensures.items

@@ -1,5 +1,5 @@
-use Rattle.std.proofs.Common.{◌≡◌, ℕ, ◌+◌, ◌<◌, ◌∙◌, ap, arith, length, List, Bool, [], refl, subst, sym, false}
-use Rattle.std.proofs.lemmas.List.{get_or_read, length-replicate, length_push}
+use Rattle.std.proofs.Common.{◌≡◌, ℕ, ◌+◌, ◌<◌, ◌∙◌, ap, arith, length, List, Bool, [], refl, subst, sym}
+use Rattle.std.proofs.lemmas.List.{get_or_read, length_push}
 use Rattle.paris_plane.specs.Bits.{borrow_bit, sum_bit}
 use Rattle.paris_field.specs.Numbers.{AllOf, number_at, plane_at}
 use Rattle.paris_field.proofs.Places.{all_none, all_pushed, length_triple, read_long}
@@ -17,25 +17,14 @@ loop-k-init c =
       exact = λ v h. omega (arith, ap (λ (ps : List (List Bool)). number_at ps v) e);
     }
 
-pub subtract_step-requires-clause-second : goal.subtract_step-requires-clause-second
-subtract_step-requires-clause-second c =
+pub difference-requires-clause-second : goal.difference-requires-clause-second
+difference-requires-clause-second c =
     let iny : c.loop-k.k < length c.args.y.now = omega arith in
     read_long c.args.x.now c.loop-k.k c.index-x-k.result c.requires.x_planes c.loop-k-test.true c.index-x-k.is ∙ sym (read_long c.args.y.now c.loop-k.k c.index-y-k.result c.requires.y_planes iny c.index-y-k.is)
 
-pub subtract_step-requires-clause-borrows : goal.subtract_step-requires-clause-borrows
-subtract_step-requires-clause-borrows c =
+pub difference-requires-clause-borrows : goal.difference-requires-clause-borrows
+difference-requires-clause-borrows c =
     read_long c.args.x.now c.loop-k.k c.index-x-k.result c.requires.x_planes c.loop-k-test.true c.index-x-k.is ∙ sym c.loop-k.invariant.long
-
-pub subtract_step-requires-clause-differences : goal.subtract_step-requires-clause-differences
-subtract_step-requires-clause-differences c =
-    read_long c.args.x.now c.loop-k.k c.index-x-k.result c.requires.x_planes c.loop-k-test.true c.index-x-k.is ∙ sym c.loop-k.invariant.long ∙ sym c.len.ensures ∙ sym (ap length c.in_ok-plane.ensures ∙ length-replicate c.len.result false)
-
-pub returns-in_err-push-clause-long : goal.returns-in_err-push-clause-long
-returns-in_err-push-clause-long c =
-    let iny : c.loop-k.k < length c.args.y.now = omega arith in
-    let lx : length c.index-x-k.result ≡ length c.args.borrow.now = read_long c.args.x.now c.loop-k.k c.index-x-k.result c.requires.x_planes c.loop-k-test.true c.index-x-k.is in
-    let ly : length c.index-y-k.result ≡ length c.args.borrow.now = read_long c.args.y.now c.loop-k.k c.index-y-k.result c.requires.y_planes iny c.index-y-k.is in
-    ap length c.subtract_step.ensures.borrows ∙ length_triple borrow_bit c.loop-k.borrow c.index-x-k.result c.index-y-k.result c.loop-k.invariant.long lx ly
 
 pub loop-k-preserved : goal.loop-k-preserved
 loop-k-preserved c =
@@ -49,10 +38,10 @@ loop-k-preserved c =
     let ey : y ≡ plane_at c.args.y.now k = get_or_read c.args.y.now k y iny c.index-y-k.is [] in
     let nx : length x ≡ n = ap length ex ∙ c.requires.x_planes k c.loop-k-test.true in
     let ny : length y ≡ n = ap length ey ∙ c.requires.y_planes k iny in
-    let s : List Bool = c.subtract_step.new.difference in
-    let b' : List Bool = c.subtract_step.new.borrow in
-    let es = c.subtract_step.ensures.differences in
-    let eb = c.subtract_step.ensures.borrows in
+    let s : List Bool = c.in_ok-plane.plane in
+    let b' : List Bool = c.difference.new.borrow in
+    let es = c.in_ok-plane.ensures.differences in
+    let eb = c.in_ok-plane.ensures.borrows in
     let ls : length s ≡ n = ap length es ∙ length_triple sum_bit x y b nx ny c.loop-k.invariant.long in
     let lb : length b' ≡ n = ap length eb ∙ length_triple borrow_bit b x y c.loop-k.invariant.long nx ny in
     record {

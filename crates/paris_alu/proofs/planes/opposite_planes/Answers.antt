@@ -19,9 +19,9 @@ loop-k-init c =
       exact = λ v h. omega (arith, ap (λ (ps : List (List Bool)). number_at ps v) e);
     }
 
-pub xor_in-requires : goal.xor_in-requires
-xor_in-requires c =
-    ap length c.in_ok-plane.ensures ∙ read_long c.args.x.now c.loop-k.k c.index-x-k.result c.requires c.loop-k-test.true c.index-x-k.is ∙ sym c.loop-k.invariant.long
+pub combined-requires : goal.combined-requires
+combined-requires c =
+    read_long c.args.x.now c.loop-k.k c.index-x-k.result c.requires c.loop-k-test.true c.index-x-k.is ∙ sym c.loop-k.invariant.long
 
 pub or_in-requires : goal.or_in-requires
 or_in-requires c =
@@ -42,9 +42,9 @@ loop-k-preserved c =
     let ex : x ≡ plane_at c.args.x.now k = get_or_read c.args.x.now k x c.loop-k-test.true c.index-x-k.is [] in
     let ex' : x' ≡ x = get_or_read c.args.x.now k x' c.loop-k-test.true c.index-x-k-in-loop-k.is [] ∙ sym ex in
     let nx : length x ≡ n = ap length ex ∙ c.requires k c.loop-k-test.true in
-    let s : List Bool = c.xor_in.new.self in
+    let s : List Bool = c.in_ok-plane.plane in
     let b' : List Bool = c.or_in.new.self in
-    let es : s ≡ zip2 differ x b = c.xor_in.ensures ∙ ap (λ (p : List Bool). zip2 differ p b) c.in_ok-plane.ensures in
+    let es : s ≡ zip2 differ x b = c.in_ok-plane.ensures in
     let eb : b' ≡ zip2 (λ p q. p || q) b x = c.or_in.ensures ∙ ap (λ (p : List Bool). zip2 (λ p q. p || q) b p) ex' in
     let ls : length s ≡ n = ap length es ∙ length-zip2 differ x b (nx ∙ sym c.loop-k.invariant.long) ∙ nx in
     let lb : length b' ≡ n = ap length eb ∙ length-zip2 (λ p q. p || q) b x (c.loop-k.invariant.long ∙ sym nx) ∙ c.loop-k.invariant.long in

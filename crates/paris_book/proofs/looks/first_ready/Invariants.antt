@@ -2,7 +2,7 @@
 use Rattle.std.proofs.Common.{◌≡◌, take, map, None}
 use Rattle.std.specs.List.{find, enumerate_from}
 use Rattle.paris_book.specs.Entries.{machine_row}
-use Rattle.paris_book.specs.Among.{ready_among}
+use Rattle.paris_book.proofs.Among.{ready_among}
 use Rattle.paris_book.proofs.Pending.{ArePending}
 use Rattle.paris_book.proofs.looks.first_ready.Given as goal
 

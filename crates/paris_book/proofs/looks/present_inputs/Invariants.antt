@@ -3,7 +3,8 @@ use Rattle.std.proofs.Common.{◌≡◌, take, map, true}
 use Rattle.std.specs.List.{list_all}
 use Rattle.paris_exec.specs.Tasks.{field_of, fits_keys}
 use Rattle.paris_book.specs.Kept.{present}
-use Rattle.paris_book.specs.Among.{inputs_of, firm_among}
+use Rattle.paris_book.specs.Among.{inputs_of}
+use Rattle.paris_book.proofs.Among.{firm_among}
 use Rattle.paris_book.proofs.looks.present_inputs.Given as goal
 
 abbrev pub invariant-loop-key : goal.invariant-loop-key

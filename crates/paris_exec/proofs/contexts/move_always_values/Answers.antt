@@ -1,4 +1,4 @@
-use Rattle.std.proofs.Common.{◌∙◌, ◌≤◌, ◌++◌, ◌∷◌, [], true, sym, ap, subst, replicate, length, ◌<◌, List}
+use Rattle.std.proofs.Common.{◌∙◌, ◌≤◌, ◌++◌, ◌∷◌, [], true, sym, ap, subst, replicate, ◌<◌, List}
 use Rattle.std.proofs.lemmas.Bool.{eq-eqb}
 use Rattle.paris_names.specs.declared.keys.Key.TheVariants.{Field}
 use Rattle.paris_field.specs.Fields.{FieldNumbers}
@@ -26,10 +26,10 @@ pub input-requires : goal.input-requires
 input-requires c =
     move_target c.args.order.now c.args.to.now c.args.from.now c.args.bits c.requires.acts (apart c.args.bits c.args.to.now.width c.if-bits-to.false)
 
-pub merge_in-requires-clause-room : goal.merge_in-requires-clause-room
-merge_in-requires-clause-room c =
-    subst (λ (y : FieldNumbers). c.args.bits ≤ y.width) (sym (c.in_ok-value.ensures ∙ c.input.ensures.value)) (move_to c.args.order.now c.args.to.now c.args.from.now c.args.bits c.requires.acts c.requires.fit)
+pub merged-requires-clause-room : goal.merged-requires-clause-room
+merged-requires-clause-room c =
+    subst (λ (y : FieldNumbers). c.args.bits ≤ y.width) (sym c.input.ensures.value) (move_to c.args.order.now c.args.to.now c.args.from.now c.args.bits c.requires.acts c.requires.fit)
 
 pub returns : goal.returns
 returns c =
-    c.in_ok-push-2.ensures.items ∙ ap (λ (ys : List FieldNumbers). ys ++ c.merge_in.new.self ∷ []) c.in_ok-values.ensures.items ∙ move_part_left c.args.order.now c.args.to.now c.args.from.now c.args.bits c.requires.acts c.input-x.result.now c.input-x.ensures.value c.input-x.ensures.count c.in_ok-value.value c.merge_in.new.self c.in_ok-all.all c.low-low.result.now (c.in_ok-value.ensures ∙ c.input.ensures.value) (ap (λ (y : FieldNumbers). length y.numbers) c.in_ok-value.ensures ∙ c.input.ensures.count) (c.in_ok-all.ensures ∙ ap (λ n. replicate n true) (c.len.ensures ∙ c.input-x.ensures.count)) (λ v below. c.low-low.ensures.at v (subst (λ n. v < n) (sym c.input-x.ensures.count) below)) c.merge_in.ensures.width c.merge_in.ensures.numbers
+    c.in_ok-push-2.ensures.items ∙ ap (λ (ys : List FieldNumbers). ys ++ c.in_ok-value.value ∷ []) c.in_ok-values.ensures.items ∙ move_part_left c.args.order.now c.args.to.now c.args.from.now c.args.bits c.requires.acts c.input-x.result.now c.input-x.ensures.value c.input-x.ensures.count c.input.result.now c.in_ok-value.value c.in_ok-all.all c.low-low.result.now c.input.ensures.value c.input.ensures.count (c.in_ok-all.ensures ∙ ap (λ n. replicate n true) (c.len.ensures ∙ c.input-x.ensures.count)) (λ v below. c.low-low.ensures.at v (subst (λ n. v < n) (sym c.input-x.ensures.count) below)) c.in_ok-value.ensures.width c.in_ok-value.ensures.numbers

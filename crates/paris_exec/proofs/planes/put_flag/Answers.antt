@@ -1,8 +1,5 @@
-use Rattle.std.proofs.Common.{◌∙◌, ap, List, Bool}
+use Rattle.std.proofs.Common.{◌∙◌, ap}
 use Rattle.paris_names.specs.declared.keys.Key.TheVariants.{Flag}
-use Rattle.paris_plane.specs.Bits.{zip3}
-use Rattle.paris_flags.specs.declared.steps.TestStep.TheVariants.{Load}
-use Rattle.paris_flags.specs.Steps.{test_bit}
 use Rattle.paris_exec.specs.Planes.{flag_value}
 use Rattle.paris_exec.proofs.Executed.{flag_width}
 use Rattle.paris_exec.proofs.Operands.{ok_then}
@@ -10,4 +7,4 @@ use Rattle.paris_exec.proofs.Puts.{put_flag_is}
 use Rattle.paris_exec.proofs.planes.put_flag.Goals as goal
 
 pub returns : goal.returns
-returns c = ok_then _ _ c.from_plane.result (λ value is. is ∙ ap flag_value c.test_step.ensures ∙ ap (λ (old : List Bool). flag_value (zip3 (test_bit Load) old c.args.new.now c.flag_plane-selected.result.now)) c.in_ok-bits.ensures ∙ put_flag_is c.args.order.now (Flag c.args.order.now.plan.set_no c.args.flag.now) c.flag_plane.result.now c.args.new.now c.flag_plane-selected.result.now (flag_width c.args.order.now.plan c.args.order.now.plan.set_no c.args.flag.now) c.flag_plane.ensures.bits c.flag_plane-selected.ensures.bits c.flag_plane.ensures.count c.requires.count c.flag_plane-selected.ensures.count) c.from_plane.ensures
+returns c = ok_then _ _ c.from_plane.result (λ value is. is ∙ ap flag_value c.in_ok-bits.ensures ∙ put_flag_is c.args.order.now (Flag c.args.order.now.plan.set_no c.args.flag.now) c.flag_plane.result.now c.args.new.now c.flag_plane-selected.result.now (flag_width c.args.order.now.plan c.args.order.now.plan.set_no c.args.flag.now) c.flag_plane.ensures.bits c.flag_plane-selected.ensures.bits c.flag_plane.ensures.count c.requires.count c.flag_plane-selected.ensures.count) c.from_plane.ensures

@@ -15,7 +15,8 @@ returns-then-width c =
 
 pub returns : goal.returns
 returns c =
-    put_is c.args.order.now c.args.key.now c.in_ok-value.value c.args.new c.merge_in.new.self (λ v. slice_index_or c.args.mask.now v false) (number_at c.planes.result.now) (c.in_ok-value.ensures ∙ c.input-old.ensures.value) (ap (λ (y : FieldNumbers). length y.numbers) c.in_ok-value.ensures ∙ c.input-old.ensures.count)
+    let old : FieldNumbers = c.input-old.result.now in
+    put_is c.args.order.now c.args.key.now old c.args.new c.in_ok-value.value (λ v. slice_index_or c.args.mask.now v false) (number_at c.planes.result.now) c.input-old.ensures.value c.input-old.ensures.count
     (λ v below. c.planes.ensures.at v (subst (λ n. v < n) (sym c.requires.count) below))
-    c.merge_in.ensures.width
-    (c.merge_in.ensures.numbers ∙ ap (λ w. stored (length c.in_ok-value.value.numbers) (λ v. slice_index_or c.args.mask.now v false) (slice_index c.in_ok-value.value.numbers) w (number_at c.planes.result.now)) c.width-3.ensures.value)
+    c.in_ok-value.ensures.width
+    (c.in_ok-value.ensures.numbers ∙ ap (λ w. stored (length old.numbers) (λ v. slice_index_or c.args.mask.now v false) (slice_index old.numbers) w (number_at c.planes.result.now)) c.width-3.ensures.value)

@@ -5,4 +5,4 @@ pub returns-clause-bits : goal.returns-clause-bits
 returns-clause-bits c =
     λ k hk inside i hi within.
     let put : k < c.loop-k.k = omega arith in
-    c.loop-k.invariant.bits k put i hi within ∙ c.transpose64.ensures k i hk hi
+    c.loop-k.invariant.bits k put i hi within ∙ c.turned-rows.ensures k i (omega arith) hi

@@ -1,34 +1,14 @@
-use Rattle.std.proofs.Common.{◌≢◌, ℕ, ◌∙◌, ap, arith, below_more, refl}
-use Rattle.std.proofs.lemmas.Grind.{get_or-set_at}
-use Rattle.std.proofs.lemmas.List.{get_or-set_other, length-set, length-replicate}
-use Rattle.paris_model.specs.Store.{low}
-use Rattle.paris_plane.specs.Words.{zero_bit}
+use Rattle.std.proofs.Common.{ℕ, ◌∙◌, arith, get_or, replicate}
+use Rattle.std.proofs.lemmas.List.{length-replicate}
+use Rattle.paris_muldiv.proofs.Outcomes.{no_outcomes, one_more_outcome}
 use Rattle.paris_muldiv.proofs.blocks.block_results.Goals as goal
 
 pub loop-i-init : goal.loop-i-init
 loop-i-init g c =
     let none : ℕ = 0 in
-    record {
-      long = length-replicate 64 none;
-      values = λ j h. absurd (omega (arith, h));
-      overflow = λ j h. absurd (omega (arith, h));
-      clear = λ j _ below. zero_bit j below;
-    }
+    no_outcomes g.O.NumberOp.operator c.args.bits (λ j. get_or c.args.xs.now j 0) (λ j. get_or c.args.ys.now j 0) (replicate 64 none) (length-replicate 64 none)
 
 pub loop-i-preserved : goal.loop-i-preserved
 loop-i-preserved g c =
-    let i : ℕ = c.loop-i.i in
-    record {
-      long = length-set c.loop-i.results i _ ∙ c.loop-i.invariant.long;
-      values = below_more _ _
-          (λ j h. let ne : j ≢ i = omega arith in
-          ap (low c.args.bits) (get_or-set_other c.loop-i.results i j _ 0 ne) ∙ c.loop-i.invariant.values j h)
-          (ap (low c.args.bits) (get_or-set_at c.loop-i.results i i _ 0 refl (omega arith)) ∙ c.apply-result.ensures.value);
-      overflow = below_more _ _
-          (λ j h. let ne : j ≢ i = omega arith in
-          c.with_bit-word.ensures.others j ne ∙ c.loop-i.invariant.overflow j h)
-          (c.with_bit-word.ensures.here ∙ c.apply-result.ensures.overflow);
-      clear = λ j h below.
-          let ne : j ≢ i = omega (arith, h) in
-          c.with_bit-word.ensures.others j ne ∙ c.loop-i.invariant.clear j (omega (arith, h)) below;
-    }
+    one_more_outcome g.O.NumberOp.operator c.args.bits (λ j. get_or c.args.xs.now j 0) (λ j. get_or c.args.ys.now j 0) c.loop-i.i c.loop-i.results c.loop-i.word _ _ (omega arith)
+    c.apply-result.ensures.value (c.with_bit-word.ensures.here ∙ c.apply-result.ensures.overflow) c.with_bit-word.ensures.others c.loop-i.invariant

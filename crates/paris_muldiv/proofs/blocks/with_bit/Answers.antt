@@ -1,9 +1,8 @@
-use Rattle.std.proofs.Common.{◌∙◌, sym}
-use Rattle.paris_plane.specs.Words.{set_same, set_other}
+use Rattle.paris_muldiv.proofs.Outcomes.{bit_put, bit_kept}
 use Rattle.paris_muldiv.proofs.blocks.with_bit.Goals as goal
 
-pub returns-then-bit-clause-here : goal.returns-then-bit-clause-here
-returns-then-bit-clause-here c = set_same c.args.word c.args.i c.requires.within ∙ sym c.if-bit.true
+pub returns-clause-here : goal.returns-clause-here
+returns-clause-here c = bit_put c.args.word c.args.i c.from.result c.args.bit c.requires.within c.requires.clear c.from.ensures
 
-pub returns-then-bit-clause-others : goal.returns-then-bit-clause-others
-returns-then-bit-clause-others c = λ j other. set_other c.args.word c.args.i j c.requires.within other
+pub returns-clause-others : goal.returns-clause-others
+returns-clause-others c = λ j other. bit_kept c.args.word c.args.i j c.from.result c.args.bit c.requires.within other c.from.ensures

@@ -1,20 +1,24 @@
-use Rattle.std.proofs.Common.{◌≡◌, ◌∙◌, ◌++◌, ◌∷◌, [], ℕ, ap, sym, arith, get_or, cond, map}
-use Rattle.std.proofs.lemmas.List.FromFn.{map-range_with_len_more}
-use Rattle.paris_geometry.specs.Geometry.{numbers_below}
+use Rattle.std.proofs.Common.{◌<◌, ◌^◌, ◌∙◌, ℕ, List, All, ap, cond, get_or, length, subst, sym}
+use Rattle.paris_model.specs.Store.{everywhere}
+use Rattle.paris_field.specs.Fields.{FieldNumbers}
 use Rattle.paris_field.specs.Numbers.{has}
+use Rattle.paris_router.proofs.Fetched.{fetched_fit, fetched_is, length-everywhere}
 use Rattle.paris_router.proofs.gets.fetched_numbers.Goals as goal
-use Rattle.paris_router.proofs.gets.fetched_numbers.Goals.{then-get, else-get}
 
-pub loop-v-preserved : goal.loop-v-preserved
-loop-v-preserved c =
-    let v : ℕ = c.loop-v.v in
-    let number : ℕ = get_or c.args.numbers.now (get_or c.args.addresses.now v 0) 0 in
-    let f = λ (v : ℕ). cond (has c.args.selected.now v) (get_or c.args.numbers.now (get_or c.args.addresses.now v 0) 0) 0 in
-    let value : c.if-get.push ≡ cond (has c.args.selected.now v) number 0 =
-    elim c.if-get.branch [
-      | then-get w ↦ w.push-is ∙ ap (λ b. cond b number 0) (sym (sym c.get.ensures ∙ w.if-get.true))
-      | else-get w ↦ w.push-is ∙ ap (λ b. cond b number 0) (sym (sym c.get.ensures ∙ w.if-get.false))
-    ] in
-    c.in_ok-push.ensures.items ∙ ap (λ l. l ++ c.if-get.push ∷ []) c.loop-v.invariant
-    ∙ ap (λ x. map f (numbers_below v) ++ x ∷ []) value
-    ∙ sym (map-range_with_len_more f 0 v v (omega arith))
+pub fetched-requires-clause-within : goal.fetched-requires-clause-within
+fetched-requires-clause-within c =
+    subst (λ n. All (λ r. r < n) c.args.addresses.now) (sym (ap length (c.deref.ensures.value ∙ c.in_ok-numbers.ensures.value) ∙ length-everywhere _ _)) c.requires.within
+
+pub from_numbers-requires-clause-fit : goal.from_numbers-requires-clause-fit
+from_numbers-requires-clause-fit c =
+    subst (λ l. All (λ x. x < 2 ^ c.args.bits) l) (sym (c.deref-2.ensures.value ∙ c.in_ok-fetched.ensures))
+    (fetched_fit c.args.bits (length c.args.addresses.now) (has c.args.selected.now) (λ v. get_or c.args.addresses.now v 0) c.deref.result.now
+    (subst (λ l. All (λ x. x < 2 ^ c.args.bits) l) (sym c.deref.ensures.value) c.in_ok-numbers.ensures.fit))
+
+pub returns : goal.returns
+returns c =
+    let field : List ℕ → FieldNumbers = λ l. record { width = c.args.bits; numbers = l } in
+    c.in_ok-value.ensures
+    ∙ ap field (c.deref-2.ensures.value ∙ c.in_ok-fetched.ensures
+    ∙ ap (λ l. everywhere (length c.args.addresses.now) (λ v. cond (has c.args.selected.now v) (get_or l (get_or c.args.addresses.now v 0) 0) 0)) (c.deref.ensures.value ∙ c.in_ok-numbers.ensures.value)
+    ∙ fetched_is c.args.bits c.args.x.now c.args.addresses.now c.args.selected.now c.requires.addresses c.requires.within)

@@ -1,14 +1,13 @@
--- Values and planes are those of the messages so far.
-use Rattle.std.proofs.Common.{◌≡◌, length, take}
-use Rattle.std.specs.Prelude.{slice_index}
-use Rattle.paris_model.specs.Mail.{arrivals}
-use Rattle.paris_model.specs.Store.{everywhere}
-use Rattle.paris_router.specs.Mail.{crowded_in, receivers_of}
+-- Values and planes are those of the senders below p.
+use Rattle.std.proofs.Common.{◌≡◌, get_or, length, replicate}
+use Rattle.paris_model.specs.Mail.{messages}
+use Rattle.paris_field.specs.Numbers.{has}
+use Rattle.paris_router.specs.Mail.{crowded_in, first_numbers, receivers_of}
 use Rattle.paris_router.proofs.sends.deliver.Given as goal
 
-abbrev pub invariant-loop-message : goal.invariant-loop-message
-invariant-loop-message l = record {
-  values : l.values ≡ everywhere (length l.fn.values) (λ r. slice_index (arrivals (take l.message-index l.mail) r) 0);
-  receivers : l.receivers ≡ receivers_of (length l.fn.values) (take l.message-index l.mail);
-  crowded : l.crowded ≡ crowded_in (length l.fn.values) (take l.message-index l.mail);
+abbrev pub invariant-loop-p : goal.invariant-loop-p
+invariant-loop-p g l = record {
+  values : (zero : _) → l.fn.values ≡ replicate (length l.fn.values) zero → l.values ≡ first_numbers (length l.fn.values) l.numbers zero (messages l.p (has l.selected) (λ v. get_or l.addresses v 0) (λ v. v));
+  receivers : l.receivers ≡ receivers_of (length l.fn.values) (messages l.p (has l.selected) (λ v. get_or l.addresses v 0) (λ v. v));
+  crowded : l.crowded ≡ crowded_in (length l.fn.values) (messages l.p (has l.selected) (λ v. get_or l.addresses v 0) (λ v. v));
 }

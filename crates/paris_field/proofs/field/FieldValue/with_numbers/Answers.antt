@@ -13,7 +13,7 @@ put_numbers-requires-clause-within c = omega (arith, c.requires.within, vps_is c
 
 pub returns : goal.returns
 returns c =
-    let same : c.deref_mut.result.now ≡ c.self.inside.planes.items = c.deref_mut.ensures.value ∙ c.in_ok-planes.ensures ∙ c.deref.ensures.value in
+    let same : c.deref_mut.result.now ≡ c.self.inside.planes.items = c.deref_mut.ensures.value ∙ c.in_ok-planes.ensures ∙ c.deref-2.ensures.value in
     let width : length c.deref_mut.result.now ≡ c.args.self.now.width = ap length same ∙ width_is c.self.inside.vps c.self.inside.planes.items c.self.view_is in
     let many : length c.args.self.now.numbers ≡ c.self.inside.vps = vps_is c.self.inside.vps c.self.inside.planes.items c.self.view_is in
     ap (value_of_planes c.self.inside.vps) (written _ c.put_numbers.new.planes _ (c.put_numbers.auto.planes ∙ c.deref_mut.ensures.len))

@@ -1,0 +1,4 @@
+pub mod Digits
+pub mod Rises
+pub mod Sums
+pub mod Tops

@@ -1,9 +1,0 @@
-use Rattle.std.proofs.Common.{◌≡◌, ◌<◌, ◌^◌, drop}
-use Rattle.paris_text.specs.Words.{value_from}
-use Rattle.paris_text.proofs.words.value_of_digits.Given as goal
-
-abbrev pub invariant-loop-byte : goal.invariant-loop-byte
-invariant-loop-byte l = record {
-  same : value_from l.value (drop l.byte-index l.word) ≡ value_from 0 l.word;
-  fits : l.value < 2 ^ 128;
-}
