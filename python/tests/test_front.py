@@ -141,9 +141,9 @@ def test_a_long_script_is_told_of_on_a_terminal(tmp_path: Path) -> None:
     sort = subprocess.run(
         [REPOSITORY / "examples/large/radix-sort", "script"], capture_output=True, text=True, check=True
     )
-    script.write_text(sort.stdout + "input key 0 5\nsettle\ninput key 0 6\nsettle\n" * 4)
+    script.write_text(sort.stdout + "input key 0 5\nsettle\ninput key 0 6\nsettle\n" * 60)
     told, quiet = on_a_terminal(script), on_a_terminal("--quiet", script)
-    assert told[:2] == quiet[:2] == (0, quiet[1]) and quiet[1].count(b"settled") == 10
+    assert told[:2] == quiet[:2] == (0, quiet[1]) and quiet[1].count(b"settled") == 122
     assert b" commands answered" in told[2] and quiet[2] == b""
     # A short one is run as it is.
     assert on_a_terminal(FIRST) == (0, TRANSCRIPT.encode(), b"")
