@@ -102,7 +102,7 @@ block_sum x mask b wx wm small is_x is_m =
     ∙ ap count_ones (let e : bit_and wx wm / 2 ^ 0 ≡ bit_and wx wm = omega arith in e)
 
 -- the sum of the higher planes of 96 at most
-pub tops_small : (who : ℕ → Bool) (ps : List (List Bool)) (k n : ℕ) → length ps ≤ 96 → masked_sum who (number_at (drop k ps)) 0 n ≤ n * 2 ^ 96
-tops_small who ps k n narrow =
-    sum_bound who (number_at (drop k ps)) (2 ^ 96) 0 n (λ v.
+pub tops_small : (who : ℕ → Bool) (ps : List (List Bool)) (k a n : ℕ) → length ps ≤ 96 → masked_sum who (number_at (drop k ps)) a n ≤ n * 2 ^ 96
+tops_small who ps k a n narrow =
+    sum_bound who (number_at (drop k ps)) (2 ^ 96) a n (λ v.
     omega (arith, number_at_lt (drop k ps) v, pow_mono (let h : length (drop k ps) ≤ 96 = omega (arith, length-drop k ps) in h)))

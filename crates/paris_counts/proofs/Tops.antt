@@ -94,9 +94,9 @@ some_of who f a (suc n) h =
           (a, omega arith, omega arith, one.0, one.1)
     ]
 
--- the greatest so far are the candidates
-pub record Candidates (cand who : ℕ → Bool) (g : ℕ → ℕ) (m n : ℕ) : Type 0 where
-  pub here : (v : ℕ) → v < n → cand v ≡ (who v && eqb (g v) m)
+-- the greatest so far of the n from a on are the candidates
+pub record Candidates (cand who : ℕ → Bool) (g : ℕ → ℕ) (m a n : ℕ) : Type 0 where
+  pub here : (v : ℕ) → a ≤ v → v < a + n → cand v ≡ (who v && eqb (g v) m)
 
 candidate : (b c : Bool) (x m : ℕ) → c ≡ (b && eqb x m) → b ≡ true → x ≡ m → c ≡ true
 candidate b c x m is e same = is ∙ ap (λ p. p && eqb x m) e ∙ grind (arith, nat_tests, same)
@@ -106,26 +106,26 @@ passes true c x m is e = (refl, grind (arith, nat_tests, sym is ∙ e))
 passes false c x m is e = absurd (false≢true (sym is ∙ e))
 
 -- one of them has the digit
-pub top_one : (cand who : ℕ → Bool) (b g f : ℕ → ℕ) (n : ℕ) → ((v : ℕ) → f v ≡ b v + 2 * g v) → ((v : ℕ) → b v < 2) → Candidates cand who g (top who g 0 n) n → 0 < masked_sum cand b 0 n → top who f 0 n ≡ 2 * top who g 0 n + 1
-top_one cand who b g f n is digit here some =
-    let m : ℕ = top who g 0 n in
-    let one = some_of cand b 0 n some in
+pub top_one : (cand who : ℕ → Bool) (b g f : ℕ → ℕ) (a n : ℕ) → ((v : ℕ) → f v ≡ b v + 2 * g v) → ((v : ℕ) → b v < 2) → Candidates cand who g (top who g a n) a n → 0 < masked_sum cand b a n → top who f a n ≡ 2 * top who g a n + 1
+top_one cand who b g f a n is digit here some =
+    let m : ℕ = top who g a n in
+    let one = some_of cand b a n some in
     let v : ℕ = one.0 in
-    let p = passes (who v) (cand v) (g v) m (here.here v (omega (arith, one.2))) one.3 in
-    let least : f v ≤ top who f 0 n = top_at who f 0 n v (omega arith) one.2 p.0 in
-    let most : top who f 0 n ≤ 2 * m + 1 = top_most who f (2 * m + 1) 0 n (λ u l h e. omega (arith, is u, digit u, top_at who g 0 n u l h e)) in
+    let p = passes (who v) (cand v) (g v) m (here.here v one.1 one.2) one.3 in
+    let least : f v ≤ top who f a n = top_at who f a n v one.1 one.2 p.0 in
+    let most : top who f a n ≤ 2 * m + 1 = top_most who f (2 * m + 1) a n (λ u l h e. omega (arith, is u, digit u, top_at who g a n u l h e)) in
     omega (arith, least, most, is v, p.1, one.4)
 
 -- none of them has
-pub top_none : (cand who : ℕ → Bool) (b g f : ℕ → ℕ) (n : ℕ) → ((v : ℕ) → f v ≡ b v + 2 * g v) → ((v : ℕ) → b v < 2) → Candidates cand who g (top who g 0 n) n → masked_sum cand b 0 n ≡ 0 → top who f 0 n ≡ 2 * top who g 0 n
-top_none cand who b g f n is digit here none =
-    let m : ℕ = top who g 0 n in
-    let least : 2 * m ≤ top who f 0 n = top_twice who f g 0 n (λ v. omega (arith, is v)) in
-    let most : top who f 0 n ≤ 2 * m =
-    top_most who f (2 * m) 0 n (λ u l h e.
+pub top_none : (cand who : ℕ → Bool) (b g f : ℕ → ℕ) (a n : ℕ) → ((v : ℕ) → f v ≡ b v + 2 * g v) → ((v : ℕ) → b v < 2) → Candidates cand who g (top who g a n) a n → masked_sum cand b a n ≡ 0 → top who f a n ≡ 2 * top who g a n
+top_none cand who b g f a n is digit here none =
+    let m : ℕ = top who g a n in
+    let least : 2 * m ≤ top who f a n = top_twice who f g a n (λ v. omega (arith, is v)) in
+    let most : top who f a n ≤ 2 * m =
+    top_most who f (2 * m) a n (λ u l h e.
     elim (cases_eq (g u) m) [
-      | inl same ↦ omega (arith, is u, same, none_of cand b 0 n none u l h (candidate (who u) (cand u) (g u) m (here.here u (omega (arith, h))) e same))
-      | inr apart ↦ omega (arith, is u, digit u, apart, top_at who g 0 n u l h e)
+      | inl same ↦ omega (arith, is u, same, none_of cand b a n none u l h (candidate (who u) (cand u) (g u) m (here.here u l h) e same))
+      | inr apart ↦ omega (arith, is u, digit u, apart, top_at who g a n u l h e)
     ]) in
     omega (arith, least, most)
 
@@ -135,20 +135,20 @@ kept_bit true true g m = grind (arith, nat_tests)
 kept_bit true false g m = grind (arith, nat_tests)
 kept_bit false x g m = refl
 
-pub next_one : (cand cand' who x : ℕ → Bool) (g f : ℕ → ℕ) (m n : ℕ) → ((v : ℕ) → f v ≡ bit (x v) + 2 * g v) → Candidates cand who g m n → ((v : ℕ) → v < n → cand' v ≡ (cand v && x v)) → Candidates cand' who f (2 * m + 1) n
-next_one cand cand' who x g f m n is here kept =
-    record { here = λ v h. kept v h ∙ ap (λ c. c && x v) (here.here v h) ∙ kept_bit (who v) (x v) (g v) m ∙ ap (λ t. who v && eqb t (2 * m + 1)) (sym (is v)) }
+pub next_one : (cand cand' who x : ℕ → Bool) (g f : ℕ → ℕ) (m a n : ℕ) → ((v : ℕ) → f v ≡ bit (x v) + 2 * g v) → Candidates cand who g m a n → ((v : ℕ) → a ≤ v → v < a + n → cand' v ≡ (cand v && x v)) → Candidates cand' who f (2 * m + 1) a n
+next_one cand cand' who x g f m a n is here kept =
+    record { here = λ v l h. kept v l h ∙ ap (λ c. c && x v) (here.here v l h) ∙ kept_bit (who v) (x v) (g v) m ∙ ap (λ t. who v && eqb t (2 * m + 1)) (sym (is v)) }
 
 same_bit : (w : Bool) (x : Bool) (g m : ℕ) → (w && eqb g m ≡ true → bit x ≡ 0) → (w && eqb g m) ≡ (w && eqb (bit x + 2 * g) (2 * m))
 same_bit false x g m h = refl
 same_bit true false g m h = grind (arith, nat_tests)
 same_bit true true g m h = grind (arith, nat_tests, h)
 
-pub next_none : (cand cand' who x : ℕ → Bool) (g f : ℕ → ℕ) (m n : ℕ) → ((v : ℕ) → f v ≡ bit (x v) + 2 * g v) → Candidates cand who g m n → ((v : ℕ) → v < n → cand v ≡ true → bit (x v) ≡ 0) → ((v : ℕ) → v < n → cand' v ≡ cand v) → Candidates cand' who f (2 * m) n
-next_none cand cand' who x g f m n is here none kept =
+pub next_none : (cand cand' who x : ℕ → Bool) (g f : ℕ → ℕ) (m a n : ℕ) → ((v : ℕ) → f v ≡ bit (x v) + 2 * g v) → Candidates cand who g m a n → ((v : ℕ) → a ≤ v → v < a + n → cand v ≡ true → bit (x v) ≡ 0) → ((v : ℕ) → a ≤ v → v < a + n → cand' v ≡ cand v) → Candidates cand' who f (2 * m) a n
+next_none cand cand' who x g f m a n is here none kept =
     record {
-      here = λ v h.
-          kept v h ∙ here.here v h ∙ same_bit (who v) (x v) (g v) m (λ e. none v h (here.here v h ∙ e)) ∙ ap (λ t. who v && eqb t (2 * m)) (sym (is v));
+      here = λ v l h.
+          kept v l h ∙ here.here v l h ∙ same_bit (who v) (x v) (g v) m (λ e. none v l h (here.here v l h ∙ e)) ∙ ap (λ t. who v && eqb t (2 * m)) (sym (is v));
     }
 
 -- before the first plane
@@ -156,11 +156,11 @@ and_true : (b : Bool) (x : ℕ) → x ≡ 0 → b ≡ (b && eqb x 0)
 and_true true x e = sym (ap (λ t. eqb t 0) e)
 and_true false x e = refl
 
-pub first_candidates : (cand who : ℕ → Bool) (g : ℕ → ℕ) (n : ℕ) → ((v : ℕ) → cand v ≡ who v) → ((v : ℕ) → g v ≡ 0) → Candidates cand who g 0 n
-first_candidates cand who g n same none = record { here = λ v h. same v ∙ and_true (who v) (g v) (none v) }
+pub first_candidates : (cand who : ℕ → Bool) (g : ℕ → ℕ) (a n : ℕ) → ((v : ℕ) → cand v ≡ who v) → ((v : ℕ) → g v ≡ 0) → Candidates cand who g 0 a n
+first_candidates cand who g a n same none = record { here = λ v l h. same v ∙ and_true (who v) (g v) (none v) }
 
-pub top_zero : (who : ℕ → Bool) (g : ℕ → ℕ) (n : ℕ) → ((v : ℕ) → g v ≡ 0) → 0 ≡ top who g 0 n
-top_zero who g n none = omega (arith, top_most who g 0 0 n (λ v _ _ _. omega (arith, none v)))
+pub top_zero : (who : ℕ → Bool) (g : ℕ → ℕ) (a n : ℕ) → ((v : ℕ) → g v ≡ 0) → 0 ≡ top who g a n
+top_zero who g a n none = omega (arith, top_most who g 0 a n (λ v _ _ _. omega (arith, none v)))
 
 and_always : (c : Bool) → (c && true) ≡ c
 and_always true = refl
@@ -172,20 +172,20 @@ byte_bit true = refl
 byte_bit false = refl
 
 -- and with one plane more
-pub next_candidates : (found : Bool) (cand cand' who x : ℕ → Bool) (g f : ℕ → ℕ) (m n d : ℕ) → m ≡ top who g 0 n → ((v : ℕ) → f v ≡ bit (x v) + 2 * g v) → Candidates cand who g m n
-    → found ≡ ltb 0 (masked_sum cand (λ v. bit (x v)) 0 n) → d ≡ bit found → ((v : ℕ) → v < n → cand' v ≡ (cand v && (not found || x v)))
-    → (2 * m + d ≡ top who f 0 n) × Candidates cand' who f (2 * m + d) n
-next_candidates true cand cand' who x g f m n d most is here found digit kept =
-    let some : 0 < masked_sum cand (λ v. bit (x v)) 0 n = grind (arith, nat_tests, sym found) in
-    let next : Candidates cand' who f (2 * m + 1) n = next_one cand cand' who x g f m n is here kept in (
-      omega (arith, digit, most, top_one cand who (λ v. bit (x v)) g f n is (λ v. below_two (x v)) (subst (λ k. Candidates cand who g k n) most here) some),
-      subst (λ k. Candidates cand' who f (2 * m + k) n) (sym digit) next,
+pub next_candidates : (found : Bool) (cand cand' who x : ℕ → Bool) (g f : ℕ → ℕ) (m a n d : ℕ) → m ≡ top who g a n → ((v : ℕ) → f v ≡ bit (x v) + 2 * g v) → Candidates cand who g m a n
+    → found ≡ ltb 0 (masked_sum cand (λ v. bit (x v)) a n) → d ≡ bit found → ((v : ℕ) → a ≤ v → v < a + n → cand' v ≡ (cand v && (not found || x v)))
+    → (2 * m + d ≡ top who f a n) × Candidates cand' who f (2 * m + d) a n
+next_candidates true cand cand' who x g f m a n d most is here found digit kept =
+    let some : 0 < masked_sum cand (λ v. bit (x v)) a n = grind (arith, nat_tests, sym found) in
+    let next : Candidates cand' who f (2 * m + 1) a n = next_one cand cand' who x g f m a n is here kept in (
+      omega (arith, digit, most, top_one cand who (λ v. bit (x v)) g f a n is (λ v. below_two (x v)) (subst (λ k. Candidates cand who g k a n) most here) some),
+      subst (λ k. Candidates cand' who f (2 * m + k) a n) (sym digit) next,
     )
-next_candidates false cand cand' who x g f m n d most is here found digit kept =
-    let none : masked_sum cand (λ v. bit (x v)) 0 n ≡ 0 = grind (arith, nat_tests, sym found) in
-    let next : Candidates cand' who f (2 * m) n =
-    next_none cand cand' who x g f m n is here (λ v h e. none_of cand (λ u. bit (x u)) 0 n none v (omega arith) (omega (arith, h)) e) (λ v h. kept v h ∙ and_always (cand v)) in
+next_candidates false cand cand' who x g f m a n d most is here found digit kept =
+    let none : masked_sum cand (λ v. bit (x v)) a n ≡ 0 = grind (arith, nat_tests, sym found) in
+    let next : Candidates cand' who f (2 * m) a n =
+    next_none cand cand' who x g f m a n is here (λ v l h e. none_of cand (λ u. bit (x u)) a n none v l h e) (λ v l h. kept v l h ∙ and_always (cand v)) in
     let twice : 2 * m ≡ 2 * m + d = omega (arith, digit) in (
-      omega (arith, digit, most, top_none cand who (λ v. bit (x v)) g f n is (λ v. below_two (x v)) (subst (λ k. Candidates cand who g k n) most here) none),
-      subst (λ k. Candidates cand' who f k n) twice next,
+      omega (arith, digit, most, top_none cand who (λ v. bit (x v)) g f a n is (λ v. below_two (x v)) (subst (λ k. Candidates cand who g k a n) most here) none),
+      subst (λ k. Candidates cand' who f k a n) twice next,
     )

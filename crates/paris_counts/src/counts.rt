@@ -1,37 +1,60 @@
-//! In how many processors the bits of two planes are 1.
+//! In how many processors of a span the bits of two planes are 1.
 
-ghost use Rattle.std.specs.Prelude.{◌≡◌, ◌≤◌, ◌%◌, ℕ, ◌<◌, ◌&&◌, ◌||◌, not, nat_lt, false, length, slice_index_or};
+ghost use Rattle.std.specs.Prelude.{◌≡◌, ◌≤◌, ◌+◌, ◌%◌, ℕ, ◌<◌, ◌&&◌, ◌||◌, not, nat_lt, false, length, slice_index_or};
 ghost use Rattle.paris_field.specs.Numbers.{bit_in, has};
 ghost use Rattle.paris_counts.specs.Masked.{masked_sum};
 
 use paris_plane::Plane;
 
-/// In how many processors both bits are 1.
-pub fn count_with(x: &Plane, mask: &Plane) -> u64
+/// In how many of the `count` processors from `start` on both bits are 1.
+pub(crate) fn count_with(x: &Plane, mask: &Plane, start: usize, count: usize) -> u64
     requires same { length x.now ≡ length mask.now }
-    requires whole { length mask.now % 64 ≡ 0 }
-    ensures value { result ≡ masked_sum (has mask.now) (bit_in x.now) 0 (length mask.now) }
-    ensures small { result ≤ length mask.now }
+    requires start { start % 64 ≡ 0 }
+    requires whole { count % 64 ≡ 0 }
+    requires within { start + count ≤ length mask.now }
+    ensures value { result ≡ masked_sum (has mask.now) (bit_in x.now) start count }
+    ensures small { result ≤ count }
 {
-    let blocks = mask.len() / 64;
-    let mut count = 0u64;
-    for block in 0..blocks {
-        count += u64::from((x.word(block) & mask.word(block)).count_ones());
+    let first = start / 64;
+    let mut ones = 0u64;
+    for i in 0..count / 64 {
+        ones += u64::from((x.word(first + i) & mask.word(first + i)).count_ones());
     }
-    count
+    ones
 }
 
-/// Whether a bit of `x` is 1 in one of the candidates. Where it is, those with a 0 fall out.
-pub(crate) fn narrowed(candidates: &mut Plane, x: &Plane) -> bool
+/// Of the candidates among the `count` processors from `start` on, those stay that have a 1 in `x`.
+fn keep_with(candidates: &mut Plane, x: &Plane, start: usize, count: usize)
     requires same { length x.now ≡ length candidates.old }
-    requires whole { length candidates.old % 64 ≡ 0 }
-    ensures found { result ≡ nat_lt 0 (masked_sum (has candidates.old) (bit_in x.now) 0 (length candidates.old)) }
+    requires start { start % 64 ≡ 0 }
+    requires whole { count % 64 ≡ 0 }
+    requires within { start + count ≤ length candidates.old }
     ensures long { length candidates.new ≡ length candidates.old }
-    ensures kept { (v : ℕ) → v < length candidates.old → slice_index_or candidates.new v false ≡ (slice_index_or candidates.old v false && (not result || slice_index_or x.now v false)) }
+    ensures kept { (v : ℕ) → start ≤ v → v < start + count → has candidates.new v ≡ (has candidates.old v && has x.now v) }
+    ensures behind { (v : ℕ) → start + count ≤ v → v < length candidates.old → has candidates.new v ≡ has candidates.old v }
 {
-    if count_with(x, candidates) == 0 {
+    let first = start / 64;
+    for i in 0..count / 64 {
+        let word = candidates.word(first + i) & x.word(first + i);
+        candidates.set_word(first + i, word);
+    }
+}
+
+/// Whether a bit of `x` is 1 in one of the candidates among the `count` processors from `start` on. Where it is, those of them with
+/// a 0 fall out.
+pub(crate) fn narrowed(candidates: &mut Plane, x: &Plane, start: usize, count: usize) -> bool
+    requires same { length x.now ≡ length candidates.old }
+    requires start { start % 64 ≡ 0 }
+    requires whole { count % 64 ≡ 0 }
+    requires within { start + count ≤ length candidates.old }
+    ensures found { result ≡ nat_lt 0 (masked_sum (has candidates.old) (bit_in x.now) start count) }
+    ensures long { length candidates.new ≡ length candidates.old }
+    ensures kept { (v : ℕ) → start ≤ v → v < start + count → has candidates.new v ≡ (has candidates.old v && (not result || has x.now v)) }
+    ensures behind { (v : ℕ) → start + count ≤ v → v < length candidates.old → has candidates.new v ≡ has candidates.old v }
+{
+    if count_with(x, candidates, start, count) == 0 {
         return false;
     }
-    candidates.and_in(x);
+    keep_with(candidates, x, start, count);
     true
 }

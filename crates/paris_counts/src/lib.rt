@@ -1,4 +1,4 @@
-//! What the numbers of all processors of a mask come to, by counts of bits.
+//! What the numbers of the processors of a mask in a span come to, by counts of bits.
 #![tactic(auto)]
 
 mod counts;

@@ -1,7 +1,7 @@
-//! What the numbers of the processors of a mask come to, from the bits of each plane.
+//! What the numbers of the processors of a mask in a span come to, from the bits of each plane.
 
-ghost use Rattle.std.specs.Prelude.{◌≡◌, ◌≤◌, ◌<◌, ◌%◌, ◌^◌, IfOk, length, sum};
-ghost use Rattle.paris_geometry.specs.Geometry.{numbers_below};
+ghost use Rattle.std.specs.Prelude.{◌≡◌, ◌≤◌, ◌<◌, ◌+◌, ◌*◌, ◌%◌, ◌^◌, ℕ, length, sum};
+ghost use Rattle.std.specs.List.{range_with_len};
 ghost use Rattle.paris_model.specs.declared.operators.Combiner.TheVariants.{BitOr, BitXor, Maximum};
 ghost use Rattle.paris_model.specs.Combine.{combined};
 ghost use Rattle.paris_model.specs.Lines.{values_where};
@@ -9,69 +9,78 @@ ghost use Rattle.paris_field.specs.Numbers.{AllOf, has, number_at};
 
 use crate::counts::{count_with, narrowed};
 use paris_plane::Plane;
-use std::alloc::AllocError;
 
-/// The sum of the numbers of the processors of the mask.
-pub fn sum_of(planes: &[Plane], mask: &Plane) -> u128
+/// The sum of the numbers of the processors of the mask among the `count` from `start` on.
+pub fn sum_of(planes: &[Plane], mask: &Plane, start: usize, count: usize) -> u128
     requires narrow { length planes.now ≤ 96 }
     requires long { AllOf (length mask.now) planes.now }
-    requires whole { length mask.now % 64 ≡ 0 }
-    requires few { length mask.now ≤ 2 ^ 16 }
-    ensures { result ≡ sum (values_where (has mask.now) (number_at planes.now) (numbers_below (length mask.now))) }
+    requires start { start % 64 ≡ 0 }
+    requires whole { count % 64 ≡ 0 }
+    requires within { start + count ≤ length mask.now }
+    requires few { count ≤ 2 ^ 16 }
+    ensures value { result ≡ sum (values_where (has mask.now) (number_at planes.now) (range_with_len start count)) }
+    ensures small { result ≤ count * 2 ^ 96 }
 {
     let mut total = 0u128;
     for k in (0..planes.len()).rev() {
-        total = 2 * total + u128::from(count_with(&planes[k], mask));
+        total = 2 * total + u128::from(count_with(&planes[k], mask, start, count));
     }
     total
 }
 
-/// A 1 in each digit where a number of the processors of the mask has one.
-pub fn or_of(planes: &[Plane], mask: &Plane) -> u128
+/// A 1 in each digit where a number of the processors of the mask among the `count` from `start` on has one.
+pub fn or_of(planes: &[Plane], mask: &Plane, start: usize, count: usize) -> u128
     requires narrow { length planes.now ≤ 128 }
     requires long { AllOf (length mask.now) planes.now }
-    requires whole { length mask.now % 64 ≡ 0 }
-    ensures value { result ≡ combined BitOr (length planes.now) 0 (values_where (has mask.now) (number_at planes.now) (numbers_below (length mask.now))) }
+    requires start { start % 64 ≡ 0 }
+    requires whole { count % 64 ≡ 0 }
+    requires within { start + count ≤ length mask.now }
+    ensures value { result ≡ combined BitOr (length planes.now) 0 (values_where (has mask.now) (number_at planes.now) (range_with_len start count)) }
     ensures fits { result < 2 ^ length planes.now }
 {
     let mut total = 0u128;
     for k in (0..planes.len()).rev() {
-        let count = count_with(&planes[k], mask);
-        total = 2 * total + u128::from(count.min(1));
+        let ones = count_with(&planes[k], mask, start, count);
+        total = 2 * total + u128::from(ones.min(1));
     }
     total
 }
 
-/// A 1 in each digit where an odd number of the processors of the mask have one.
-pub fn xor_of(planes: &[Plane], mask: &Plane) -> u128
+/// A 1 in each digit where an odd number of the processors of the mask among the `count` from `start` on have one.
+pub fn xor_of(planes: &[Plane], mask: &Plane, start: usize, count: usize) -> u128
     requires narrow { length planes.now ≤ 128 }
     requires long { AllOf (length mask.now) planes.now }
-    requires whole { length mask.now % 64 ≡ 0 }
-    ensures value { result ≡ combined BitXor (length planes.now) 0 (values_where (has mask.now) (number_at planes.now) (numbers_below (length mask.now))) }
+    requires start { start % 64 ≡ 0 }
+    requires whole { count % 64 ≡ 0 }
+    requires within { start + count ≤ length mask.now }
+    ensures value { result ≡ combined BitXor (length planes.now) 0 (values_where (has mask.now) (number_at planes.now) (range_with_len start count)) }
     ensures fits { result < 2 ^ length planes.now }
 {
     let mut total = 0u128;
     for k in (0..planes.len()).rev() {
-        let count = count_with(&planes[k], mask);
-        total = 2 * total + u128::from(count % 2);
+        let ones = count_with(&planes[k], mask, start, count);
+        total = 2 * total + u128::from(ones % 2);
     }
     total
 }
 
-/// The greatest number of the processors of the mask, and 0 where there are none. From the highest plane down, those fall out that have
-/// a 0 where others have a 1.
-pub fn maximum_of(planes: &[Plane], mask: &Plane) -> Result<u128, AllocError>
+/// The greatest number of the candidates among the `count` processors from `start` on, and 0 where there are none. From the highest plane
+/// down, those of them fall out that have a 0 where others have a 1.
+pub fn maximum_of(planes: &[Plane], candidates: &mut Plane, start: usize, count: usize) -> u128
     requires narrow { length planes.now ≤ 128 }
-    requires long { AllOf (length mask.now) planes.now }
-    requires whole { length mask.now % 64 ≡ 0 }
-    ensures value { IfOk result (λ total. total ≡ combined Maximum (length planes.now) 0 (values_where (has mask.now) (number_at planes.now) (numbers_below (length mask.now)))) }
-    ensures fits { IfOk result (λ total. total < 2 ^ length planes.now) }
+    requires long { AllOf (length candidates.old) planes.now }
+    requires start { start % 64 ≡ 0 }
+    requires whole { count % 64 ≡ 0 }
+    requires within { start + count ≤ length candidates.old }
+    ensures value { result ≡ combined Maximum (length planes.now) 0 (values_where (has candidates.old) (number_at planes.now) (range_with_len start count)) }
+    ensures fits { result < 2 ^ length planes.now }
+    ensures long { length candidates.new ≡ length candidates.old }
+    ensures behind { (v : ℕ) → start + count ≤ v → v < length candidates.old → has candidates.new v ≡ has candidates.old v }
 {
-    let mut candidates = mask.copy()?;
     let mut total = 0u128;
     for k in (0..planes.len()).rev() {
-        let found = narrowed(&mut candidates, &planes[k]);
+        let found = narrowed(candidates, &planes[k], start, count);
         total = 2 * total + u128::from(found);
     }
-    Ok(total)
+    total
 }

@@ -3,7 +3,7 @@ pub mod Lists
 pub mod Values
 pub mod Turn
 pub mod Six
-pub mod Four
+pub mod Sides
 pub mod Halves
 pub mod Addresses
 pub mod Places

@@ -32,16 +32,29 @@ low_bit n i h = ap (λ x. eqb x 1) (mod_bit n i h)
 pub word_from : (n s i : ℕ) → i < 64 → word_bit (n / 2 ^ s % 2 ^ 64) i ≡ word_bit n (s + i)
 word_from n s i h = low_bit (n / 2 ^ s) i h ∙ shr_bit n s i
 
--- a bit of the number that is made of the 16 bits from s on
-pub quarter_bit : (n s k : ℕ) → k < 16 → word_bit (n / 2 ^ s % 2 ^ 16) k ≡ word_bit n (s + k)
+-- a bit of the number that is made of the n bits from s on
+part_bit : (m n s k : ℕ) → k < n → word_bit (m / 2 ^ s % 2 ^ n) k ≡ word_bit m (s + k)
 unfolding word_bit
-quarter_bit n s k h =
-    ap (λ x. eqb x 1) (sym (bit_at_cat_low (n / 2 ^ s / 2 ^ 16) 16 (n / 2 ^ s % 2 ^ 16) k h) ∙ ap (λ x. bit_at x k) (div-add-mod' (n / 2 ^ s) (2 ^ 16)))
-    ∙ shr_bit n s k
+part_bit m n s k h =
+    ap (λ x. eqb x 1) (sym (bit_at_cat_low (m / 2 ^ s / 2 ^ n) n (m / 2 ^ s % 2 ^ n) k h) ∙ ap (λ x. bit_at x k) (div-add-mod' (m / 2 ^ s) (2 ^ n)))
+    ∙ shr_bit m s k
+
+part_past : (m n s k : ℕ) → n ≤ k → word_bit (m / 2 ^ s % 2 ^ n) k ≡ false
+unfolding word_bit
+part_past m n s k h = ap (λ x. eqb x 1) (bit_at_above (m / 2 ^ s % 2 ^ n) n k (mod_below (m / 2 ^ s) (2 ^ n) (pow-pos n)) h)
+
+-- where it has 16 bits, or 32
+pub quarter_bit : (n s k : ℕ) → k < 16 → word_bit (n / 2 ^ s % 2 ^ 16) k ≡ word_bit n (s + k)
+quarter_bit n s k h = part_bit n 16 s k h
 
 pub quarter_past : (n s k : ℕ) → 16 ≤ k → word_bit (n / 2 ^ s % 2 ^ 16) k ≡ false
-unfolding word_bit
-quarter_past n s k h = ap (λ x. eqb x 1) (bit_at_above (n / 2 ^ s % 2 ^ 16) 16 k (mod_below (n / 2 ^ s) (2 ^ 16) (pow-pos 16)) h)
+quarter_past n s k h = part_past n 16 s k h
+
+pub half_bit : (n s k : ℕ) → k < 32 → word_bit (n / 2 ^ s % 2 ^ 32) k ≡ word_bit n (s + k)
+half_bit n s k h = part_bit n 32 s k h
+
+pub half_past : (n s k : ℕ) → 32 ≤ k → word_bit (n / 2 ^ s % 2 ^ 32) k ≡ false
+half_past n s k h = part_past n 32 s k h
 
 -- a bit of the lowest 16 bits of four words side by side
 above_bit : (high low i : ℕ) → 16 ≤ i → word_bit (high * 2 ^ 16 + low % 2 ^ 16) i ≡ word_bit high (i - 16)
@@ -83,6 +96,24 @@ joined_bit words j i h =
                       ∙ last_bit d (i - 16 - 16 - 16) (omega arith) ∙ placed (48 + j) (i - 16 - 16 - 16) (omega arith) (omega arith)
                 ]
           ]
+    ]
+
+-- a bit of the lowest 32 bits of two words side by side
+pub pair_bit : (words : List ℕ) (j i : ℕ) → i < 64 → word_bit (get_or words (32 + j) 0 % 2 ^ 32 * 2 ^ 32 + get_or words j 0 % 2 ^ 32) i ≡ word_bit (get_or words (i / 32 * 32 + j) 0) (i % 32)
+unfolding word_bit
+pair_bit words j i h =
+    let a : ℕ = get_or words j 0 in
+    let b : ℕ = get_or words (32 + j) 0 in
+    let low : (n k : ℕ) → k < 32 → word_bit (n % 2 ^ 32) k ≡ word_bit n k = λ n k below.
+    ap (λ x. eqb x 1) (sym (bit_at_cat_low (n / 2 ^ 32) 32 (n % 2 ^ 32) k below) ∙ ap (λ x. bit_at x k) (div-add-mod' n (2 ^ 32))) in
+    let placed : (v k : ℕ) → v ≡ i / 32 * 32 + j → k ≡ i % 32 → word_bit (get_or words v 0) k ≡ word_bit (get_or words (i / 32 * 32 + j) 0) (i % 32) = λ v k ev ek.
+    ap (λ x. word_bit (get_or words x 0) k) ev ∙ ap (word_bit (get_or words (i / 32 * 32 + j) 0)) ek in
+    elim (cases_lt i 32) [
+      | inl first ↦
+          ap (λ x. eqb x 1) (bit_at_cat_low (b % 2 ^ 32) 32 (a % 2 ^ 32) i first) ∙ low a i first ∙ placed j i (omega arith) (omega arith)
+      | inr second ↦
+          ap (λ x. eqb x 1) (bit_at_cat_high (b % 2 ^ 32) 32 (a % 2 ^ 32) i (mod_below a (2 ^ 32) (pow-pos 32)) second)
+          ∙ low b (i - 32) (omega arith) ∙ placed (32 + j) (i - 32) (omega arith) (omega arith)
     ]
 
 shl_low : (t s i : ℕ) → i < s → i < 64 → word_bit (t * 2 ^ s % 2 ^ 64) i ≡ false

@@ -5,12 +5,15 @@ ghost use Rattle.paris_model.specs.Store.{low};
 ghost use Rattle.paris_plane.specs.Bits.{word_bit};
 ghost use Rattle.paris_field.specs.Numbers.{AllOf, number_at, numbers, plane_at};
 
-use crate::transpose::{transpose16, transpose64};
+use crate::transpose::{transpose16, transpose32, transpose64};
 use paris_plane::Plane;
 use std::alloc::{AllocError, Global};
 
 /// One more than the greatest word.
 const WORD: u128 = 1 << 64;
+
+/// One more than the greatest number of half a word.
+const HALF: u64 = 1 << 32;
 
 /// The bits of a plane in the processors of a block, and zeros where there is no such plane.
 pub(crate) fn word_of(planes: &[Plane], k: usize, block: usize, vps: usize) -> u64
@@ -25,6 +28,19 @@ pub(crate) fn word_of(planes: &[Plane], k: usize, block: usize, vps: usize) -> u
     }
 }
 
+/// The words of a block of each of the first 64 planes, and zeros past the last plane.
+fn rows_of(planes: &[Plane], block: usize, vps: usize) -> [u64; 64]
+    requires within { 64 * block < vps }
+    requires long { AllOf vps planes.now }
+    ensures { (k i : ℕ) → k < 64 → i < 64 → 64 * block + i < vps → word_bit (slice_index result k) i ≡ slice_index_or (plane_at planes.now k) (64 * block + i) false }
+{
+    let mut rows = [0u64; 64];
+    for k in 0..planes.len().min(64) {
+        rows[k] = planes[k].word(block);
+    }
+    rows
+}
+
 /// Four numbers of 16 bits from each of 16 words, those of the lowest bits of each word first.
 fn quarters(rows: &[u64; 64]) -> [u64; 64]
     ensures { (i : ℕ) → i < 64 → slice_index result i ≡ slice_index rows.now (i % 16) / 2 ^ (i / 16 * 16) % 2 ^ 16 }
@@ -36,6 +52,17 @@ fn quarters(rows: &[u64; 64]) -> [u64; 64]
     numbers
 }
 
+/// Two numbers of 32 bits from each of 32 words, those of the low halves first.
+fn halves(rows: &[u64; 64]) -> [u64; 64]
+    ensures { (i : ℕ) → i < 64 → slice_index result i ≡ slice_index rows.now (i % 32) / 2 ^ (i / 32 * 32) % 2 ^ 32 }
+{
+    let mut numbers = [0u64; 64];
+    for i in 0..64usize {
+        numbers[i] = (rows[i % 32] >> (i / 32 * 32)) % HALF;
+    }
+    numbers
+}
+
 /// The number of each processor of a block as a word, where the planes hold its bits, up to 16 of them.
 fn few_bits(planes: &[Plane], block: usize, vps: usize) -> [u64; 64]
     requires narrow { length planes.now ≤ 16 }
@@ -43,12 +70,21 @@ fn few_bits(planes: &[Plane], block: usize, vps: usize) -> [u64; 64]
     requires long { AllOf vps planes.now }
     ensures { (i k : ℕ) → i < 64 → k < 64 → 64 * block + i < vps → word_bit (slice_index result i) k ≡ slice_index_or (plane_at planes.now k) (64 * block + i) false }
 {
-    let mut rows = [0u64; 64];
-    for k in 0..16usize {
-        rows[k] = word_of(planes, k, block, vps);
-    }
+    let mut rows = rows_of(planes, block, vps);
     transpose16(&mut rows);
     quarters(&rows)
+}
+
+/// The number of each processor of a block as a word, where the planes hold its bits, up to 32 of them.
+fn half_bits(planes: &[Plane], block: usize, vps: usize) -> [u64; 64]
+    requires narrow { length planes.now ≤ 32 }
+    requires within { 64 * block < vps }
+    requires long { AllOf vps planes.now }
+    ensures { (i k : ℕ) → i < 64 → k < 64 → 64 * block + i < vps → word_bit (slice_index result i) k ≡ slice_index_or (plane_at planes.now k) (64 * block + i) false }
+{
+    let mut rows = rows_of(planes, block, vps);
+    transpose32(&mut rows);
+    halves(&rows)
 }
 
 /// A word of the number of each processor of a block, of which the planes hold the bits, up to 64 of them.
@@ -57,16 +93,13 @@ fn low_words(planes: &[Plane], block: usize, vps: usize) -> [u64; 64]
     requires long { AllOf vps planes.now }
     ensures { (i k : ℕ) → i < 64 → k < 64 → 64 * block + i < vps → word_bit (slice_index result i) k ≡ slice_index_or (plane_at planes.now k) (64 * block + i) false }
 {
-    let mut rows = [0u64; 64];
-    if planes.is_empty() {
-        return rows;
-    }
     if planes.len() <= 16 {
         return few_bits(planes, block, vps);
     }
-    for k in 0..64usize {
-        rows[k] = word_of(planes, k, block, vps);
+    if planes.len() <= 32 {
+        return half_bits(planes, block, vps);
     }
+    let mut rows = rows_of(planes, block, vps);
     transpose64(&mut rows);
     rows
 }
@@ -200,6 +233,17 @@ fn side_by_side(words: &[u64; 64]) -> [u64; 64]
     rows
 }
 
+/// The lowest 32 bits of 64 words, two side by side in each of 32 words.
+fn two_by_two(words: &[u64; 64]) -> [u64; 64]
+    ensures { (j i : ℕ) → j < 32 → i < 64 → word_bit (slice_index result j) i ≡ word_bit (slice_index words.now (i / 32 * 32 + j)) (i % 32) }
+{
+    let mut rows = [0u64; 64];
+    for j in 0..32usize {
+        rows[j] = words[32 + j] % HALF * HALF + words[j] % HALF;
+    }
+    rows
+}
+
 /// The lowest `count` bits of 64 words, up to 64, turned about the diagonal.
 fn turned(words: [u64; 64], count: usize) -> [u64; 64]
     requires { count ≤ 64 }
@@ -209,6 +253,11 @@ fn turned(words: [u64; 64], count: usize) -> [u64; 64]
         let mut few = side_by_side(&words);
         transpose16(&mut few);
         return few;
+    }
+    if count <= 32 {
+        let mut some = two_by_two(&words);
+        transpose32(&mut some);
+        return some;
     }
     let mut rows = words;
     transpose64(&mut rows);

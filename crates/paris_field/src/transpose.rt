@@ -1,4 +1,4 @@
-//! Squares of bits, turned about their diagonals: one of 64 by 64, or four of 16 by 16 side by side.
+//! Squares of bits, turned about their diagonals: one of 64 by 64, or two of 32 by 32 or four of 16 by 16 side by side.
 
 ghost use Rattle.std.specs.Prelude.{◌≡◌, ℕ, ◌+◌, ◌-◌, ◌*◌, ◌/◌, ◌%◌, ◌<◌, ◌≤◌, ◌==◌, cond, slice_index};
 ghost use Rattle.paris_plane.specs.Bits.{word_bit};
@@ -15,6 +15,17 @@ pub fn transpose64(rows: &mut [u64; 64])
     exchange_digits::<4>(rows, 32, 0x0F0F_0F0F_0F0F_0F0F);
     exchange_digits::<2>(rows, 32, 0x3333_3333_3333_3333);
     exchange_digits::<1>(rows, 32, 0x5555_5555_5555_5555);
+}
+
+/// Turns two squares of 32 by 32 bits, which lie side by side in the first 32 words, each about its own diagonal.
+pub(crate) fn transpose32(rows: &mut [u64; 64])
+    ensures { (j i : ℕ) → j < 32 → i < 64 → word_bit (slice_index rows.new j) i ≡ word_bit (slice_index rows.old (i % 32)) (i / 32 * 32 + j) }
+{
+    exchange_digits::<16>(rows, 16, 0x0000_FFFF_0000_FFFF);
+    exchange_digits::<8>(rows, 16, 0x00FF_00FF_00FF_00FF);
+    exchange_digits::<4>(rows, 16, 0x0F0F_0F0F_0F0F_0F0F);
+    exchange_digits::<2>(rows, 16, 0x3333_3333_3333_3333);
+    exchange_digits::<1>(rows, 16, 0x5555_5555_5555_5555);
 }
 
 /// Turns four squares of 16 by 16 bits, which lie side by side in the first 16 words, each about its own diagonal.

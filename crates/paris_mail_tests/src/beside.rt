@@ -5,7 +5,7 @@ ghost use Rattle.paris_plain.specs.Narrow.{IsNarrow};
 ghost use Rattle.paris_model.specs.declared.actions.Action.TheVariants.{ByMail};
 
 use crate::calls::{Call, Outcome, made};
-use crate::cases::{Aim, Lists, SETS, Sample, random_sample};
+use crate::cases::{Aim, Lists, SETS, Sample, random_sample, random_wide_sample};
 use crate::expected::expected;
 use paris_geometry::Geometry;
 use paris_model::{Combiner, Mail, Operand};
@@ -230,6 +230,20 @@ fn run_aims(
 fn mail_arrives_where_it_is_sent(rt: HostRuntime) -> Result<(), Fail> {
     for (count, width, every, turn) in SETS {
         run_aims(&rt, rt.alloc(), *count, *width, *every, *turn)?;
+    }
+    Ok(())
+}
+
+#[test]
+fn addresses_have_any_width(rt: HostRuntime) -> Result<(), Fail> {
+    for address_width in [20, 32, 33, 64, 65, 128] {
+        for (k, aim) in AIMS.iter().enumerate() {
+            for width in [8, 17, 64, 65] {
+                let alloc = rt.alloc();
+                let sample = random_wide_sample(&rt, alloc, *aim, 128, width, address_width)?;
+                run(&rt, alloc, &sample, 2, k)?;
+            }
+        }
     }
     Ok(())
 }

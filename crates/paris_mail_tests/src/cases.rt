@@ -34,6 +34,8 @@ pub(crate) const SETS: &[(usize, u64, usize, usize)] = &[
     (64, 8, 2, 1),
     (64, 16, 2, 0),
     (64, 17, 2, 1),
+    (64, 32, 2, 0),
+    (64, 33, 2, 1),
     (64, 64, 2, 2),
     (64, 65, 2, 0),
     (64, 100, 2, 1),
@@ -47,6 +49,8 @@ pub(crate) const SETS: &[(usize, u64, usize, usize)] = &[
     (256, 8, 4, 1),
     (256, 16, 4, 2),
     (256, 17, 4, 3),
+    (256, 32, 4, 0),
+    (256, 33, 4, 1),
     (256, 64, 4, 2),
     (256, 65, 4, 0),
     (256, 80, 4, 1),
@@ -168,11 +172,22 @@ pub(crate) struct Sample {
     ghost old_width: { old.width ≡ x.width },
 }
 
-/// The sample of these lists, where numbers have `width` bits.
+/// The sample of these lists, where numbers have `width` bits, and addresses 20.
 pub(crate) fn sample_with(
     rt: &impl Abort,
     alloc: Global,
     width: u64,
+    lists: Lists,
+) -> Result<Sample, Fail> {
+    wide_sample(rt, alloc, width, 20, lists)
+}
+
+/// The sample of these lists, where numbers have `width` bits, and addresses `address_width`.
+fn wide_sample(
+    rt: &impl Abort,
+    alloc: Global,
+    width: u64,
+    address_width: u64,
     lists: Lists,
 ) -> Result<Sample, Fail> {
     let count = lists.numbers.len();
@@ -180,20 +195,32 @@ pub(crate) fn sample_with(
     assert!(rt; lists.context.len() == count && lists.addresses.len() == count);
     Ok(Sample {
         selected: plane(alloc, &lists.context)?,
-        addresses: field(rt, alloc, 20, &lists.addresses)?,
+        addresses: field(rt, alloc, address_width, &lists.addresses)?,
         x: field(rt, alloc, width, &lists.numbers)?,
         old: field(rt, alloc, width, &lists.old)?,
         lists,
     })
 }
 
-/// A sample from the generator.
+/// A sample from the generator, where addresses have 20 bits.
 pub(crate) fn random_sample(
     rt: &impl Abort,
     alloc: Global,
     aim: Aim,
     count: usize,
     width: u64,
+) -> Result<Sample, Fail> {
+    random_wide_sample(rt, alloc, aim, count, width, 20)
+}
+
+/// A sample from the generator, where addresses have `address_width` bits.
+pub(crate) fn random_wide_sample(
+    rt: &impl Abort,
+    alloc: Global,
+    aim: Aim,
+    count: usize,
+    width: u64,
+    address_width: u64,
 ) -> Result<Sample, Fail> {
     assert!(rt; 0 < width && width <= 128);
     let low = u128::MAX >> (128 - width);
@@ -207,5 +234,5 @@ pub(crate) fn random_sample(
         old: numbers(alloc, low, word(seed, 3), count)?,
         context,
     };
-    sample_with(rt, alloc, width, lists)
+    wide_sample(rt, alloc, width, address_width, lists)
 }

@@ -1,14 +1,16 @@
 -- Lists of numbers by processor: low bits, and what is fetched from an address.
-use Rattle.std.proofs.Common.{◌≡◌, ℕ, ◌<◌, ◌≤◌, ◌^◌, Bool, true, false, List, All, length, get_or, map, cond, refl, sym, ap, subst, ◌∙◌, arith, inl, inr}
+use Rattle.std.proofs.Common.{◌≡◌, ◌≢◌, ℕ, ◌<◌, ◌≤◌, ◌/◌, ◌%◌, ◌^◌, eq-eqb, Bool, true, false, List, All, length, get_or, map, cond, refl, sym, ap, subst, ◌∙◌, arith, inl, inr}
 use Rattle.std.proofs.Math.ListN.{get_or-eq_default}
+use Rattle.std.proofs.Math.Nat.{mod-eq_of_lt, mod-mod}
 use Rattle.std.proofs.Math.Pow.{pow_mono}
-use Rattle.std.proofs.lemmas.Bool.{cases_lt}
+use Rattle.std.proofs.lemmas.Bool.{cases_lt, ne_eqb}
 use Rattle.std.proofs.lemmas.List.{get_or-map, length-map}
 use Rattle.std.proofs.lemmas.List.Elements.{All-from_get_or, All-get_or, All-map}
 use Rattle.std.proofs.lemmas.List.FromFn.{fill_by_all, get_or-map-range_with_len, length-map-range_with_len}
 use Rattle.std.proofs.lemmas.Nat.{mod_below}
 use lib.Pow.{pow_pos}
 use Rattle.paris_model.specs.Store.{everywhere, low}
+use Rattle.paris_plane.specs.Bits.{word_bit}
 use Rattle.paris_field.specs.Fields.{FieldNumbers, operand}
 use Rattle.paris_field.proofs.Numbers.{same_lists}
 use Rattle.paris_field.proofs.Places.{everywhere_same}
@@ -20,6 +22,41 @@ length-everywhere n f = length-map-range_with_len f 0 n
 
 pub get_or-everywhere : (n : ℕ) (f : ℕ → ℕ) (v : ℕ) → v < n → get_or (everywhere n f) v 0 ≡ f v
 get_or-everywhere n f v h = get_or-map-range_with_len f 0 n v v 0 h (omega arith)
+
+none_low : (L : ℕ) → low L 0 ≡ 0
+none_low L = mod-eq_of_lt (pow_pos L)
+
+-- the low bits of numbers, past the last of them too
+pub get_or-operands : (L : ℕ) (x : FieldNumbers) (a : ℕ) → get_or (everywhere (length x.numbers) (operand L x)) a 0 ≡ operand L x a
+get_or-operands L x a =
+    let n : ℕ = length x.numbers in
+    elim (cases_lt a n) [
+      | inl inside ↦ get_or-everywhere n (operand L x) a inside
+      | inr past ↦
+          let long : length (everywhere n (operand L x)) ≡ n = length-everywhere n (operand L x) in
+          get_or-eq_default (everywhere n (operand L x)) 0 (omega (arith, past, long))
+          ∙ sym (ap (low L) (get_or-eq_default x.numbers 0 past) ∙ none_low L)
+    ]
+
+-- a bit of a word, by the number that it is
+pub bit_one : (w i : ℕ) → w / 2 ^ i % 2 ≡ 1 → word_bit w i ≡ true
+unfolding word_bit
+bit_one w i is = eq-eqb _ 1 is
+
+pub bit_none : (w i : ℕ) → w / 2 ^ i % 2 ≢ 1 → word_bit w i ≡ false
+unfolding word_bit
+bit_none w i is = ne_eqb _ 1 is
+
+-- what is read at an address that is 0 where it isn't chosen
+pub chosen_at : (b : Bool) (words : List ℕ) (x number : ℕ) → number ≡ cond b x 0 → cond b (get_or words number 0) 0 ≡ cond b (get_or words x 0) 0
+chosen_at true words x number is = ap (λ a. get_or words a 0) is
+chosen_at false words x number is = refl
+
+-- what is put for a processor, of the low bits of numbers
+pub put_at : (L : ℕ) (b : Bool) (x : FieldNumbers) (words : List ℕ) (a address : ℕ) → words ≡ everywhere (length x.numbers) (operand L x) → a ≡ address → low L (cond b (get_or words a 0) 0) ≡ cond b (operand L x address) 0
+put_at L true x words a address is same =
+    ap (low L) (ap (λ l. get_or l a 0) is ∙ get_or-operands L x a ∙ ap (operand L x) same) ∙ mod-mod (get_or x.numbers address 0) (2 ^ L)
+put_at L false x words a address is same = none_low L
 
 pub cut_everywhere : (L : ℕ) (xs : List ℕ) → map (low L) xs ≡ everywhere (length xs) (λ v. low L (get_or xs v 0))
 cut_everywhere L xs = fill_by_all (λ v. low L (get_or xs v 0)) (map (low L) xs) (length xs) 0 (length-map xs (low L)) (λ v h. get_or-map (low L) xs v 0 0 h)

@@ -118,3 +118,12 @@ first_stays numbers zero (q ∷ ps) p some = refl
 pub first_comes : {X : Type 0} (numbers : List X) (zero : X) (ps : List ℕ) (p : ℕ) → nat_lt 0 (length ps) ≡ false → number_of_first numbers zero (ps ++ p ∷ []) ≡ get_or numbers p zero
 first_comes numbers zero [] p none = refl
 first_comes numbers zero (q ∷ ps) p none = absurd (omega (arith, at_most 0 (length (q ∷ ps)) none))
+
+-- the first value stays the first, and comes where there is none
+pub value_stays : (xs : List ℕ) (x : ℕ) → nat_lt 0 (length xs) ≡ true → get_or (xs ++ x ∷ []) 0 0 ≡ get_or xs 0 0
+value_stays [] x some = absurd (omega (arith, is_less 0 0 some))
+value_stays (y ∷ xs) x some = refl
+
+pub value_comes : (xs : List ℕ) (x : ℕ) → nat_lt 0 (length xs) ≡ false → get_or (xs ++ x ∷ []) 0 0 ≡ x
+value_comes [] x none = refl
+value_comes (y ∷ xs) x none = absurd (omega (arith, at_most 0 (length (y ∷ xs)) none))

@@ -13,7 +13,7 @@ use Rattle.paris_field.proofs.Places.{bits_same, everywhere_same}
 use Rattle.paris_router.specs.Mail.{first_numbers, mail_in, mail_to, number_of_first, receivers_of, selected_addresses, senders}
 use Rattle.paris_router.proofs.Fetched.{address_at, everywhere_all, get_or-everywhere, small}
 use Rattle.paris_router.proofs.Least.{find_same}
-use Rattle.paris_router.proofs.Sent.{arrivals_fit, messages_all, same_messages}
+use Rattle.paris_router.proofs.Sent.{agreeing_messages, arrivals_fit, messages_all, same_messages}
 
 arrives_first : (message : ℕ × ℕ) (mail : List (ℕ × ℕ)) (r : ℕ) → arrivals (message ∷ mail) r ≡ cond (message.0 == r) (message.1 ∷ arrivals mail r) (arrivals mail r)
 arrives_first message mail r = go (message.0 == r) refl
@@ -93,3 +93,10 @@ mail_of_selected L list addresses x selected same is =
     ap (λ l. mail_to L l x selected) is
     ∙ same_messages (length x.numbers) (has selected) (λ p. get_or (selected_addresses addresses selected) p 0) (λ p. get_or addresses.numbers p 0) (operand L x) (operand L x) (λ p h does.
     address_at addresses selected p (omega arith) does) (λ p h. refl)
+
+-- the messages of senders whose addresses and numbers lie in planes
+pub mail_of_planes : (m L : ℕ) (addresses x : FieldNumbers) (selected : List Bool) (address value : ℕ → ℕ) → m ≡ length x.numbers → length addresses.numbers ≡ length x.numbers → ((v : ℕ) → v < length addresses.numbers → address v ≡ get_or addresses.numbers v 0) → ((v : ℕ) → v < length x.numbers → value v ≡ operand L x v)
+    → messages m (has selected) address value ≡ mail_in L addresses x selected
+mail_of_planes m L addresses x selected address value many same addresses_are values_are =
+    ap (λ k. messages k (has selected) address value) many
+    ∙ agreeing_messages (length x.numbers) (has selected) (has selected) address (λ v. get_or addresses.numbers v 0) value (operand L x) (λ p h. refl) (λ p h. addresses_are p (omega (arith, h, same))) values_are

@@ -2,7 +2,7 @@
 use Rattle.std.proofs.Common.{◌≡◌, ℕ, zero, suc, ◌+◌, ◌<◌, ◌^◌, Bool, true, false, List, [], ◌∷◌, ◌++◌, All, map, cond, refl, sym, ap, subst, ◌∙◌, arith}
 use Rattle.std.specs.Prelude.{◌==◌, filter}
 use Rattle.std.specs.List.{range_with_len}
-use Rattle.std.proofs.lemmas.List.{append-nil, map-append}
+use Rattle.std.proofs.lemmas.List.{append_assoc, append-nil, map-append}
 use Rattle.std.proofs.lemmas.List.Elements.{All-filter, All-from_get_or, All-map, filter-append}
 use Rattle.std.proofs.lemmas.List.FromFn.{get_or-range_with_len, length-range_with_len}
 use Rattle.paris_geometry.specs.Geometry.{numbers_below}
@@ -54,6 +54,42 @@ same_messages (suc n) selected a b x y addresses values =
         let from_value : ℕ → List (ℕ × ℕ) = λ k. (b n, k) ∷ [] in
         ap from_address (addresses n (omega arith) e) ∙ ap from_value (values n (omega arith))
     last false e = refl
+
+one_message : (s : Bool) (k : ℕ) (a b x y : ℕ → ℕ) → a k ≡ b k → x k ≡ y k → map {B = ℕ × ℕ} (λ q. (a q, x q)) (cond s (k ∷ []) []) ≡ map {B = ℕ × ℕ} (λ q. (b q, y q)) (cond s (k ∷ []) [])
+one_message true k a b x y address value =
+    let from_address : ℕ → List (ℕ × ℕ) = λ n. (n, x k) ∷ [] in
+    let from_value : ℕ → List (ℕ × ℕ) = λ n. (b k, n) ∷ [] in
+    ap from_address address ∙ ap from_value value
+one_message false k a b x y address value = refl
+
+-- senders, addresses and values that agree
+pub agreeing_messages : (n : ℕ) (s t : ℕ → Bool) (a b x y : ℕ → ℕ) → ((p : ℕ) → p < n → s p ≡ t p) → ((p : ℕ) → p < n → a p ≡ b p) → ((p : ℕ) → p < n → x p ≡ y p) → messages n s a x ≡ messages n t b y
+agreeing_messages zero s t a b x y senders addresses values = refl
+agreeing_messages (suc n) s t a b x y senders addresses values =
+    messages_more n s a x
+    ∙ ap (λ l. l ++ map (λ q. (a q, x q)) (cond (s n) (n ∷ []) [])) (agreeing_messages n s t a b x y (λ p h. senders p (omega arith)) (λ p h. addresses p (omega arith)) (λ p h. values p (omega arith)))
+    ∙ ap (λ u. messages n t b y ++ map (λ q. (a q, x q)) (cond u (n ∷ []) [])) (senders n (omega arith))
+    ∙ ap (λ l. messages n t b y ++ l) (one_message (t n) n a b x y (addresses n (omega arith)) (values n (omega arith)))
+    ∙ sym (messages_more n t b y)
+
+last_one : (s : Bool) (address value : ℕ → ℕ) (a k : ℕ) → map {B = ℕ × ℕ} (λ q. (address q, value q)) (cond s ((a + k) ∷ []) []) ≡ map {B = ℕ × ℕ} (λ i. (address (a + i), value (a + i))) (cond s (k ∷ []) [])
+last_one true address value a k = refl
+last_one false address value a k = refl
+
+-- the messages of k senders more
+pub messages_join : (a k : ℕ) (selected : ℕ → Bool) (address value : ℕ → ℕ) → messages (a + k) selected address value ≡ messages a selected address value ++ messages k (λ i. selected (a + i)) (λ i. address (a + i)) (λ i. value (a + i))
+messages_join a zero selected address value =
+    let same : a + 0 ≡ a = omega arith in
+    ap (λ n. messages n selected address value) same ∙ sym (append-nil (messages a selected address value))
+messages_join a (suc k) selected address value =
+    let next : a + suc k ≡ suc (a + k) = omega arith in
+    let part : List (ℕ × ℕ) = messages k (λ i. selected (a + i)) (λ i. address (a + i)) (λ i. value (a + i)) in
+    ap (λ n. messages n selected address value) next
+    ∙ messages_more (a + k) selected address value
+    ∙ ap (λ l. l ++ map (λ q. (address q, value q)) (cond (selected (a + k)) ((a + k) ∷ []) [])) (messages_join a k selected address value)
+    ∙ append_assoc (messages a selected address value) part (map (λ q. (address q, value q)) (cond (selected (a + k)) ((a + k) ∷ []) []))
+    ∙ ap (λ l. messages a selected address value ++ (part ++ l)) (last_one (selected (a + k)) address value a k)
+    ∙ ap (λ l. messages a selected address value ++ l) (sym (messages_more k (λ i. selected (a + i)) (λ i. address (a + i)) (λ i. value (a + i))))
 
 pub messages_all : (P : ℕ × ℕ → Type 0) (n : ℕ) (selected : ℕ → Bool) (address value : ℕ → ℕ) → ((p : ℕ) → p < n → P (address p, value p)) → All P (messages n selected address value)
 messages_all P n selected address value each =

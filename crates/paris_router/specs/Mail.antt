@@ -1,5 +1,5 @@
 -- Messages between processors whose addresses and values lie in fields.
-use Rattle.std.specs.Prelude.{ℕ, ◌-◌, ◌^◌, min, Bool, nat_lt, List, [], ◌∷◌, map, length, slice_index, slice_index_or, Option, Some, None, Result, Ok, Err, if◌then◌else◌}
+use Rattle.std.specs.Prelude.{◌≡◌, ℕ, ◌-◌, ◌^◌, min, Bool, nat_lt, List, [], ◌∷◌, map, length, slice_index, slice_index_or, Option, Some, None, Result, Ok, Err, if◌then◌else◌}
 use Rattle.paris_geometry.specs.Geometry.{numbers_below}
 use Rattle.paris_model.specs.declared.actions.Refusal.{Refusal}
 use Rattle.paris_model.specs.Mail.{arrivals, bad_sender, gets_mail, messages}
@@ -64,3 +64,7 @@ receivers_of n mail = bits_everywhere n (gets_mail mail)
 -- where two messages meet
 abbrev pub crowded_in : ℕ → List (ℕ × ℕ) → List Bool
 crowded_in n mail = bits_everywhere n (λ r. nat_lt 1 (length (arrivals mail r)))
+
+-- what n processors have of mail: the first value that arrives, whether one does, and whether more do
+abbrev pub HasCome : ℕ → List (ℕ × ℕ) → List ℕ → List Bool → List Bool → Type 0
+HasCome n mail values receivers crowded = (values ≡ everywhere n (λ r. slice_index (arrivals mail r) 0)) × ((receivers ≡ receivers_of n mail) × (crowded ≡ crowded_in n mail))

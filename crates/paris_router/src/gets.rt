@@ -1,17 +1,18 @@
 //! Fetching by send address.
 
-ghost use Rattle.std.specs.Prelude.{◌≡◌, ◌<◌, ◌≤◌, All, IfOk, None, if◌then◌else◌, length, map, slice_index, slice_index_or};
+ghost use Rattle.std.specs.Prelude.{◌≡◌, ◌≢◌, ℕ, ◌+◌, ◌-◌, ◌*◌, ◌/◌, ◌<◌, ◌≤◌, ◌&&◌, All, IfOk, IfSome, None, find, if◌then◌else◌, length, map, min, nat_le, slice_index, slice_index_or};
 ghost use Rattle.paris_geometry.specs.Geometry.{numbers_below};
-ghost use Rattle.paris_model.specs.Mail.{first_cause};
-ghost use Rattle.paris_model.specs.Store.{everywhere};
+ghost use Rattle.paris_model.specs.Mail.{bad_sender, first_cause};
+ghost use Rattle.paris_model.specs.Store.{everywhere, low};
 ghost use Rattle.paris_names.specs.declared.limits.TheConstants.{MAX_PROCESSORS};
+ghost use Rattle.paris_plane.specs.Bits.{word_bit};
 ghost use Rattle.paris_field.specs.Fields.{operand};
-ghost use Rattle.paris_field.specs.Numbers.{has};
+ghost use Rattle.paris_field.specs.Numbers.{AllOf, has, number_at};
 ghost use Rattle.paris_router.specs.Mail.{bad_sender_of, fetched_field, fetched_from, refusal_of};
 
 use crate::addresses::checked_addresses;
 use crate::numbers::low_numbers;
-use paris_field::FieldValue;
+use paris_field::{FieldValue, block_words, put_block_words, zero_planes};
 use paris_model::Refusal;
 use paris_plane::Plane;
 use std::alloc::{AllocError, Global};
@@ -40,25 +41,120 @@ fn fetched<T: Copy>(
     Ok(list)
 }
 
-/// What each selected processor fetches of the low `bits` bits of `x`, up to 64.
-fn fetched_words(
+/// The word where bit `i` of `chosen` is 1, and 0 elsewhere.
+fn chosen_word(chosen: u64, i: usize, word: u64) -> u64
+    requires within { i < 64 }
+    ensures { result ≡ (if word_bit chosen i then word else 0) }
+{
+    if (chosen >> i) % 2 == 1 { word } else { 0 }
+}
+
+/// Puts for each of the first `count` processors of a block the word at its address, and 0 for those that aren't chosen. Gives the
+/// place of the first chosen one whose address is outside the words, if there is one.
+fn fetch_words(
+    addresses: &[u64; 64],
+    chosen: u64,
+    words: &[u64],
+    count: usize,
+    fetched: &mut [u64; 64],
+) -> Option<usize>
+    requires some { 0 < length words.now }
+    requires within { count ≤ 64 }
+    ensures bad { result ≡ find (λ i. word_bit chosen i && nat_le (length words.now) (slice_index addresses.now i)) (numbers_below count) }
+    ensures inside { IfSome result (λ i. i < count) }
+    ensures values { result ≡ None → (i : ℕ) → i < count → slice_index fetched.new i ≡ (if word_bit chosen i then slice_index words.now (slice_index addresses.now i) else 0) }
+{
+    for i in 0..count {
+        let address = chosen_word(chosen, i, addresses[i]);
+        if address >= words.len() as u64 {
+            return Some(i);
+        }
+        let word = chosen_word(chosen, i, words[address as usize]);
+        fetched[i] = word;
+    }
+    None
+}
+
+/// Puts into the planes of a block the words at the addresses of its selected processors, and 0 for the others. Gives the place in the
+/// block of the first selected processor whose address is outside the words, if there is one.
+fn fetch_block(
+    addresses: &[Plane],
+    words: &[u64],
+    selected: &Plane,
+    block: usize,
+    values: &mut [Plane],
+) -> Option<usize>
+    requires narrow { length addresses.now ≤ 64 }
+    requires bits { length values.old ≤ 64 }
+    requires within { 64 * block < length words.now }
+    requires selected { length selected.now ≡ length words.now }
+    requires addresses { AllOf (length words.now) addresses.now }
+    requires values { AllOf (length words.now) values.old }
+    ensures long { AllOf (length words.now) values.new }
+    ensures bad { result ≡ find (λ i. has selected.now (64 * block + i) && nat_le (length words.now) (number_at addresses.now (64 * block + i))) (numbers_below (min (length words.now - 64 * block) 64)) }
+    ensures inside { IfSome result (λ i. 64 * block + i < length words.now) }
+    ensures values { result ≡ None → (i : ℕ) → i < 64 → 64 * block + i < length words.now → number_at values.new (64 * block + i) ≡ low (length values.old) (if has selected.now (64 * block + i) then slice_index words.now (number_at addresses.now (64 * block + i)) else 0) }
+    ensures others { (v : ℕ) → v < length words.now → v / 64 ≢ block → number_at values.new v ≡ number_at values.old v }
+{
+    let vps = words.len();
+    let count = (vps - 64 * block).min(64);
+    let places = block_words(addresses, block, vps);
+    let mut fetched = [0u64; 64];
+    let bad = fetch_words(&places, selected.word(block), words, count, &mut fetched);
+    put_block_words(values, fetched, block, vps);
+    bad
+}
+
+/// Puts into planes the words at the addresses of the selected processors, and 0 for the others. Gives the least selected processor whose
+/// address is outside the words, if there is one.
+fn fetch_all(
+    addresses: &[Plane],
+    words: &[u64],
+    selected: &Plane,
+    values: &mut [Plane],
+) -> Option<usize>
+    requires narrow { length addresses.now ≤ 64 }
+    requires bits { length values.old ≤ 64 }
+    requires selected { length selected.now ≡ length words.now }
+    requires addresses { AllOf (length words.now) addresses.now }
+    requires values { AllOf (length words.now) values.old }
+    ensures long { AllOf (length words.now) values.new }
+    ensures bad { result ≡ bad_sender (length words.now) (has selected.now) (number_at addresses.now) }
+    ensures inside { IfSome result (λ v. v < length words.now) }
+    ensures values { result ≡ None → (v : ℕ) → v < length words.now → number_at values.new v ≡ low (length values.old) (if has selected.now v then slice_index words.now (number_at addresses.now v) else 0) }
+{
+    for block in 0..words.len().div_ceil(64) {
+        if let Some(i) = fetch_block(addresses, words, selected, block, values) {
+            return Some(64 * block + i);
+        }
+    }
+    None
+}
+
+/// What `get` makes of up to 64 bits, where addresses have up to 64 bits too.
+fn get_words(
     alloc: Global,
-    addresses: &[usize],
+    addresses: &FieldValue,
     x: &FieldValue,
     selected: &Plane,
     bits: u64,
-) -> Result<FieldValue, AllocError>
+) -> Result<Result<FieldValue, Refusal>, AllocError>
+    requires few { length x.now.numbers ≤ MAX_PROCESSORS }
     requires narrow { bits ≤ 64 }
     requires x_width { bits ≤ x.now.width }
-    requires addresses { length addresses.now ≡ length x.now.numbers }
+    requires address_width { addresses.now.width ≤ 64 }
+    requires addresses { length addresses.now.numbers ≡ length x.now.numbers }
     requires selected { length selected.now ≡ length x.now.numbers }
-    requires within { All (λ r. r < length x.now.numbers) addresses.now }
-    ensures { IfOk result (λ value. value ≡ fetched_from bits addresses.now x.now selected.now) }
+    ensures refused { IfOk result (λ got. refusal_of got ≡ first_cause (bad_sender_of addresses.now selected.now) None) }
+    ensures value { IfOk result (λ got. IfOk got (λ value. value ≡ fetched_field bits addresses.now x.now selected.now)) }
 {
+    let vps = x.len();
     let words = x.low_words(bits)?;
-    let fetched = fetched(alloc, addresses, &words, selected, 0)?;
-    let value = FieldValue::from_words(alloc, bits, &fetched)?;
-    Ok(value)
+    let mut planes = zero_planes(alloc, bits as usize, vps)?;
+    match fetch_all(addresses.planes(), &words, selected, &mut planes) {
+        Some(v) => Ok(Err(Refusal::BadAddress(v as u32))),
+        None => Ok(Ok(FieldValue::from_planes(planes, vps))),
+    }
 }
 
 /// What each selected processor fetches of the low `bits` bits of `x`, up to 128.
@@ -98,14 +194,14 @@ pub fn get(
     ensures refused { IfOk result (λ got. refusal_of got ≡ first_cause (bad_sender_of addresses.now selected.now) None) }
     ensures value { IfOk result (λ got. IfOk got (λ value. value ≡ fetched_field bits addresses.now x.now selected.now)) }
 {
+    if bits <= 64 && addresses.width() <= 64 {
+        let got = get_words(alloc, addresses, x, selected, bits)?;
+        return Ok(got);
+    }
     let list = match checked_addresses(alloc, addresses, selected)? {
         Ok(list) => list,
         Err(refusal) => return Ok(Err(refusal)),
     };
-    if bits <= 64 {
-        let value = fetched_words(alloc, &list, x, selected, bits)?;
-        return Ok(Ok(value));
-    }
     let value = fetched_numbers(alloc, &list, x, selected, bits)?;
     Ok(Ok(value))
 }

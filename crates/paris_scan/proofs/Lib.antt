@@ -16,3 +16,6 @@ pub mod Summed
 pub mod Copied
 pub mod Brought
 pub mod OneLine
+pub mod OneByOne
+pub mod Totals
+pub mod Spans

@@ -7,4 +7,5 @@ pub mod Shown
 pub mod Sums
 pub mod Without
 pub mod Blocks
-pub mod Whole
+pub mod Running
+pub mod Adjacent

@@ -1,7 +1,8 @@
 //! Values combined along the lines of an axis, in logarithmically many steps: by doubling up to each processor, and by a
-//! butterfly over whole lines.
+//! butterfly over whole lines. Scans by sums of up to 64 bits along long lines make one sum after another.
 #![tactic(auto)]
 
+mod adjacent;
 mod bitwise;
 mod butterfly;
 mod combine;
@@ -11,13 +12,15 @@ mod lines;
 mod maxima;
 mod moves;
 mod partner;
+mod repeated;
 mod results;
+mod running;
 mod scans;
 mod sources;
 mod spreads;
 mod sums;
-mod whole;
 
+pub use adjacent::Total;
 pub use bitwise::{Ors, Xors};
 pub use butterfly::spread_planes;
 pub use combine::{Combine, Commute};
@@ -30,4 +33,3 @@ pub use scans::{copy_scan, scan};
 pub use sources::{complement_planes, invert_planes, selected_planes};
 pub use spreads::{Reduced, copy_spread, reduce, spread};
 pub use sums::Sums;
-pub use whole::Total;

@@ -38,7 +38,11 @@ fn first_coordinate(geometry: Geometry, axis: usize, direction: Direction) -> u6
 }
 
 /// Where a line begins, or a segment.
-fn begin_plane(alloc: Global, along: &Along, segments: &Plane) -> Result<Plane, AllocError>
+pub(crate) fn begin_plane(
+    alloc: Global,
+    along: &Along,
+    segments: &Plane,
+) -> Result<Plane, AllocError>
     requires axis { along.now.axis < length along.now.geometry }
     requires segments { length segments.now ≡ processor_count along.now.geometry }
     ensures { IfOk result (λ plane. plane ≡ bits_everywhere (processor_count along.now.geometry) (begins_run along.now.geometry along.now.axis along.now.direction (has segments.now))) }

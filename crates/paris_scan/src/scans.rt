@@ -13,6 +13,7 @@ use crate::firsts::Firsts;
 use crate::lines::{Along, scan_planes};
 use crate::maxima::Maxima;
 use crate::results::{Combined, complement_value, sum_value, without_overflow};
+use crate::running::scan_running;
 use crate::sources::{complement_planes, selected_planes, summed_planes};
 use crate::sums::Sums;
 use paris_field::FieldValue;
@@ -20,6 +21,9 @@ use paris_geometry::{Direction, Geometry};
 use paris_model::{Combiner, Inclusion};
 use paris_plane::Plane;
 use std::alloc::{AllocError, Global};
+
+/// So many turns of a plane, or fewer, take less time than sums that are made one after another.
+const FEW_TURNS: u64 = 400;
 
 /// What the values that a scan combines come to, by an operator that has no plane of its own.
 fn scan_field<C: Commute>(
@@ -67,6 +71,15 @@ fn scan_complements<C: Commute>(
     Ok(complement_value(planes, x.len()))
 }
 
+/// Whether a turn of each plane for each digit of a coordinate takes longer than sums that are made one after another.
+fn has_many_turns(along: &Along, bits: u64) -> bool
+    requires axis { along.now.axis < length along.now.geometry }
+    requires narrow { bits ≤ 64 }
+{
+    let digits = u64::from(along.geometry.len(along.axis).trailing_zeros());
+    digits * bits > FEW_TURNS
+}
+
 /// The low bits of the sums that a scan makes, and where the exact sum needs more.
 fn scan_sums(
     alloc: Global,
@@ -87,6 +100,9 @@ fn scan_sums(
       overflow = Some (sums_overflow bits (processor_count along.now.geometry) (scanned along.now.geometry along.now.axis along.now.direction along.now.inclusion segments.now selected.now bits x.now));
     }) }
 {
+    if bits <= 64 && has_many_turns(along, bits) {
+        return scan_running(alloc, along, x, selected, segments, bits);
+    }
     let state = summed_planes(alloc, selected, x.low(bits))?;
     let planes = scan_planes::<Sums>(alloc, along, state, segments)?;
     Ok(sum_value(planes, x.len()))

@@ -6,13 +6,15 @@ ghost use Rattle.paris_model.specs.declared.operators.Combiner.TheVariants.{Sum}
 ghost use Rattle.paris_scan.specs.Lines.{combined_field, is_sum, of_lines, placed_field, stores_at, sums_overflow};
 ghost use Rattle.paris_scan.specs.Shown.{complement_shown, shown_field};
 
+use crate::adjacent::{
+    Total, adjacent_complements, adjacent_place, adjacent_shown, adjacent_sums, is_adjacent,
+};
 use crate::bitwise::{Ors, Xors};
 use crate::butterfly::spread_planes;
 use crate::maxima::Maxima;
 use crate::results::{Combined, complement_value, sum_value, without_overflow};
 use crate::sources::{complement_planes, selected_planes, summed_planes};
 use crate::sums::Sums;
-use crate::whole::{Total, is_whole, whole_complements, whole_place, whole_shown, whole_sums};
 use paris_field::FieldValue;
 use paris_geometry::Geometry;
 use paris_model::Combiner;
@@ -37,8 +39,8 @@ fn spread_shown<C: Total>(
     requires plain { C.extra ≡ 0 }
     ensures { IfOk result (λ value. value ≡ shown_field C.shows bits (processor_count geometry) (of_lines geometry axis selected.now bits x.now)) }
 {
-    if is_whole(geometry, axis) {
-        return whole_shown::<C>(alloc, geometry, axis, x, selected, bits);
+    if is_adjacent(geometry, axis) {
+        return adjacent_shown::<C>(alloc, geometry, axis, x, selected, bits);
     }
     let state = selected_planes(alloc, selected, x.low(bits))?;
     let planes = spread_planes::<C>(alloc, geometry, axis, state)?;
@@ -62,8 +64,8 @@ fn spread_complements<C: Total>(
     requires plain { C.extra ≡ 0 }
     ensures { IfOk result (λ value. value ≡ shown_field (complement_shown C.shows) bits (processor_count geometry) (of_lines geometry axis selected.now bits x.now)) }
 {
-    if is_whole(geometry, axis) {
-        return whole_complements::<C>(alloc, geometry, axis, x, selected, bits);
+    if is_adjacent(geometry, axis) {
+        return adjacent_complements::<C>(alloc, geometry, axis, x, selected, bits);
     }
     let state = complement_planes(alloc, selected, x.low(bits))?;
     let planes = spread_planes::<C>(alloc, geometry, axis, state)?;
@@ -89,8 +91,8 @@ fn spread_sums(
       overflow = Some (sums_overflow bits (processor_count geometry) (of_lines geometry axis selected.now bits x.now));
     }) }
 {
-    if bits <= 96 && is_whole(geometry, axis) {
-        return whole_sums(alloc, geometry, axis, x, selected, bits);
+    if bits <= 96 && is_adjacent(geometry, axis) {
+        return adjacent_sums(alloc, geometry, axis, x, selected, bits);
     }
     let state = summed_planes(alloc, selected, x.low(bits))?;
     let planes = spread_planes::<Sums>(alloc, geometry, axis, state)?;
@@ -213,8 +215,8 @@ pub fn copy_spread(
     requires count { length x.now.numbers ≡ processor_count geometry }
     ensures { IfOk result (λ value. value ≡ placed_field geometry axis place bits x.now) }
 {
-    if is_whole(geometry, axis) {
-        return whole_place(alloc, geometry, axis, place, x, bits);
+    if is_adjacent(geometry, axis) {
+        return adjacent_place(alloc, geometry, axis, place, x, bits);
     }
     let vps = geometry.vps();
     let at = coordinate_plane(alloc, geometry, axis, place)?;

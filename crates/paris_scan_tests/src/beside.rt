@@ -6,7 +6,7 @@ ghost use Rattle.paris_plain.specs.Narrow.{IsNarrow};
 ghost use Rattle.paris_model.specs.declared.actions.Action.TheVariants.{AlongLine};
 
 use crate::calls::{Call, Case, run_case};
-use crate::cases::{LINES, SETS, Sample, random_sample};
+use crate::cases::{LINES, ROWS, SETS, SUMS, Sample, random_sample};
 use crate::expected::expected;
 use paris_field::FieldValue;
 use paris_geometry::{Direction, Geometry};
@@ -291,6 +291,61 @@ fn the_line_of_a_set_combines_to_what_its_numbers_do(rt: HostRuntime) -> Result<
     for (lengths, widths, contexts) in LINES {
         for width in *widths {
             run_contexts(&rt, rt.alloc(), *lengths, *width, *contexts)?;
+        }
+    }
+    Ok(())
+}
+
+#[test]
+fn lines_in_a_row_combine_to_what_their_numbers_do(rt: HostRuntime) -> Result<(), Fail> {
+    for (lengths, widths, contexts) in ROWS {
+        for width in *widths {
+            run_contexts(&rt, rt.alloc(), *lengths, *width, *contexts)?;
+        }
+    }
+    Ok(())
+}
+
+/// Runs scans by sums along an axis, in both directions, with each processor's own number and without.
+fn run_sums(
+    rt: &impl Abort,
+    alloc: Global,
+    sample: &Sample,
+    axis: usize,
+    bits: u64,
+) -> Result<(), Fail> {
+    assert!(rt; 0 < bits && bits <= 128);
+    for call in &CALLS[..4] {
+        let case = Case {
+            call: *call,
+            operator: Combiner::Sum,
+            axis,
+            place: 0,
+            bits,
+        };
+        check(rt, alloc, sample, &case)?;
+    }
+    Ok(())
+}
+
+/// Runs them along each axis, of all bits of a sample's numbers and of the lower half and one more.
+fn run_axes(rt: &impl Abort, alloc: Global, sample: &Sample) -> Result<(), Fail> {
+    let width = sample.field.width();
+    for axis in 0..sample.geometry.axes() {
+        run_sums(rt, alloc, sample, axis, width)?;
+        run_sums(rt, alloc, sample, axis, width / 2 + 1)?;
+    }
+    Ok(())
+}
+
+#[test]
+fn sums_are_those_of_a_loop_over_numbers(rt: HostRuntime) -> Result<(), Fail> {
+    for (lengths, widths, contexts) in SUMS {
+        for width in *widths {
+            for eighths in *contexts {
+                let sample = random_sample(&rt, rt.alloc(), lengths, *width, *eighths)?;
+                run_axes(&rt, rt.alloc(), &sample)?;
+            }
         }
     }
     Ok(())

@@ -12,6 +12,8 @@ use std::test::Fail;
 
 const WIDTHS: &[u64] = &[1, 8, 64, 65, 100, 127, 128];
 
+const NUMBERS: &[u64] = &[17, 32, 33, 64];
+
 /// The lengths of a set's axes, axis 0 first, widths of its fields in bits, and which calls are run: one of how many, and at the first
 /// width from which on.
 pub(crate) const SETS: &[(&[u64], &[u64], usize, usize)] = &[
@@ -42,6 +44,30 @@ pub(crate) const LINES: &[(&[u64], &[u64], &[u64])] = &[
     (&[1, 1, 256, 1], &[64], &[5]),
     (&[1, 1, 1, 2048], &[8], &[8]),
     (&[65_536], &[8], &[8]),
+];
+
+/// Sets in several lines whose processors follow one another, along axis 0: the lengths of their axes, widths, and in how many eighths of
+/// the processors the context is 1.
+pub(crate) const ROWS: &[(&[u64], &[u64], &[u64])] = &[
+    (&[64, 2], &[1, 8, 96, 97, 128], &[0, 1, 8]),
+    (&[64, 2, 4], &[64], &[5]),
+    (&[128, 4], &[33, 64], &[1, 8]),
+    (&[1024, 2], &[8], &[5]),
+];
+
+/// Sets whose sums are numbers: the lengths of their axes, widths, and in how many eighths of the processors the context is 1.
+pub(crate) const SUMS: &[(&[u64], &[u64], &[u64])] = &[
+    (&[1], NUMBERS, &[0, 8]),
+    (&[32], NUMBERS, &[0, 5, 8]),
+    (&[64], NUMBERS, &[5]),
+    (&[2, 8, 4, 2], NUMBERS, &[5]),
+    (&[4, 4, 4, 4], NUMBERS, &[0, 5, 8]),
+    (&[1, 256], NUMBERS, &[8]),
+    (&[1024], NUMBERS, &[0, 5, 8]),
+    (&[8, 128], NUMBERS, &[5]),
+    (&[64, 2, 16], NUMBERS, &[5]),
+    (&[4096], &[40, 64], &[0, 5, 8]),
+    (&[2, 8192], &[32, 33], &[5]),
 ];
 
 /// A word that looks random, and is the same in each run.

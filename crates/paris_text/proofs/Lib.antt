@@ -16,3 +16,4 @@ pub mod ColumnLemmas
 pub mod ShapeLemmas
 pub mod CommandLemmas
 pub mod LawLemmas
+pub mod HeadLemmas

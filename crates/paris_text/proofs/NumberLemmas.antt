@@ -13,7 +13,7 @@ use Rattle.paris_text.specs.Words.{is_digit, is_number, value_from, value_word, 
 use Rattle.paris_text.proofs.WordLemmas.{value_from_ge}
 use Rattle.paris_text.proofs.JoinLemmas.{and_parts}
 
-digit_bounds : (b : ℕ) → is_digit b ≡ true → (48 ≤ b) × (b ≤ 57)
+pub digit_bounds : (b : ℕ) → is_digit b ≡ true → (48 ≤ b) × (b ≤ 57)
 digit_bounds b h = grind (arith, nat_tests)
 
 digits_split : (b : ℕ) (bs : List ℕ) → list_all is_digit (b ∷ bs) ≡ true → (is_digit b ≡ true) × (list_all is_digit bs ≡ true)

@@ -2,7 +2,7 @@
 //! what the word stands for and the place where the next word begins. The place behind a line that has no more words
 //! is the line's length plus 1.
 
-ghost use Rattle.std.specs.Prelude.{◌≡◌, ◌+◌, ◌<◌, ◌≤◌, length, IfOk};
+ghost use Rattle.std.specs.Prelude.{◌≡◌, ◌+◌, ◌<◌, ◌≤◌, length, IfOk, IfSome, Ok};
 ghost use Rattle.paris_names.specs.declared.faults.Fault.TheVariants.{Syntax as SyntaxFault};
 ghost use Rattle.paris_text.specs.Kinds.{direction_word, inclusion_word, option_word};
 ghost use Rattle.paris_text.specs.Kinds.Kind.{NameWord, NumberWord, ValueWord, DirectionWord, InclusionWord, OptionWord, KeyWord, AxesWord, ProfileWord};
@@ -97,12 +97,28 @@ pub fn next_number(line: &[u8], at: usize) -> Result<(u64, usize), Syntax>
     }
 }
 
+/// The next word as a number, and the place where the next one begins, where it has 19 digits or fewer. `None` says nothing of it.
+fn short_value(line: &[u8], at: usize) -> Option<(u64, usize)>
+    requires { at ≤ length line.now + 1 }
+    ensures gives { IfSome result (λ x. kind_at ValueWord (place line.now at) ≡ Ok (x.0, place line.now x.1)) }
+    ensures within { IfSome result (λ x. (x.1 ≤ length line.now + 1) × (at < x.1)) }
+{
+    if at > line.len() {
+        return None;
+    }
+    let (value, len) = words::short_value(&line[at..])?;
+    Some((value, at + len + 1))
+}
+
 /// The next word as a number below `2 ^ 128`.
 pub fn next_value(line: &[u8], at: usize) -> Result<(u128, usize), Syntax>
     requires { at ≤ length line.now + 1 }
     ensures gives { Gives (λ x. (x.0, place line.now x.1)) result (kind_at ValueWord (place line.now at)) }
     ensures within { IfOk result (λ x. (x.1 ≤ length line.now + 1) × (at < x.1)) }
 {
+    if let Some((value, next)) = short_value(line, at) {
+        return Ok((u128::from(value), next));
+    }
     let (word, next) = next_word(line, at)?;
     match words::value_of_word(word) {
         Some(value) => Ok((value, next)),

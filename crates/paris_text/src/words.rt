@@ -122,6 +122,48 @@ pub fn number_of_word(word: &[u8]) -> Option<u64>
     }
 }
 
+/// The number that the digits at the head of some bytes spell, or the first 19 of these, and how many they are.
+fn leading_digits(bytes: &[u8]) -> (u64, usize)
+    ensures within { result.1 ≤ length bytes.now }
+    ensures digits { list_all is_digit (take result.1 bytes.now) ≡ true }
+    ensures value { result.0 ≡ value_from 0 (take result.1 bytes.now) }
+{
+    let mut value = 0u64;
+    let most = bytes.len().min(WORD_DIGITS);
+    for i in 0..most {
+        if !is_digit(bytes[i]) {
+            return (value, i);
+        }
+        value = value * 10 + u64::from(bytes[i].saturating_sub(b'0'));
+    }
+    (value, most)
+}
+
+/// Whether some bytes have a space at a place, or end there.
+fn ends_at(bytes: &[u8], place: usize) -> bool
+    requires { place ≤ length bytes.now }
+    ensures { result ≡ true → (place < length bytes.now → slice_index bytes.now place ≡ 32) }
+{
+    place == bytes.len() || bytes[place] == b' '
+}
+
+/// The number that the first word of some bytes spells, and the length of that word, where it has 19 digits or fewer. `None` says nothing
+/// of the word.
+pub(crate) fn short_value(bytes: &[u8]) -> Option<(u64, usize)>
+    ensures within { IfSome result (λ x. x.1 ≤ length bytes.now) }
+    ensures word { IfSome result (λ x. x.1 ≡ position_or_len (λ b. nat_eq b 32) bytes.now) }
+    ensures value { IfSome result (λ x. value_word (take x.1 bytes.now) ≡ Some x.0) }
+{
+    let (value, len) = leading_digits(bytes);
+    if !ends_at(bytes, len) {
+        return None;
+    }
+    if !is_number(&bytes[..len]) {
+        return None;
+    }
+    Some((value, len))
+}
+
 fn flag_of_word(word: &[u8]) -> Option<FlagName>
     ensures { result ≡ flag_word word.now }
 {

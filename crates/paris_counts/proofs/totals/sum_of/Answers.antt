@@ -7,30 +7,35 @@ use Rattle.paris_counts.proofs.Sums.{sum_is, sum_none, sum_twice, tops_small}
 use Rattle.paris_counts.proofs.totals.sum_of.Goals as goal
 
 pub loop-k-init : goal.loop-k-init
-loop-k-init c = sym (sum_none (has c.args.mask.now) (number_at (drop (length c.args.planes.now) c.args.planes.now)) 0 (length c.args.mask.now) (λ v. none_above c.args.planes.now v))
+loop-k-init c = sym (sum_none (has c.args.mask.now) (number_at (drop (length c.args.planes.now) c.args.planes.now)) c.args.start c.args.count (λ v. none_above c.args.planes.now v))
 
 pub overflow_mul-total : goal.overflow_mul-total
 overflow_mul-total c =
-    omega (arith, c.loop-k.invariant, tops_small (has c.args.mask.now) c.args.planes.now c.loop-k.k (length c.args.mask.now) c.requires.narrow, c.requires.few)
+    omega (arith, c.loop-k.invariant, tops_small (has c.args.mask.now) c.args.planes.now c.loop-k.k c.args.start c.args.count c.requires.narrow, c.requires.few)
 
 pub overflow_add-total : goal.overflow_add-total
 overflow_add-total c =
-    omega (arith, c.loop-k.invariant, c.from.ensures, c.count_with.ensures.small, tops_small (has c.args.mask.now) c.args.planes.now c.loop-k.k (length c.args.mask.now) c.requires.narrow, c.requires.few)
+    omega (arith, c.loop-k.invariant, c.from.ensures, c.count_with.ensures.small, tops_small (has c.args.mask.now) c.args.planes.now c.loop-k.k c.args.start c.args.count c.requires.narrow, c.requires.few)
 
 pub loop-k-preserved : goal.loop-k-preserved
 loop-k-preserved c =
     let k : ℕ = c.loop-k.k - 1 in
-    let n : ℕ = length c.args.mask.now in
+    let a : ℕ = c.args.start in
+    let n : ℕ = c.args.count in
     let ps : List (List Bool) = c.args.planes.now in
     let who = has c.args.mask.now in
     let x : List Bool = c.index-planes-k.result in
     let below : k < length ps = omega arith in
     let at : x ≡ plane_at ps k = get_or_read ps k x below c.index-planes-k.is [] in
-    let above : masked_sum who (number_at (drop (k + 1) ps)) 0 n ≡ masked_sum who (number_at (drop c.loop-k.k ps)) 0 n = ap (λ j. masked_sum who (number_at (drop j ps)) 0 n) (let e : k + 1 ≡ c.loop-k.k = omega arith in e) in
-    omega (arith, c.loop-k.invariant, c.from.ensures, c.count_with.ensures.value, above, sum_twice who (number_at (drop k ps)) (bit_in x) (number_at (drop (k + 1) ps)) 0 n (λ v _ _. number_at_from ps k v x below at))
+    let above : masked_sum who (number_at (drop (k + 1) ps)) a n ≡ masked_sum who (number_at (drop c.loop-k.k ps)) a n = ap (λ j. masked_sum who (number_at (drop j ps)) a n) (let e : k + 1 ≡ c.loop-k.k = omega arith in e) in
+    omega (arith, c.loop-k.invariant, c.from.ensures, c.count_with.ensures.value, above, sum_twice who (number_at (drop k ps)) (bit_in x) (number_at (drop (k + 1) ps)) a n (λ v _ _. number_at_from ps k v x below at))
 
-pub returns : goal.returns
-returns c =
+pub returns-clause-value : goal.returns-clause-value
+returns-clause-value c =
     c.loop-k.invariant
-    ∙ ap (λ j. masked_sum (has c.args.mask.now) (number_at (drop j c.args.planes.now)) 0 (length c.args.mask.now)) (let e : c.loop-k.k ≡ 0 = omega arith in e)
-    ∙ sum_is (has c.args.mask.now) (number_at c.args.planes.now) 0 (length c.args.mask.now)
+    ∙ ap (λ j. masked_sum (has c.args.mask.now) (number_at (drop j c.args.planes.now)) c.args.start c.args.count) (let e : c.loop-k.k ≡ 0 = omega arith in e)
+    ∙ sum_is (has c.args.mask.now) (number_at c.args.planes.now) c.args.start c.args.count
+
+pub returns-clause-small : goal.returns-clause-small
+returns-clause-small c =
+    omega (arith, c.loop-k.invariant, tops_small (has c.args.mask.now) c.args.planes.now c.loop-k.k c.args.start c.args.count c.requires.narrow)

@@ -1,5 +1,5 @@
 use Rattle.paris_plane.proofs.Digits.{marks_8, marks_4, marks_2, marks_1}
-use Rattle.paris_field.proofs.Four.{side_8, side_4, side_2, side_1, sides_first, sides_more, sides_whole}
+use Rattle.paris_field.proofs.Sides.{side_8_of_16, side_4_of_16, side_2_of_16, side_1_of_16, sides_first_of_16, sides_more, sides_whole}
 use Rattle.paris_field.proofs.transpose.transpose16.Goals as goal
 
 pub exchange_digits-requires-clause-mask : goal.exchange_digits-requires-clause-mask
@@ -16,8 +16,8 @@ exchange_digits-requires-4-clause-mask c = marks_1
 
 pub returns : goal.returns
 returns c =
-    sides_whole c.exchange_digits-4.new.rows c.args.rows.now
-    (sides_more 1 2 c.exchange_digits-4.new.rows c.exchange_digits-3.new.rows c.args.rows.now side_1 c.exchange_digits-4.ensures
-    (sides_more 2 4 c.exchange_digits-3.new.rows c.exchange_digits-2.new.rows c.args.rows.now side_2 c.exchange_digits-3.ensures
-    (sides_more 4 8 c.exchange_digits-2.new.rows c.exchange_digits.new.rows c.args.rows.now side_4 c.exchange_digits-2.ensures
-    (sides_more 8 16 c.exchange_digits.new.rows c.args.rows.now c.args.rows.now side_8 c.exchange_digits.ensures (sides_first c.args.rows.now)))))
+    sides_whole 16 c.exchange_digits-4.new.rows c.args.rows.now
+    (sides_more 16 1 2 c.exchange_digits-4.new.rows c.exchange_digits-3.new.rows c.args.rows.now side_1_of_16 c.exchange_digits-4.ensures
+    (sides_more 16 2 4 c.exchange_digits-3.new.rows c.exchange_digits-2.new.rows c.args.rows.now side_2_of_16 c.exchange_digits-3.ensures
+    (sides_more 16 4 8 c.exchange_digits-2.new.rows c.exchange_digits.new.rows c.args.rows.now side_4_of_16 c.exchange_digits-2.ensures
+    (sides_more 16 8 16 c.exchange_digits.new.rows c.args.rows.now c.args.rows.now side_8_of_16 c.exchange_digits.ensures (sides_first_of_16 c.args.rows.now)))))

@@ -7,50 +7,17 @@ use Rattle.paris_router.proofs.Least.{none_bad}
 use Rattle.paris_router.proofs.Senders.{mail_of_selected}
 use Rattle.paris_router.proofs.sends.send.Goals as goal
 
-pub send_words-requires-clause-addresses : goal.send_words-requires-clause-addresses
-send_words-requires-clause-addresses c =
-    let value = rw c.in-Ok.is at c.in_ok-list.ensures.value in
-    ap length (c.deref.ensures.value ∙ value) ∙ length-everywhere _ _ ∙ c.requires.addresses
-
 pub send_numbers-requires-clause-addresses : goal.send_numbers-requires-clause-addresses
 send_numbers-requires-clause-addresses c =
     let value = rw c.in-Ok.is at c.in_ok-list.ensures.value in
-    ap length (c.deref-2.ensures.value ∙ value) ∙ length-everywhere _ _ ∙ c.requires.addresses
-
-pub returns-then-bits-le64-clause-refused : goal.returns-then-bits-le64-clause-refused
-returns-then-bits-le64-clause-refused c =
-    let L : ℕ = c.args.bits in
-    let n : ℕ = length c.args.x.now.numbers in
-    let list = c.deref.ensures.value ∙ rw c.in-Ok.is at c.in_ok-list.ensures.value in
-    let mail = mail_of_selected L c.deref.result.now c.args.addresses.now c.args.x.now c.args.selected.now c.requires.addresses list in
-    let bad : Option ℕ = bad_sender_of c.args.addresses.now c.args.selected.now in
-    let good : bad ≡ None = none_bad bad (rw c.in-Ok.is at c.in_ok-list.ensures.refused) in
-    c.in_ok-sent.ensures.refused
-    ∙ ap (λ m. first_cause None (collision_at n m)) mail
-    ∙ ap (λ b. first_cause b (collision_at n (mail_in L c.args.addresses.now c.args.x.now c.args.selected.now))) (sym good)
-
-pub returns-then-bits-le64-clause-value : goal.returns-then-bits-le64-clause-value
-returns-then-bits-le64-clause-value c =
-    let L : ℕ = c.args.bits in
-    let n : ℕ = length c.args.x.now.numbers in
-    let list = c.deref.ensures.value ∙ rw c.in-Ok.is at c.in_ok-list.ensures.value in
-    let mail = mail_of_selected L c.deref.result.now c.args.addresses.now c.args.x.now c.args.selected.now c.requires.addresses list in
-    subst (λ m. IfOk c.in_ok-sent.sent (λ delivery. delivery.value ≡ delivered_field L n m)) mail c.in_ok-sent.ensures.value
-
-pub returns-then-bits-le64-clause-receivers : goal.returns-then-bits-le64-clause-receivers
-returns-then-bits-le64-clause-receivers c =
-    let L : ℕ = c.args.bits in
-    let n : ℕ = length c.args.x.now.numbers in
-    let list = c.deref.ensures.value ∙ rw c.in-Ok.is at c.in_ok-list.ensures.value in
-    let mail = mail_of_selected L c.deref.result.now c.args.addresses.now c.args.x.now c.args.selected.now c.requires.addresses list in
-    subst (λ m. IfOk c.in_ok-sent.sent (λ delivery. delivery.receivers ≡ receivers_of n m)) mail c.in_ok-sent.ensures.receivers
+    ap length (c.deref.ensures.value ∙ value) ∙ length-everywhere _ _ ∙ c.requires.addresses
 
 pub returns-clause-refused : goal.returns-clause-refused
 returns-clause-refused c =
     let L : ℕ = c.args.bits in
     let n : ℕ = length c.args.x.now.numbers in
-    let list = c.deref-2.ensures.value ∙ rw c.in-Ok.is at c.in_ok-list.ensures.value in
-    let mail = mail_of_selected L c.deref-2.result.now c.args.addresses.now c.args.x.now c.args.selected.now c.requires.addresses list in
+    let list = c.deref.ensures.value ∙ rw c.in-Ok.is at c.in_ok-list.ensures.value in
+    let mail = mail_of_selected L c.deref.result.now c.args.addresses.now c.args.x.now c.args.selected.now c.requires.addresses list in
     let bad : Option ℕ = bad_sender_of c.args.addresses.now c.args.selected.now in
     let good : bad ≡ None = none_bad bad (rw c.in-Ok.is at c.in_ok-list.ensures.refused) in
     c.in_ok-sent-2.ensures.refused
@@ -61,14 +28,14 @@ pub returns-clause-value : goal.returns-clause-value
 returns-clause-value c =
     let L : ℕ = c.args.bits in
     let n : ℕ = length c.args.x.now.numbers in
-    let list = c.deref-2.ensures.value ∙ rw c.in-Ok.is at c.in_ok-list.ensures.value in
-    let mail = mail_of_selected L c.deref-2.result.now c.args.addresses.now c.args.x.now c.args.selected.now c.requires.addresses list in
+    let list = c.deref.ensures.value ∙ rw c.in-Ok.is at c.in_ok-list.ensures.value in
+    let mail = mail_of_selected L c.deref.result.now c.args.addresses.now c.args.x.now c.args.selected.now c.requires.addresses list in
     subst (λ m. IfOk c.in_ok-sent-2.sent (λ delivery. delivery.value ≡ delivered_field L n m)) mail c.in_ok-sent-2.ensures.value
 
 pub returns-clause-receivers : goal.returns-clause-receivers
 returns-clause-receivers c =
     let L : ℕ = c.args.bits in
     let n : ℕ = length c.args.x.now.numbers in
-    let list = c.deref-2.ensures.value ∙ rw c.in-Ok.is at c.in_ok-list.ensures.value in
-    let mail = mail_of_selected L c.deref-2.result.now c.args.addresses.now c.args.x.now c.args.selected.now c.requires.addresses list in
+    let list = c.deref.ensures.value ∙ rw c.in-Ok.is at c.in_ok-list.ensures.value in
+    let mail = mail_of_selected L c.deref.result.now c.args.addresses.now c.args.x.now c.args.selected.now c.requires.addresses list in
     subst (λ m. IfOk c.in_ok-sent-2.sent (λ delivery. delivery.receivers ≡ receivers_of n m)) mail c.in_ok-sent-2.ensures.receivers

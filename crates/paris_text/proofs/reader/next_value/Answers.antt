@@ -11,10 +11,10 @@ returns-in_err-word-clause-gives c =
     let p = err_from_is_err_and c.from_residual.result c.from_residual.ensures.1 in
     rw (p.1, p.2) (no_next_word value_word (place c.args.line.now c.args.at) _ c.in_err-word.ensures.gives)
 
-pub returns-in-Some-clause-gives : goal.returns-in-Some-clause-gives
+pub returns-in-Some-value_of_word-clause-gives : goal.returns-in-Some-value_of_word-clause-gives
 unfolding word_at kind_at
-returns-in-Some-clause-gives c =
-    word_reads value_word (place c.args.line.now c.args.at) _ _ _ c.in_ok-word.ensures.gives (sym c.in-Some.ensures.value)
+returns-in-Some-value_of_word-clause-gives c =
+    word_reads value_word (place c.args.line.now c.args.at) _ _ _ c.in_ok-word.ensures.gives (sym c.in-Some-value_of_word.ensures.value)
 
 pub returns-in-None-clause-gives : goal.returns-in-None-clause-gives
 unfolding word_at kind_at

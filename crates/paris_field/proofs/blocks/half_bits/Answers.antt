@@ -1,0 +1,29 @@
+use Rattle.std.proofs.Common.{◌≡◌, ℕ, ◌+◌, ◌*◌, ◌/◌, ◌%◌, ◌<◌, ◌∙◌, ap, arith, get_or, sym, false, [], inl, inr}
+use Rattle.std.proofs.lemmas.Bool.{cases_lt}
+use Rattle.paris_plane.specs.Bits.{word_bit}
+use Rattle.paris_field.proofs.Halves.{get_or-past}
+use Rattle.paris_field.proofs.Turn.{half_bit, half_past}
+use Rattle.paris_field.proofs.blocks.half_bits.Goals as goal
+
+pub returns : goal.returns
+returns c =
+    λ i k hi hk below.
+    let j : ℕ = i % 32 in
+    let s : ℕ = i / 32 * 32 in
+    let row : ℕ = get_or c.transpose32.new.rows j 0 in
+    ap (λ w. word_bit w k) (c.halves.ensures i hi)
+    ∙ elim (cases_lt k 32) [
+      | inl few ↦
+          let place : ℕ = s + k in
+          let there : place < 64 = omega arith in
+          let plane : place % 32 ≡ k = omega arith in
+          let processor : place / 32 * 32 + j ≡ i = omega arith in
+          half_bit row s k few
+          ∙ c.transpose32.ensures j place (omega arith) there
+          ∙ ap (λ r. word_bit (get_or c.rows_of-rows.result r 0) (place / 32 * 32 + j)) plane
+          ∙ ap (word_bit (get_or c.rows_of-rows.result k 0)) processor
+          ∙ c.rows_of-rows.ensures k i (omega arith) hi below
+      | inr many ↦
+          half_past row s k many
+          ∙ sym (ap (λ p. get_or p (64 * c.args.block + i) false) (get_or-past c.args.planes.now k [] (omega (arith, many, c.requires.narrow))))
+    ]
