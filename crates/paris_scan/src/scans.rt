@@ -23,7 +23,7 @@ use paris_plane::Plane;
 use std::alloc::{AllocError, Global};
 
 /// So many turns of a plane, or fewer, take less time than sums that are made one after another.
-const FEW_TURNS: u64 = 400;
+const FEW_TURNS: u64 = 760;
 
 /// What the values that a scan combines come to, by an operator that has no plane of its own.
 fn scan_field<C: Commute>(
