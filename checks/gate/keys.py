@@ -1,18 +1,21 @@
 """What decides the try of a must-fail edit, as a checksum.
 
-A function is proved from its own body and proof files, and from what is stated: of its crate and of all below it the declarations,
+A function is proved from its own body and proof files, and from what is stated: of its crate and of those below it the declarations,
 contracts, definitions and lemmas, and no other body. So the key of an edit is the checksum of the toolchain's logic, HANDLES and the edit;
-of the files in src/ that it changes, and of that of the function which wasn't proved, whole, with the proof files of their modules; and
-of what is stated in the crate and in all below it: specs/, the lemmas of proofs/, and src/ without the bodies of functions.
+of the files in src/ that it changes, and of that of the function which wasn't proved, whole, with the proof files of their modules; of
+what is stated in the crate: specs/, the lemmas of proofs/, and src/ without the bodies of functions; and of what the crate cites of that
+in those below (stated.py).
 """
 
 import hashlib
 import re
 from dataclasses import dataclass
+from functools import cache, cached_property
 from pathlib import Path
 from typing import Any
 
 from kit import ROOT
+from stated import CODE, Source, Stated
 
 EDITS = ROOT / "checks" / "gate" / "edits"
 # The words before the braces of a clause, which stands before a function's body.
@@ -81,6 +84,12 @@ def without_bodies(text: bytes, code: bytes) -> bytes:
     return COMMENT.sub(b"", kept + text[done:])
 
 
+def source_of(crate: str, path: str, text: str) -> Source:
+    """A file of a crate, by its path there."""
+    module = CODE if path.startswith("src/") else path.rpartition(".")[0].replace("/", ".")
+    return Source(crate, f"{crate}.{module}", text)
+
+
 class Keys:
     """The keys of all edits, from the text of the sources alone."""
 
@@ -91,21 +100,35 @@ class Keys:
         # (the kit's line is `KIT logic SUM`; what the kit has beside the logic decides no proof)
         self.logic = (Path(gate.KIT) / "KIT-ID").read_text().partition("logic ")[2].strip()
         self.handles = (ROOT / "HANDLES").read_text()
-        self.stated: dict[str, str] = {}
+        self.cited: dict[str, str] = {}
 
-    def of_statements(self, name: str) -> str:
-        """The checksum of what a crate states."""
-        if name not in self.stated:
+    @cache
+    def statements(self, name: str) -> list[tuple[str, bytes]]:
+        """What a crate states, by the paths of the files."""
+        folder = ROOT / "crates" / name
+        parts = [(str(file.relative_to(folder)), file.read_bytes()) for file in sorted((folder / "specs").rglob("*.antt"))]
+        parts += [(str(file.relative_to(folder)), file.read_bytes()) for file in sorted((folder / "proofs").glob("*.antt"))]
+        for file, code in sorted(self.rtlib.blanked(str(folder)).items()):
+            if file.endswith(".rt"):
+                text = Path(file).read_bytes()
+                assert len(text) == len(code.encode()), f"{file} is read as another text"
+                parts.append((str(Path(file).relative_to(folder)), without_bodies(text, code.encode())))
+        return parts
+
+    @cached_property
+    def below(self) -> Stated:
+        """What all crates state, by the names under which it is cited."""
+        sources = [source_of(name, path, text.decode()) for name in self.crates for path, text in self.statements(name)]
+        return Stated({name: [it.name for it in crate.deps] for name, crate in self.crates.items()}, sources)
+
+    def of_cited(self, name: str) -> str:
+        """The checksum of what a crate cites of the crates below it."""
+        if name not in self.cited:
             folder = ROOT / "crates" / name
-            parts = [(str(file.relative_to(folder)), file.read_bytes()) for file in sorted((folder / "specs").rglob("*.antt"))]
-            parts += [(str(file.relative_to(folder)), file.read_bytes()) for file in sorted((folder / "proofs").glob("*.antt"))]
-            for file, code in sorted(self.rtlib.blanked(str(folder)).items()):
-                if file.endswith(".rt"):
-                    text = Path(file).read_bytes()
-                    assert len(text) == len(code.encode()), f"{file} is read as another text"
-                    parts.append((str(Path(file).relative_to(folder)), without_bodies(text, code.encode())))
-            self.stated[name] = sum_of(self.lines[name], parts)
-        return self.stated[name]
+            files = sorted(file for part in ("src", "specs", "proofs") for file in (folder / part).rglob("*") if file.suffix in (".rt", ".antt"))
+            own = [source_of(name, str(file.relative_to(folder)), file.read_text()) for file in files]
+            self.cited[name] = sum_of(self.below.cited(name, own))
+        return self.cited[name]
 
     def bodies(self, edit: Edit, function: str) -> list[tuple[str, bytes]]:
         """The files of the crate that count whole: those that the edit changes, that of the function, and their modules' proofs."""
@@ -121,9 +144,8 @@ class Keys:
         return [(str(file.relative_to(folder)), file.read_bytes()) for file in files]
 
     def of_edit(self, edit: Edit, function: str) -> str:
-        below = sorted(self.of_statements(it.name) for it in self.crates[edit.crate].below())
-        own = self.of_statements(edit.crate), self.bodies(edit, function)
-        return sum_of(self.logic, self.handles, own, below, edit.path.read_bytes())[:32]
+        own = self.lines[edit.crate], self.statements(edit.crate), self.bodies(edit, function)
+        return sum_of(self.logic, self.handles, own, self.of_cited(edit.crate), edit.path.read_bytes())[:32]
 
     def edits(self, names: list[str]) -> list[Edit]:
         """All edits, or those of some crates and of some names."""

@@ -2,7 +2,7 @@
 
 A crate of tests has no code but tests, and what its proof says is that they end and that they call as contracts ask. So a record has a line
 for each such crate whose tests were seen proved, with a key: the checksum of the toolchain's logic, HANDLES, the crate's line and all its
-sources, and of what is stated in the crates below. While the line holds, a proof would say the same again, whatever bodies below have
+sources, and of what they cite of that which the crates below state (stated.py). While the line holds, a proof would say the same again, whatever bodies below have
 changed, and `rt try --test` runs the tests: it compiles them with what they call from the sources, proves nothing, and stops at an index
 out of bounds, an overflow and a wrong access of memory.
 """
@@ -29,8 +29,7 @@ def key_of(keys: Keys, crate: Any) -> str:
     folder = ROOT / "crates" / crate.name
     files = [file for part in ("src", "specs", "proofs") for file in sorted((folder / part).rglob("*")) if file.is_file()]
     own = [(str(file.relative_to(folder)), file.read_bytes()) for file in files]
-    below = sorted(keys.of_statements(it.name) for it in crate.below())
-    return sum_of(keys.logic, keys.handles, keys.lines[crate.name], own, below)[:32]
+    return sum_of(keys.logic, keys.handles, keys.lines[crate.name], own, keys.of_cited(crate.name))[:32]
 
 
 def read_record() -> dict[str, str]:
