@@ -20,6 +20,8 @@ DECLARED = re.compile(r"^ *(?:(?:abbrev|unfoldable|opaque|record|data|pub) )*([^
 USED = re.compile(r"\buse (?:Rattle\.)?([\w.:]+?)(?:\.|::)(?:\{([^}]*)\}|(\w+)(?= *(?:;|$| as )))", re.M)
 # Words of an item's first line that name nothing.
 KEYWORDS = frozenset({"impl", "for", "where", "unsafe", "const", "dyn", "mut"})
+# A definition or a lemma by its whole name, as in a tactic of a function.
+WHOLE = re.compile(r"(\w+(?:\.|::)(?:specs|proofs)(?:\.|::)[\w.:]*\w)(?:\.|::)([^\W\d][\w'-]*)")
 CODE = "code"
 
 
@@ -121,19 +123,20 @@ class Stated:
                 for name in {piece.trait} if (source.crate, piece.trait) in traits else piece.names or {""}:
                     self.found.setdefault(source.module, {}).setdefault(name, []).append((source, piece))
 
-    def cites(self, source: Source, words: Iterable[str]) -> Iterator[tuple[str, str]]:
-        """The modules and names that some words of a file may stand for."""
+    def cites(self, source: Source, text: str, more: Iterable[str] = ()) -> Iterator[tuple[str, str]]:
+        """The modules and names that the words of a text in a file may stand for, and some words more."""
+        words = words_of(text).union(more)
         yield from ((source.module, word) for word in ("", *words))
-        for word in words:
-            for path in source.uses.get(word, ()):
-                crate, _, declared = path.partition(".specs.declared.")
-                yield from ((f"{crate}.{CODE}", part) for part in (*declared.split("."), word)) if declared else [(path, word)]
-            if source.module.endswith(CODE):
-                yield from ((f"{crate}.{CODE}", word) for crate in self.direct[source.crate])
+        whole = [(path.replace("::", "."), word) for path, word in WHOLE.findall(text)]
+        for path, word in (*whole, *((path, word) for word in words for path in source.uses.get(word, ()))):
+            crate, _, declared = path.partition(".specs.declared.")
+            yield from ((f"{crate}.{CODE}", part) for part in (*declared.split("."), word)) if declared else [(path, word)]
+        if source.module.endswith(CODE):
+            yield from ((f"{crate}.{CODE}", word) for crate in self.direct[source.crate] for word in words)
 
     def cited(self, crate: str, own: Iterable[Source]) -> list[str]:
         """The texts that a crate of these files may rest on, in the crates below."""
-        wanted = {cite for source in own for cite in self.cites(source, words_of(source.text) | source.uses.keys())}
+        wanted = {cite for source in own for cite in self.cites(source, source.text, source.uses)}
         seen, texts = set[tuple[str, str]](), set[str]()
         while wanted:
             module, name = wanted.pop()
@@ -141,6 +144,6 @@ class Stated:
             for source, piece in self.found.get(module, {}).get(name, ()):
                 if source.crate != crate:
                     text = f"{module} {piece.text}"
-                    wanted |= set() if text in texts else {*self.cites(source, words_of(piece.text))} - seen
+                    wanted |= set() if text in texts else {*self.cites(source, piece.text)} - seen
                     texts.add(text)
         return sorted(texts)
