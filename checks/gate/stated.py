@@ -2,8 +2,8 @@
 
 Definitions and lemmas are cited by their names, which a `use` of the file brings from the file that declares them. Of the code below a crate
 sees types, their methods and public functions, with their contracts, and no private function. So its proofs rest on the pieces that its own
-files cite, on what these cite, and so on. A word in code may name a piece of code in the same crate, or in one that its line in crates.txt
-names: it brings all of that name there.
+files cite, on what these cite, and so on. A word in code may name a type in the same crate, or in one that its line in crates.txt names, and
+in a body a function or a method too: it brings all of that name there. A contract calls none.
 """
 
 import re
@@ -14,6 +14,12 @@ from functools import cache
 WORD = re.compile(r"[^\W\d][\w']*(?:-\w[\w']*)*")
 # What begins at a line of Rust: the blanks and words before, the kind, and the rest.
 ITEM = re.compile(r"^( *)((?:pub(?:\(\w+\))? |unsafe |async |const |ghost |extern )*)(use|mod|struct|enum|trait|impl|const|static|type|fn)\b(.*)$")
+# The types and traits that only their own crate sees.
+OWN = re.compile(r"^(?:pub\(\w+\) )?(?:struct|enum|trait) (\w+)", re.M)
+# What a type or a trait says of itself in a proof.
+GHOST = re.compile(r"^( +)(ghost )(?!use )(\w+)(.*)$")
+# Of these what speaks of private fields.
+INSIDE = ("view", "invariant")
 # What a paragraph of definitions declares: names before a colon, and the first word of an equation.
 DECLARED = re.compile(r"^ *(?:(?:abbrev|unfoldable|opaque|record|data|pub) )*([^\s:(){}=]+)(?: [^:=\n]*)? :(?!=)|^([^\s:(){}=]+)[^\n:]* =", re.M)
 # A `use` of names: of definitions, or of code.
@@ -22,7 +28,7 @@ USED = re.compile(r"\buse (?:Rattle\.)?([\w.:]+?)(?:\.|::)(?:\{([^}]*)\}|(\w+)(?
 KEYWORDS = frozenset({"impl", "for", "where", "unsafe", "const", "dyn", "mut"})
 # A definition or a lemma by its whole name, as in a tactic of a function.
 WHOLE = re.compile(r"(\w+(?:\.|::)(?:specs|proofs)(?:\.|::)[\w.:]*\w)(?:\.|::)([^\W\d][\w'-]*)")
-CODE = "code"
+CODE, CALLS = "code", "calls"
 
 
 @dataclass(frozen=True)
@@ -33,6 +39,8 @@ class Piece:
     names: frozenset[str]
     text: str
     trait: str = ""
+    is_called: bool = False
+    is_impl: bool = False
 
 
 @dataclass
@@ -80,7 +88,7 @@ def of_code(text: str) -> Iterator[Piece]:
     """The pieces of a file of Rust whose functions have no bodies, without its private functions."""
     head, outer, begun, before = "", "", [""], list[str]()
     for line in [*text.split("\n"), "mod end"]:
-        found = ITEM.match(line)
+        found = ITEM.match(line) or (GHOST.match(line) if "impl" in outer or "trait " in outer else None)
         if found:
             yield from of_item(head, outer, "\n".join(begun))
             head, begun, before = line, before, []
@@ -90,24 +98,32 @@ def of_code(text: str) -> Iterator[Piece]:
 
 def of_item(head: str, outer: str, text: str) -> Iterator[Piece]:
     """The piece of an item, by its first line and by that of the item in which it lies."""
-    found = ITEM.match(head)
-    _, before, kind, rest = found.groups() if found else ("", "", "", "")
-    has = re.match(r"(?:unsafe )?impl\b(.*?)(\w+)(?:<.*>)? for (.*)", outer)
+    found = ITEM.match(head) or GHOST.match(head)
+    _, before, kind, rest = found.groups() if found else ("", "", "use", "")
+    has = re.match(r"(?:unsafe )?impl\b.*?(\w+) for (.*)", without_arguments(outer))
     own = re.match(r"(?:pub(?:\(\w+\))? )?(?:unsafe )?trait (\w+)", outer)
-    if has and kind in ("fn", "impl", "type", "const"):
-        yield Piece(words_of(has[1] + has[3]) - KEYWORDS, text, has[2])
-    elif own and kind in ("fn", "trait", "type", "const"):
+    if kind == "use":
+        names = (it.strip() for path, some, one in USED.findall(text) for it in (some or one).split(",") if before.startswith("pub "))
+        yield from (Piece(frozenset({name}), f"use {path} {name}") for path, _, _ in USED.findall(text) for name in names)
+    elif has and kind not in INSIDE:
+        yield Piece(frozenset(WORD.findall(has[2])) - KEYWORDS, text, has[1], is_impl=True)
+    elif own:
         yield Piece(frozenset({own[1]}), text)
     elif kind == "impl":
-        yield Piece(words_of(rest) - KEYWORDS, text)
-    elif before.startswith("pub ") and kind == "use":
-        yield from (
-            Piece(frozenset({it.strip()}), f"use {path} {it.strip()}")
-            for path, names, name in USED.findall(text)
-            for it in (names or name).split(",")
-        )
+        yield Piece(frozenset(WORD.findall(without_arguments(rest))) - KEYWORDS, text, is_impl=True)
     elif before.startswith("pub ") and kind != "mod":
-        yield Piece(frozenset(WORD.findall(rest)[:1]), text)
+        yield Piece(frozenset(WORD.findall(rest)[:1]), without_private_fields(text) if kind == "struct" else text, is_called=kind == "fn")
+
+
+def without_arguments(text: str) -> str:
+    """A type's name, or an `impl`, without what stands between angle brackets."""
+    shorter = re.sub(r"<[^<>]*>", "", text)
+    return shorter if shorter == text else without_arguments(shorter)
+
+
+def without_private_fields(text: str) -> str:
+    """A struct without the fields that only its own crate sees."""
+    return "\n".join(line for line in text.split("\n") if not re.match(r" +(?!pub )(ghost )?\w+:", line))
 
 
 class Stated:
@@ -118,10 +134,14 @@ class Stated:
         self.found: dict[str, dict[str, list[tuple[Source, Piece]]]] = {}
         sources = [*sources]
         traits = {(source.crate, trait) for source in sources for trait in re.findall(r"\btrait (\w+)", source.text)}
+        own = {(source.crate, name) for source in sources for name in OWN.findall(source.text)}
         for source in sources:
             for piece in source.pieces:
+                if piece.is_impl and any((source.crate, name) in own for name in piece.names):
+                    continue
+                module = f"{source.crate}.{CALLS}" if piece.is_called else source.module
                 for name in {piece.trait} if (source.crate, piece.trait) in traits else piece.names or {""}:
-                    self.found.setdefault(source.module, {}).setdefault(name, []).append((source, piece))
+                    self.found.setdefault(module, {}).setdefault(name, []).append((source, piece))
 
     def cites(self, source: Source, text: str, more: Iterable[str] = ()) -> Iterator[tuple[str, str]]:
         """The modules and names that the words of a text in a file may stand for, and some words more."""
@@ -134,9 +154,15 @@ class Stated:
         if source.module.endswith(CODE):
             yield from ((f"{crate}.{CODE}", word) for crate in self.direct[source.crate] for word in words)
 
+    def calls(self, source: Source, text: str) -> Iterator[tuple[str, str]]:
+        """The functions and methods that a text of code with bodies may call."""
+        crates = self.direct[source.crate] if source.module.endswith(CODE) else []
+        return ((f"{crate}.{CALLS}", word) for crate in (source.crate, *crates) for word in words_of(text))
+
     def cited(self, crate: str, own: Iterable[Source]) -> list[str]:
         """The texts that a crate of these files may rest on, in the crates below."""
-        wanted = {cite for source in own for cite in self.cites(source, source.text, source.uses)}
+        own = [*own]
+        wanted = {cite for source in own for cite in (*self.cites(source, source.text, source.uses), *self.calls(source, source.text))}
         seen, texts = set[tuple[str, str]](), set[str]()
         while wanted:
             module, name = wanted.pop()
@@ -144,6 +170,8 @@ class Stated:
             for source, piece in self.found.get(module, {}).get(name, ()):
                 if source.crate != crate:
                     text = f"{module} {piece.text}"
-                    wanted |= set() if text in texts else {*self.cites(source, piece.text)} - seen
+                    has_body = "const fn" in text or "⟦" in text
+                    more = (*self.cites(source, piece.text), *(self.calls(source, piece.text) if has_body else ()))
+                    wanted |= set() if text in texts else {*more} - seen
                     texts.add(text)
         return sorted(texts)
