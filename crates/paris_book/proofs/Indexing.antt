@@ -1,17 +1,16 @@
 -- The index of a program's rows, after rows are put in, taken out, replaced, and changed in all but their plans.
-use Rattle.std.proofs.Common.{◌≡◌, ℕ, zero, suc, ◌<◌, ◌≤◌, List, [], ◌∷◌, length, set, true, false, cond, Option, Some, nat_eq, refl, sym, ap, ◌∙◌, subst, arith, slice_get}
+use Rattle.std.proofs.Common.{◌≡◌, ℕ, zero, suc, ◌<◌, ◌≤◌, List, [], ◌∷◌, length, set, Option, Some, nat_eq, refl, sym, ap, ◌∙◌, subst, arith, slice_get}
 use Rattle.std.proofs.lemmas.List.{length-map, map-set}
-use Rattle.std.proofs.lemmas.Bool.Decides.{nat_tests}
 use Rattle.std.proofs.lemmas.Option.{slice_get-map}
 use Rattle.std.specs.Prelude.{insert, remove, IsSome, position}
-use Rattle.std.specs.List.{AllByRecursion, IsDistinct}
+use Rattle.std.specs.List.{IsDistinct}
 use Rattle.std.specs.Option.{option_map, unwrap_or}
 use Rattle.paris_model.specs.Instructions.{Plan}
 use Rattle.paris_program.specs.Program.{ids_of, place_of, place_in, id_at, with_row}
-use Rattle.paris_program.proofs.CallerLemmas.{place_of-first, length-with_row}
+use Rattle.paris_program.proofs.CallerLemmas.{length-with_row}
+use Rattle.paris_program.proofs.Owning.{place_found}
 use Rattle.paris_depends.specs.Index.{Footprint, footprint, footprints}
 use Rattle.paris_depends.proofs.CallerLemmas.{ids-footprints, footprints-insert, footprints-remove, remove-insert}
-use Rattle.paris_depends.proofs.Places.{nat_eq-self}
 use Rattle.paris_depends.proofs.Slots.{map-insert, map-remove}
 use Rattle.paris_book.specs.Entries.{Entry}
 use Rattle.paris_book.specs.Indexed.{IsIndexed}
@@ -42,27 +41,7 @@ module _ {X : Type 0} where
   remove-set (y ∷ xs) zero x = refl
   remove-set (y ∷ xs) (suc i) x = ap (λ l. y ∷ l) (remove-set xs i x)
 
-same_both : (i j : ℕ) → nat_eq i j ≡ nat_eq j i
-same_both i j = grind (arith, nat_tests)
-
 module _ {T : Type 0} where
-  apart_at : (rows : List (ℕ × T)) (place i : ℕ) (r : ℕ × T) → AllByRecursion (λ j. nat_eq i j ≡ false) (ids_of rows) → slice_get rows place ≡ Some r → nat_eq i r.0 ≡ false
-  apart_at [] place i r apart at = absurd (cc)
-  apart_at (x ∷ rows) zero i r apart at = let same : x ≡ r = cc in subst (λ (e : ℕ × T). nat_eq i e.0 ≡ false) same apart.0
-  apart_at (x ∷ rows) (suc place) i r apart at = apart_at rows place i r apart.1 at
-
-  -- a row is found by its id where it stands
-  pub place_found : (rows : List (ℕ × T)) (place : ℕ) (r : ℕ × T) → IsDistinct nat_eq (ids_of rows) → slice_get rows place ≡ Some r → place_of rows r.0 ≡ Some place
-  unfolding IsDistinct
-  place_found [] place r distinct at = absurd (cc)
-  place_found (x ∷ rows) zero r distinct at =
-      let same : x ≡ r = cc in
-      let found : nat_eq r.0 x.0 ≡ true = ap (λ (e : ℕ × T). nat_eq r.0 e.0) same ∙ nat_eq-self r.0 in
-      place_of-first x rows r.0 ∙ ap (λ b. cond b (Some 0) (option_map suc (place_of rows r.0))) found
-  place_found (x ∷ rows) (suc place) r distinct at =
-      let other : nat_eq r.0 x.0 ≡ false = same_both r.0 x.0 ∙ apart_at rows place x.0 r distinct.0 at in
-      place_of-first x rows r.0 ∙ ap (λ b. cond b (Some 0) (option_map suc (place_of rows r.0))) other ∙ ap (option_map suc) (place_found rows place r distinct.1 at)
-
   module _ (plan : T → Plan) where
     pub place_of-footprints : (rows : List (ℕ × T)) (id : ℕ) → place_of (footprints plan rows) id ≡ place_of rows id
     place_of-footprints rows id = ap (λ l. position (nat_eq id) l) (ids-footprints plan rows)

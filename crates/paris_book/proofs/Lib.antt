@@ -11,6 +11,7 @@ pub mod EditLemmas
 pub mod Endings
 pub mod Entering
 pub mod Finds
+pub mod Holding
 pub mod Firmer
 pub mod Fronts
 pub mod InOrder

@@ -177,6 +177,13 @@ none_counted l span from w empty =
     let count = w.count in
     none_from l from from (λ j s past seen passes. let c = counted is_unsettled l j s seen passes in absurd (omega (arith, c, count, empty)))
 
+-- nor is any row unsettled
+pub none_unsettled : (l : List Status) (span : Span) (i : ℕ) (s : Status) → IsSpanned l span → span.unsettled ≡ 0 → slice_get l i ≡ Some s → is_unsettled s ≡ true → ⊥
+none_unsettled l span i s w empty seen passes =
+    let count = w.count in
+    let c = counted is_unsettled l i s seen passes in
+    omega (arith, c, count, empty)
+
 -- nor behind the span
 pub none_past : (l : List Status) (span : Span) (from : ℕ) → IsSpanned l span → span.end ≤ from → first_unsettled l from ≡ None
 none_past l span from w past = none_from l from from (λ j s behind seen passes. let h = w.held j s seen passes in let last = h.1 in absurd (omega (arith, last, behind, past)))

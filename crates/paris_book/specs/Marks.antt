@@ -1,5 +1,6 @@
 -- What calls change of a row, and the rows that an edit makes unsettled.
-use Rattle.std.specs.Prelude.{ℕ, List, map, Some, None, Bool, ◌||◌}
+use Rattle.std.specs.Prelude.{ℕ, List, map, Some, None, Bool, ◌||◌, nat_eq}
+use Rattle.std.specs.List.{list_any}
 use Rattle.paris_names.specs.declared.keys.Key.{Key}
 use Rattle.paris_names.specs.Keys.{has_key}
 use Rattle.paris_model.specs.Instructions.{Plan, writes}
@@ -52,3 +53,7 @@ kept_data t row = record row { status = Settled; done = Some t }
 -- a row settled by the result that it keeps
 abbrev pub again_data : RowData → RowData
 again_data row = record row { status = Settled }
+
+-- whether a row has one of these ids
+abbrev pub is_among : List ℕ → Entry → Bool
+is_among ids e = list_any (nat_eq e.0) ids

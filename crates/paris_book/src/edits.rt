@@ -117,6 +117,7 @@ impl Loose {
         ensures err { OnErr result (self.new ≡ self.old) }
     {
         let ids = self.rows.affected(self.alloc, 0, &[key])?;
+        self.rows.own_all(ids.as_slice())?;
         set_input(&mut self.inputs, &key, input);
         end_edit(&mut self.rows, &mut self.edits, ids.as_slice());
         Ok(())
@@ -151,6 +152,7 @@ impl Loose {
         let number = self.edits + 1;
         let ids = self.rows.affected(self.alloc, place, plan.writes())?;
         let row = RowData::fresh(self.alloc, plan, number)?;
+        self.rows.own_all(ids.as_slice())?;
         let id = self.rows.insert_at(place, row)?;
         end_edit(&mut self.rows, &mut self.edits, ids.as_slice());
         Ok(id)
@@ -169,6 +171,7 @@ impl Loose {
             Some(row) => self.rows.affected(self.alloc, below, row.plan().writes())?,
             None => unreachable!(),
         };
+        self.rows.own_all(ids.as_slice())?;
         self.rows.delete(id)?;
         end_edit(&mut self.rows, &mut self.edits, ids.as_slice());
         Ok(())
@@ -201,6 +204,7 @@ impl Loose {
             Some(row) => row.replaced(self.alloc, plan, number)?,
             None => unreachable!(),
         };
+        self.rows.own_all(ids.as_slice())?;
         self.rows.replace(id, row)?;
         end_edit(&mut self.rows, &mut self.edits, ids.as_slice());
         Ok(())

@@ -1,6 +1,6 @@
 //! What the rows and the input data show.
 
-ghost use Rattle.std.specs.Prelude.{◌≡◌, ◌<◌, ◌≤◌, ◌&&◌, ℕ, not, length, take, map, true, Some, None, if◌then◌else◌, IfOk, IfSome, IsSome, slice_get};
+ghost use Rattle.std.specs.Prelude.{◌≡◌, ◌<◌, ◌≤◌, ◌&&◌, ℕ, not, length, take, map, true, false, Some, None, if◌then◌else◌, IfOk, IfSome, IsSome, slice_get};
 ghost use Rattle.std.specs.Option.{option_map};
 ghost use Rattle.std.specs.List.{list_all, list_any};
 ghost use Rattle.std.specs.Cmp.Lexicographic.{pointwise};
@@ -226,6 +226,7 @@ pub(crate) fn is_cut(inputs: &InputData, rows: &Rows, place: usize) -> bool
     requires fitted { AllFitted (inputs_of inputs.now) rows.now.rows }
     ensures value { (e : Entry) → slice_get rows.now.rows place ≡ Some e → result ≡ is_row_cut (seen (inputs_of inputs.now) rows.now.rows) place (machine_row e) }
     ensures plan { (e : Entry) (d : Task) → slice_get rows.now.rows place ≡ Some e → result ≡ true → e.1.done ≡ Some d → e.1.plan ≡ d.plan }
+    ensures unsettled { (e : Entry) → slice_get rows.now.rows place ≡ Some e → result ≡ true → is_settled e.1.status ≡ false }
 {
     let (_, row) = rows.at(place);
     if row.status().is_settled() || !are_firm(rows, place, row.plan().reads()) {
@@ -257,6 +258,7 @@ pub(crate) fn is_cut_by(rows: &Rows, place: usize, values: &[SharedValue]) -> bo
     requires within { place < length rows.now.rows }
     ensures value { (e : Entry) → slice_get rows.now.rows place ≡ Some e → result ≡ cut_by values.now e }
     ensures plan { (e : Entry) (d : Task) → slice_get rows.now.rows place ≡ Some e → result ≡ true → e.1.done ≡ Some d → e.1.plan ≡ d.plan }
+    ensures unsettled { (e : Entry) → slice_get rows.now.rows place ≡ Some e → result ≡ true → is_settled e.1.status ≡ false }
 {
     let (_, row) = rows.at(place);
     if row.status().is_settled() {
@@ -275,6 +277,7 @@ pub(crate) fn judge(inputs: &InputData, rows: &Rows, place: usize, done: &Done) 
     requires fitted { AllFitted (inputs_of inputs.now) rows.now.rows }
     ensures verdict { (e : Entry) → slice_get rows.now.rows place ≡ Some e → result ≡ verdict_at (seen (inputs_of inputs.now) rows.now.rows) (place, machine_row e) done.now }
     ensures plan { (e : Entry) → slice_get rows.now.rows place ≡ Some e → result ≡ Verdict.Kept → e.1.plan ≡ done.now.plan }
+    ensures unsettled { (e : Entry) → slice_get rows.now.rows place ≡ Some e → result ≡ Verdict.Kept → is_settled e.1.status ≡ false }
 {
     let (_, row) = rows.at(place);
     let order = done.order();

@@ -5,9 +5,9 @@ ghost use Rattle.paris_names.specs.declared.keys.Key.{Key as AnyKey};
 ghost use Rattle.paris_names.specs.Keys.{has_key};
 ghost use Rattle.paris_names.specs.declared.limits.TheConstants.{MAX_EDITS};
 ghost use Rattle.paris_model.specs.Instructions.{writes};
-ghost use Rattle.paris_program.specs.Program.{IsProgram, place_of, row_of};
+ghost use Rattle.paris_program.specs.Program.{IsProgram, AreOwn, place_of, row_of};
 ghost use Rattle.paris_depends.specs.Sweeps.{touched};
-ghost use Rattle.paris_book.specs.Marks.{unsettled_by_ids, ids_in, data_plan, writes_either};
+ghost use Rattle.paris_book.specs.Marks.{unsettled_by_ids, is_among, ids_in, data_plan, writes_either};
 ghost use Rattle.paris_book.specs.Rows.{RowData as RowShape};
 
 use crate::program_rows::Rows;
@@ -15,8 +15,9 @@ use paris_instr::Plan;
 use paris_names::{Key, RowId, has_key};
 use std::alloc::{AllocError, Global};
 
-/// Makes the rows of these ids unsettled by the edit of this number.
+/// Makes the rows of these ids, which may be changed, unsettled by the edit of this number.
 fn unsettle_all(rows: &mut Rows, ids: &[RowId], number: u64)
+    requires { AreOwn rows.old (is_among (ids_in ids.now)) }
     ensures rows { rows.new.rows ≡ unsettled_by_ids number (ids_in ids.now) rows.old.rows }
     ensures next_id { rows.new.next_id ≡ rows.old.next_id }
     ensures sound { IsProgram rows.old }
@@ -30,9 +31,11 @@ fn unsettle_all(rows: &mut Rows, ids: &[RowId], number: u64)
     }
 }
 
-/// Ends an edit: it is the last one now, and the rows of these ids become unsettled by it.
+/// Ends an edit: it is the last one now, and the rows of these ids, which may be changed, become unsettled by it. Copies share
+/// settled rows from then on.
 pub(crate) fn end_edit(rows: &mut Rows, edits: &mut u64, ids: &[RowId])
     requires left { edits.old < MAX_EDITS }
+    requires own { AreOwn rows.old (is_among (ids_in ids.now)) }
     ensures edits { edits.new ≡ edits.old + 1 }
     ensures rows { rows.new.rows ≡ unsettled_by_ids (edits.old + 1) (ids_in ids.now) rows.old.rows }
     ensures next_id { rows.new.next_id ≡ rows.old.next_id }
@@ -40,6 +43,7 @@ pub(crate) fn end_edit(rows: &mut Rows, edits: &mut u64, ids: &[RowId])
 {
     *edits += 1;
     unsettle_all(rows, ids, *edits);
+    rows.share_settled();
 }
 
 /// The keys that a plan or another one writes, each once.

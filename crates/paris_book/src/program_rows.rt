@@ -1,16 +1,17 @@
 //! The rows of a book in program order.
 
-ghost use Rattle.std.specs.Prelude.{◌≡◌, ◌^◌, ◌<◌, ◌≤◌, ◌↔◌, [], length, drop, map, remove, slice_get, take, Some, IsSome, IfOk, IfSome, OnOk, OnErr};
+ghost use Rattle.std.specs.Prelude.{◌≡◌, ◌^◌, ◌<◌, ◌≤◌, ◌↔◌, true, [], length, drop, map, remove, slice_get, take, Some, IsSome, IfOk, IfSome, OnOk, OnErr};
 ghost use Rattle.std.specs.Option.{option_copied, option_map};
 ghost use Rattle.paris_names.specs.Keys.{has_key};
 ghost use Rattle.paris_names.specs.declared.limits.TheConstants.{MAX_ROWS};
-ghost use Rattle.paris_program.specs.Program.{IsProgram, Inserts, Stays, place_of, place_in, row_of, with_row};
+ghost use Rattle.paris_program.specs.Program.{IsProgram, Inserts, Stays, AreOwn, KeepsOwn, IsOwn, IsOwnRow, place_of, place_in, row_of, with_row};
 ghost use Rattle.paris_depends.specs.Index.{footprint, footprints};
 ghost use Rattle.paris_depends.specs.Sweeps.{touched};
 ghost use Rattle.paris_model.specs.Recipe.{origin as last_writer};
 ghost use Rattle.paris_machine.specs.Settling.{unsettled_rows};
 ghost use Rattle.paris_book.specs.Entries.{Entry, ChangedAt, entry_plan, machine_row};
-ghost use Rattle.paris_book.specs.Marks.{data_plan, ids_in, out_data, kept_data, again_data, recalled_data, stale_data};
+ghost use Rattle.paris_book.specs.Indexed.{IsUnsettledAt};
+ghost use Rattle.paris_book.specs.Marks.{data_plan, is_among, ids_in, out_data, kept_data, again_data, recalled_data, stale_data};
 ghost use Rattle.paris_book.specs.SharedIndexes.{HasOwnRoom, indexed_in};
 ghost use Rattle.paris_book.specs.Statuses.{next_unsettled};
 
@@ -26,7 +27,8 @@ use std::alloc::{AllocError, Global};
 use std::marker::Model;
 
 /// The rows of a book in program order, with their index, and once more where each of them stands, so that a search for unsettled
-/// rows passes the others over. There are no more rows than a program may have. A clause sees the program.
+/// rows passes the others over. There are no more rows than a program may have. Unsettled rows may be changed; others may be shared with
+/// copies. A clause sees the program.
 #[derive(Drop)]
 pub(crate) struct Rows {
     alloc: Global,
@@ -38,14 +40,14 @@ pub(crate) struct Rows {
 impl Model for Rows {
     ghost use Rattle.paris_program.specs.Program.{Program};
     ghost use Rattle.paris_book.specs.Rows.{RowData};
-    ghost use Rattle.paris_book.specs.Indexed.{IsIndexed};
+    ghost use Rattle.paris_book.specs.Indexed.{IsHeld};
     ghost use Rattle.paris_book.specs.SharedIndexes.{indexed_in};
 
     ghost Value = { Program RowData };
 
     ghost view = { λ r. r.program };
 
-    ghost invariant = { λ r. IsIndexed r.program.rows (indexed_in r.index) r.statuses };
+    ghost invariant = { λ r. IsHeld r.program (indexed_in r.index) r.statuses };
 }
 
 /// Adds the row at a place to the index of all others, which has room for it.
@@ -174,9 +176,9 @@ impl Rows {
         self.statuses.first_unsettled(from)
     }
 
-    /// Marks the row at a place as one of which an order is out.
+    /// Marks the row at a place, which is unsettled, as one of which an order is out.
     pub(crate) fn hand_out(&mut self, place: usize)
-        requires { place < length self.old.rows }
+        requires { IsUnsettledAt self.old.rows place }
         ensures rows { ChangedAt out_data self.old.rows place self.new.rows }
         ensures next_id { self.new.next_id ≡ self.old.next_id }
     {
@@ -185,9 +187,9 @@ impl Rows {
         self.statuses.set(place, row.status());
     }
 
-    /// Settles the row at a place by a result of its plan.
+    /// Settles the row at a place, which is unsettled, by a result of its plan.
     pub(crate) fn keep(&mut self, place: usize, done: Done)
-        requires there { place < length self.old.rows }
+        requires unsettled { IsUnsettledAt self.old.rows place }
         requires plan { (e : Entry) → slice_get self.old.rows place ≡ Some e → e.1.plan ≡ done.plan }
         ensures rows { ChangedAt (kept_data done) self.old.rows place self.new.rows }
         ensures next_id { self.new.next_id ≡ self.old.next_id }
@@ -197,9 +199,9 @@ impl Rows {
         self.statuses.set(place, row.status());
     }
 
-    /// Settles the row at a place by the result that was last kept of it.
+    /// Settles the row at a place, which is unsettled, by the result that was last kept of it.
     pub(crate) fn settle_again(&mut self, place: usize)
-        requires { place < length self.old.rows }
+        requires { IsUnsettledAt self.old.rows place }
         ensures rows { ChangedAt again_data self.old.rows place self.new.rows }
         ensures next_id { self.new.next_id ≡ self.old.next_id }
     {
@@ -214,20 +216,69 @@ impl Rows {
         ensures rows { ChangedAt recalled_data self.old.rows place self.new.rows }
         ensures next_id { self.new.next_id ≡ self.old.next_id }
     {
+        let (_, row) = self.program.at(place);
+        if row.status().is_settled() {
+            return;
+        }
         let row = self.program.at_mut(place);
         row.recall();
         self.statuses.set(place, row.status());
     }
 
-    /// Makes the row at a place unsettled by the edit of this number.
+    /// Makes the row with this id, if there is one, a row that may be changed. The rows stay, also where memory is refused.
+    fn own(&mut self, id: RowId) -> Result<(), AllocError>
+        ensures rows { self.new.rows ≡ self.old.rows }
+        ensures next_id { self.new.next_id ≡ self.old.next_id }
+        ensures own { KeepsOwn self.old self.new }
+        ensures ok { OnOk result (IsOwnRow self.new id.0) }
+    {
+        self.program.own(id)
+    }
+
+    /// Makes the rows with these ids rows that may be changed. The rows stay, also where memory is refused.
+    pub(crate) fn own_all(&mut self, ids: &[RowId]) -> Result<(), AllocError>
+        ensures rows { self.new.rows ≡ self.old.rows }
+        ensures next_id { self.new.next_id ≡ self.old.next_id }
+        ensures own { KeepsOwn self.old self.new }
+        ensures ok { OnOk result (AreOwn self.new (is_among (ids_in ids.now))) }
+    {
+        for id in ids {
+            self.own(*id)?;
+        }
+        Ok(())
+    }
+
+    /// Makes the row at a place, which may be changed, unsettled by the edit of this number.
     pub(crate) fn unsettle(&mut self, place: usize, number: u64)
-        requires { place < length self.old.rows }
+        requires there { place < length self.old.rows }
+        requires own { IsOwn self.old place }
         ensures rows { ChangedAt (stale_data number) self.old.rows place self.new.rows }
         ensures next_id { self.new.next_id ≡ self.old.next_id }
+        ensures own { KeepsOwn self.old self.new }
     {
         let row = self.program.at_mut(place);
         row.unsettle(number);
         self.statuses.set(place, row.status());
+    }
+
+    /// Makes rows that are settled ones that copies share with these rows.
+    pub(crate) fn share_settled(&mut self)
+        ensures rows { self.new.rows ≡ self.old.rows }
+        ensures next_id { self.new.next_id ≡ self.old.next_id }
+    {
+        let (start, end) = self.statuses.ends();
+        self.program.share(0, start);
+        self.program.share(end, self.program.len());
+    }
+
+    /// The same where no row is unsettled.
+    pub(crate) fn share_all_settled(&mut self)
+        ensures rows { self.new.rows ≡ self.old.rows }
+        ensures next_id { self.new.next_id ≡ self.old.next_id }
+    {
+        if self.statuses.count_unsettled() == 0 {
+            self.share_settled();
+        }
     }
 
     /// Puts a row at a place, before the rows that stand there, under the next id, and returns that id. Where memory is refused the
@@ -238,20 +289,17 @@ impl Rows {
         requires ids { self.old.next_id < 2 ^ 63 }
         ensures ok { IfOk result (Inserts self.old self.new place row) }
         ensures err { OnErr result (Stays self.old self.new) }
+        ensures own { KeepsOwn self.old self.new }
     {
         let plan = row.shared_plan()?;
-        self.program.room()?;
+        self.program.room(place)?;
         self.index.own(self.alloc)?;
         self.index.room(plan.get())?;
         self.statuses.insert(place, row.status())?;
-        match self.program.insert_at(place, row) {
-            Ok(id) => {
-                add_row(&mut self.index, &self.program, place, plan);
-                self.index.share(self.alloc);
-                Ok(id)
-            }
-            Err(_) => unreachable!(),
-        }
+        let id = self.program.put_at(place, row);
+        add_row(&mut self.index, &self.program, place, plan);
+        self.index.share(self.alloc);
+        Ok(id)
     }
 
     /// Takes the row with this id out. The others keep their order. Where memory is refused the rows are as before.
@@ -260,12 +308,13 @@ impl Rows {
         ensures ok { OnOk result (self.new.rows ≡ remove self.old.rows (place_in self.old.rows id.0)) }
         ensures next_id { self.new.next_id ≡ self.old.next_id }
         ensures err { OnErr result (Stays self.old self.new) }
+        ensures own { KeepsOwn self.old self.new }
     {
         self.index.own(self.alloc)?;
         let place = self.program.place_of(id).unwrap();
+        self.program.delete(id)?;
         self.index.remove(id);
         self.index.share(self.alloc);
-        self.program.delete(id);
         self.statuses.remove(place);
         Ok(())
     }
@@ -276,10 +325,12 @@ impl Rows {
         ensures ok { OnOk result (self.new.rows ≡ with_row self.old.rows (place_in self.old.rows id.0) row) }
         ensures next_id { self.new.next_id ≡ self.old.next_id }
         ensures err { OnErr result (Stays self.old self.new) }
+        ensures own { KeepsOwn self.old self.new }
     {
         let plan = row.shared_plan()?;
         self.index.own(self.alloc)?;
         self.index.room(plan.get())?;
+        self.program.own(id)?;
         let place = self.program.place_of(id).unwrap();
         self.index.remove(id);
         self.statuses.set(place, row.status());

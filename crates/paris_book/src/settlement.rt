@@ -1,6 +1,6 @@
 //! Settling a book: orders that are out are given up, and rows are run until every row is settled.
 
-ghost use Rattle.std.specs.Prelude.{◌≡◌, ◌<◌, ◌≤◌, ◌+◌, ◌⊎◌, length, true, if◌then◌else◌, Some, map, OnOk, OnErr, IfOk, IfErr, IfSome};
+ghost use Rattle.std.specs.Prelude.{◌≡◌, ◌<◌, ◌≤◌, ◌+◌, ◌⊎◌, length, slice_get, true, false, if◌then◌else◌, Some, map, OnOk, OnErr, IfOk, IfErr, IfSome};
 ghost use Rattle.paris_names.specs.declared.limits.TheConstants.{MAX_ROWS};
 ghost use Rattle.paris_machine.specs.CutOff.{cut_off};
 ghost use Rattle.paris_machine.specs.Orders.{IsIdle, after_release, after_take};
@@ -9,7 +9,7 @@ ghost use Rattle.paris_book.specs.Marks.{recalled_data};
 ghost use Rattle.paris_book.specs.Entries.{with_data};
 ghost use Rattle.paris_book.specs.Rounds.{StaySettled, Advances, ran_of};
 ghost use Rattle.paris_book.specs.Statuses.{next_unsettled};
-ghost use Rattle.paris_book.specs.Steps.{own_order, run_at, left_at, runs_at, turned_at};
+ghost use Rattle.paris_book.specs.Steps.{own_order, settled_on, run_at, left_at, runs_at, turned_at};
 
 use crate::book::Book;
 use crate::looks::order_at;
@@ -80,12 +80,14 @@ impl Loose {
         order_at(self.alloc, &self.inputs, &self.rows, place)
     }
 
-    /// Settles the row at a place by the result of the order that the row would give now. Nothing is compared.
+    /// Settles the row at a place, which is unsettled, by the result of the order that it would give now. Nothing is compared.
     pub(crate) fn keep_own(&mut self, place: usize, done: Done)
-        requires { own_order self.old place ≡ Some done }
+        requires own { own_order self.old place ≡ Some done }
+        requires unsettled { settled_on (slice_get self.old.rows place) ≡ false }
         ensures { self.new ≡ run_at self.old place }
     {
         self.rows.keep(place, done);
+        self.rows.share_all_settled();
     }
 
     /// Gives the row at a place its turn. An unsettled row that would compute again what it computed last is settled with that. Any

@@ -1,6 +1,7 @@
 //! Where rows stand, by place.
 
-ghost use Rattle.std.specs.Prelude.{◌≡◌, ℕ, true, cond, ◌<◌, ◌≤◌, ◌+◌, [], length, set, insert, remove, None, IfOk, OnErr, OnOk};
+ghost use Rattle.std.specs.Prelude.{◌≡◌, ℕ, true, cond, ◌<◌, ◌≤◌, ◌+◌, [], length, set, insert, remove, slice_get, None, Some, IfOk, OnErr, OnOk};
+ghost use Rattle.paris_events.specs.declared.rows.Status.{Status as AnyStatus};
 ghost use Rattle.std.specs.List.{count_by};
 ghost use Rattle.paris_names.specs.declared.limits.TheConstants.{MAX_ROWS};
 ghost use Rattle.paris_book.specs.Statuses.{IsInSpan, is_unsettled, first_unsettled as first_from};
@@ -194,6 +195,16 @@ impl Statuses {
         }
         let start = from.max(self.span.start);
         first_between(self.list.as_slice(), start, self.span.end)
+    }
+
+    /// The place where the unsettled rows begin, and the place behind them.
+    pub(crate) fn ends(&self) -> (usize, usize)
+        ensures { (i : ℕ) (s : AnyStatus) → slice_get self.now i ≡ Some s → is_unsettled s ≡ true → (result.0 ≤ i) × (i < result.1) }
+    {
+        if self.span.unsettled == 0 {
+            return (0, 0);
+        }
+        (self.span.start, self.span.end)
     }
 
     /// Puts another status at a place.

@@ -2,7 +2,6 @@ pub mod Numbers
 pub mod Lists
 pub mod Values
 pub mod Turn
-pub mod Six
 pub mod Sides
 pub mod Halves
 pub mod Addresses

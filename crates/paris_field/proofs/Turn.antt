@@ -43,7 +43,13 @@ part_past : (m n s k : ℕ) → n ≤ k → word_bit (m / 2 ^ s % 2 ^ n) k ≡ f
 unfolding word_bit
 part_past m n s k h = ap (λ x. eqb x 1) (bit_at_above (m / 2 ^ s % 2 ^ n) n k (mod_below (m / 2 ^ s) (2 ^ n) (pow-pos n)) h)
 
--- where it has 16 bits, or 32
+-- where it has 8 bits, 16 or 32
+pub eighth_bit : (n s k : ℕ) → k < 8 → word_bit (n / 2 ^ s % 2 ^ 8) k ≡ word_bit n (s + k)
+eighth_bit n s k h = part_bit n 8 s k h
+
+pub eighth_past : (n s k : ℕ) → 8 ≤ k → word_bit (n / 2 ^ s % 2 ^ 8) k ≡ false
+eighth_past n s k h = part_past n 8 s k h
+
 pub quarter_bit : (n s k : ℕ) → k < 16 → word_bit (n / 2 ^ s % 2 ^ 16) k ≡ word_bit n (s + k)
 quarter_bit n s k h = part_bit n 16 s k h
 

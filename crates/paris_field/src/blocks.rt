@@ -5,7 +5,7 @@ ghost use Rattle.paris_model.specs.Store.{low};
 ghost use Rattle.paris_plane.specs.Bits.{word_bit};
 ghost use Rattle.paris_field.specs.Numbers.{AllOf, number_at, numbers, plane_at};
 
-use crate::transpose::{transpose16, transpose32, transpose64};
+use crate::transpose::{transpose8, transpose16, transpose32, transpose64};
 use paris_plane::Plane;
 use std::alloc::{AllocError, Global};
 
@@ -13,7 +13,7 @@ use std::alloc::{AllocError, Global};
 const WORD: u128 = 1 << 64;
 
 /// One more than the greatest number of half a word.
-const HALF: u64 = 1 << 32;
+pub(crate) const HALF: u64 = 1 << 32;
 
 /// The bits of a plane in the processors of a block, and zeros where there is no such plane.
 pub(crate) fn word_of(planes: &[Plane], k: usize, block: usize, vps: usize) -> u64
@@ -41,14 +41,43 @@ fn rows_of(planes: &[Plane], block: usize, vps: usize) -> [u64; 64]
     rows
 }
 
+/// Puts `W` bits of each of the first `W` words, those from bit `FROM` on, into as many numbers from place `FROM` on.
+fn put_part<const W: usize, const FROM: usize>(rows: &[u64; 64], numbers: &mut [u64; 64])
+    requires within { FROM + W ≤ 64 }
+    requires narrow { W < 64 }
+    ensures part { (j : ℕ) → j < W → slice_index numbers.new (FROM + j) ≡ slice_index rows.now j / 2 ^ FROM % 2 ^ W }
+    ensures others { (i : ℕ) → (FROM ≤ i → FROM + W ≤ i) → slice_index numbers.new i ≡ slice_index numbers.old i }
+{
+    for j in 0..W {
+        numbers[FROM + j] = (rows[j] >> FROM) % (1 << W);
+    }
+}
+
+/// Eight numbers of 8 bits from each of 8 words, those of the lowest bits of each word first.
+fn eighths(rows: &[u64; 64]) -> [u64; 64]
+    ensures { (i : ℕ) → i < 64 → slice_index result i ≡ slice_index rows.now (i % 8) / 2 ^ (i / 8 * 8) % 2 ^ 8 }
+{
+    let mut numbers = [0u64; 64];
+    put_part::<8, 0>(rows, &mut numbers);
+    put_part::<8, 8>(rows, &mut numbers);
+    put_part::<8, 16>(rows, &mut numbers);
+    put_part::<8, 24>(rows, &mut numbers);
+    put_part::<8, 32>(rows, &mut numbers);
+    put_part::<8, 40>(rows, &mut numbers);
+    put_part::<8, 48>(rows, &mut numbers);
+    put_part::<8, 56>(rows, &mut numbers);
+    numbers
+}
+
 /// Four numbers of 16 bits from each of 16 words, those of the lowest bits of each word first.
-fn quarters(rows: &[u64; 64]) -> [u64; 64]
+pub(crate) fn quarters(rows: &[u64; 64]) -> [u64; 64]
     ensures { (i : ℕ) → i < 64 → slice_index result i ≡ slice_index rows.now (i % 16) / 2 ^ (i / 16 * 16) % 2 ^ 16 }
 {
     let mut numbers = [0u64; 64];
-    for i in 0..64usize {
-        numbers[i] = (rows[i % 16] >> (i / 16 * 16)) % 65536;
-    }
+    put_part::<16, 0>(rows, &mut numbers);
+    put_part::<16, 16>(rows, &mut numbers);
+    put_part::<16, 32>(rows, &mut numbers);
+    put_part::<16, 48>(rows, &mut numbers);
     numbers
 }
 
@@ -57,10 +86,21 @@ fn halves(rows: &[u64; 64]) -> [u64; 64]
     ensures { (i : ℕ) → i < 64 → slice_index result i ≡ slice_index rows.now (i % 32) / 2 ^ (i / 32 * 32) % 2 ^ 32 }
 {
     let mut numbers = [0u64; 64];
-    for i in 0..64usize {
-        numbers[i] = (rows[i % 32] >> (i / 32 * 32)) % HALF;
-    }
+    put_part::<32, 0>(rows, &mut numbers);
+    put_part::<32, 32>(rows, &mut numbers);
     numbers
+}
+
+/// The number of each processor of a block as a word, where the planes hold its bits, up to 8 of them.
+fn byte_bits(planes: &[Plane], block: usize, vps: usize) -> [u64; 64]
+    requires narrow { length planes.now ≤ 8 }
+    requires within { 64 * block < vps }
+    requires long { AllOf vps planes.now }
+    ensures { (i k : ℕ) → i < 64 → k < 64 → 64 * block + i < vps → word_bit (slice_index result i) k ≡ slice_index_or (plane_at planes.now k) (64 * block + i) false }
+{
+    let mut rows = rows_of(planes, block, vps);
+    transpose8(&mut rows);
+    eighths(&rows)
 }
 
 /// The number of each processor of a block as a word, where the planes hold its bits, up to 16 of them.
@@ -93,6 +133,9 @@ fn low_words(planes: &[Plane], block: usize, vps: usize) -> [u64; 64]
     requires long { AllOf vps planes.now }
     ensures { (i k : ℕ) → i < 64 → k < 64 → 64 * block + i < vps → word_bit (slice_index result i) k ≡ slice_index_or (plane_at planes.now k) (64 * block + i) false }
 {
+    if planes.len() <= 8 {
+        return byte_bits(planes, block, vps);
+    }
     if planes.len() <= 16 {
         return few_bits(planes, block, vps);
     }

@@ -1,4 +1,4 @@
-//! Squares of bits, turned about their diagonals: one of 64 by 64, or two of 32 by 32 or four of 16 by 16 side by side.
+//! Squares of bits, turned about their diagonals: one of 64 by 64, or two of 32 by 32, four of 16 by 16 or eight of 8 by 8 side by side.
 
 ghost use Rattle.std.specs.Prelude.{◌≡◌, ℕ, ◌+◌, ◌-◌, ◌*◌, ◌/◌, ◌%◌, ◌<◌, ◌≤◌, ◌==◌, cond, slice_index};
 ghost use Rattle.paris_plane.specs.Bits.{word_bit};
@@ -9,33 +9,42 @@ ghost use Rattle.paris_field.specs.Square.{crossed};
 pub fn transpose64(rows: &mut [u64; 64])
     ensures { (j i : ℕ) → j < 64 → i < 64 → word_bit (slice_index rows.new j) i ≡ word_bit (slice_index rows.old i) j }
 {
-    exchange_digits::<32>(rows, 32, 0x0000_0000_FFFF_FFFF);
-    exchange_digits::<16>(rows, 32, 0x0000_FFFF_0000_FFFF);
-    exchange_digits::<8>(rows, 32, 0x00FF_00FF_00FF_00FF);
-    exchange_digits::<4>(rows, 32, 0x0F0F_0F0F_0F0F_0F0F);
-    exchange_digits::<2>(rows, 32, 0x3333_3333_3333_3333);
     exchange_digits::<1>(rows, 32, 0x5555_5555_5555_5555);
+    exchange_digits::<2>(rows, 32, 0x3333_3333_3333_3333);
+    exchange_digits::<4>(rows, 32, 0x0F0F_0F0F_0F0F_0F0F);
+    exchange_digits::<8>(rows, 32, 0x00FF_00FF_00FF_00FF);
+    exchange_digits::<16>(rows, 32, 0x0000_FFFF_0000_FFFF);
+    exchange_digits::<32>(rows, 32, 0x0000_0000_FFFF_FFFF);
 }
 
 /// Turns two squares of 32 by 32 bits, which lie side by side in the first 32 words, each about its own diagonal.
 pub(crate) fn transpose32(rows: &mut [u64; 64])
     ensures { (j i : ℕ) → j < 32 → i < 64 → word_bit (slice_index rows.new j) i ≡ word_bit (slice_index rows.old (i % 32)) (i / 32 * 32 + j) }
 {
-    exchange_digits::<16>(rows, 16, 0x0000_FFFF_0000_FFFF);
-    exchange_digits::<8>(rows, 16, 0x00FF_00FF_00FF_00FF);
-    exchange_digits::<4>(rows, 16, 0x0F0F_0F0F_0F0F_0F0F);
-    exchange_digits::<2>(rows, 16, 0x3333_3333_3333_3333);
     exchange_digits::<1>(rows, 16, 0x5555_5555_5555_5555);
+    exchange_digits::<2>(rows, 16, 0x3333_3333_3333_3333);
+    exchange_digits::<4>(rows, 16, 0x0F0F_0F0F_0F0F_0F0F);
+    exchange_digits::<8>(rows, 16, 0x00FF_00FF_00FF_00FF);
+    exchange_digits::<16>(rows, 16, 0x0000_FFFF_0000_FFFF);
 }
 
 /// Turns four squares of 16 by 16 bits, which lie side by side in the first 16 words, each about its own diagonal.
 pub(crate) fn transpose16(rows: &mut [u64; 64])
     ensures { (j i : ℕ) → j < 16 → i < 64 → word_bit (slice_index rows.new j) i ≡ word_bit (slice_index rows.old (i % 16)) (i / 16 * 16 + j) }
 {
-    exchange_digits::<8>(rows, 8, 0x00FF_00FF_00FF_00FF);
-    exchange_digits::<4>(rows, 8, 0x0F0F_0F0F_0F0F_0F0F);
-    exchange_digits::<2>(rows, 8, 0x3333_3333_3333_3333);
     exchange_digits::<1>(rows, 8, 0x5555_5555_5555_5555);
+    exchange_digits::<2>(rows, 8, 0x3333_3333_3333_3333);
+    exchange_digits::<4>(rows, 8, 0x0F0F_0F0F_0F0F_0F0F);
+    exchange_digits::<8>(rows, 8, 0x00FF_00FF_00FF_00FF);
+}
+
+/// Turns eight squares of 8 by 8 bits, which lie side by side in the first 8 words, each about its own diagonal.
+pub(crate) fn transpose8(rows: &mut [u64; 64])
+    ensures { (j i : ℕ) → j < 8 → i < 64 → word_bit (slice_index rows.new j) i ≡ word_bit (slice_index rows.old (i % 8)) (i / 8 * 8 + j) }
+{
+    exchange_digits::<1>(rows, 4, 0x5555_5555_5555_5555);
+    exchange_digits::<2>(rows, 4, 0x3333_3333_3333_3333);
+    exchange_digits::<4>(rows, 4, 0x0F0F_0F0F_0F0F_0F0F);
 }
 
 /// In the first `2 * half` rows, moves each bit to where the binary digits of weight `S` of its row and of its place are exchanged.

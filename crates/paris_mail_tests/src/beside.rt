@@ -5,7 +5,7 @@ ghost use Rattle.paris_plain.specs.Narrow.{IsNarrow};
 ghost use Rattle.paris_model.specs.declared.actions.Action.TheVariants.{ByMail};
 
 use crate::calls::{Call, Outcome, made};
-use crate::cases::{Aim, Lists, SETS, Sample, random_sample, random_wide_sample};
+use crate::cases::{Aim, Choice, Lists, SETS, Sample, random_sample, random_wide_sample};
 use crate::expected::expected;
 use paris_geometry::Geometry;
 use paris_model::{Combiner, Mail, Operand};
@@ -240,8 +240,33 @@ fn addresses_have_any_width(rt: HostRuntime) -> Result<(), Fail> {
         for (k, aim) in AIMS.iter().enumerate() {
             for width in [8, 17, 64, 65] {
                 let alloc = rt.alloc();
-                let sample = random_wide_sample(&rt, alloc, *aim, 128, width, address_width)?;
+                let sample = random_wide_sample(
+                    &rt,
+                    alloc,
+                    *aim,
+                    Choice::Most,
+                    128,
+                    width,
+                    address_width,
+                )?;
                 run(&rt, alloc, &sample, 2, k)?;
+            }
+        }
+    }
+    Ok(())
+}
+
+#[test]
+fn all_or_none_are_selected(rt: HostRuntime) -> Result<(), Fail> {
+    for choice in [Choice::Blocks, Choice::Every, Choice::Nobody] {
+        for aim in AIMS {
+            for width in [1, 7, 8, 9, 16, 17, 32, 33, 64, 65] {
+                for count in [32, 64, 256] {
+                    let alloc = rt.alloc();
+                    let sample = random_wide_sample(&rt, alloc, *aim, choice, count, width, 20)?;
+                    run(&rt, alloc, &sample, 8, 0)?;
+                    run(&rt, alloc, &sample, 8, 1)?;
+                }
             }
         }
     }

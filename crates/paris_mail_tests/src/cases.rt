@@ -74,6 +74,19 @@ pub(crate) enum Aim {
     Outside,
 }
 
+/// Which processors of a set are selected.
+#[derive(Clone, Copy, Debug)]
+pub(crate) enum Choice {
+    /// Most of them.
+    Most,
+    /// All of each other block of 64, and most of those between.
+    Blocks,
+    /// All of them.
+    Every,
+    /// None of them.
+    Nobody,
+}
+
 /// A word that looks random, and is the same in each run.
 fn word(seed: u64, place: u64) -> u64 {
     let state = seed.wrapping_add(place.wrapping_mul(0x9E37_79B9_7F4A_7C15));
@@ -90,6 +103,16 @@ fn numbers(alloc: Global, low: u128, seed: u64, count: usize) -> Result<Vec<u128
             ((u128::from(word) << 64) | u128::from(word.wrapping_mul(seed))) & low
         })
         .collect(alloc)
+}
+
+/// Whether processor v is selected.
+fn is_selected(choice: Choice, seed: u64, v: u64) -> bool {
+    match choice {
+        Choice::Blocks if v / 64 % 2 == 0 => true,
+        Choice::Most | Choice::Blocks => word(seed, v) % 4 != 0,
+        Choice::Every => true,
+        Choice::Nobody => false,
+    }
 }
 
 /// The address that processor v holds. One that isn't selected often holds one outside the set.
@@ -210,7 +233,7 @@ pub(crate) fn random_sample(
     count: usize,
     width: u64,
 ) -> Result<Sample, Fail> {
-    random_wide_sample(rt, alloc, aim, count, width, 20)
+    random_wide_sample(rt, alloc, aim, Choice::Most, count, width, 20)
 }
 
 /// A sample from the generator, where addresses have `address_width` bits.
@@ -218,6 +241,7 @@ pub(crate) fn random_wide_sample(
     rt: &impl Abort,
     alloc: Global,
     aim: Aim,
+    choice: Choice,
     count: usize,
     width: u64,
     address_width: u64,
@@ -226,7 +250,7 @@ pub(crate) fn random_wide_sample(
     let low = u128::MAX >> (128 - width);
     let seed = word(count as u64, width);
     let context: Vec<u128> = (0..count)
-        .map(|v| u128::from(word(!seed, v as u64) % 4 != 0))
+        .map(|v| u128::from(is_selected(choice, !seed, v as u64)))
         .collect(alloc)?;
     let lists = Lists {
         addresses: addresses(alloc, aim, word(seed, 1), &context)?,

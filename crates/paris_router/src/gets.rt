@@ -49,9 +49,26 @@ fn chosen_word(chosen: u64, i: usize, word: u64) -> u64
     if (chosen >> i) % 2 == 1 { word } else { 0 }
 }
 
+/// Puts for each processor of a block the word at its address. Gives the place of the first one whose address is outside the words, if
+/// there is one.
+fn fetch_every_word(addresses: &[u64; 64], words: &[u64], fetched: &mut [u64; 64]) -> Option<usize>
+    ensures bad { result ≡ find (λ i. nat_le (length words.now) (slice_index addresses.now i)) (numbers_below 64) }
+    ensures inside { IfSome result (λ i. i < 64) }
+    ensures values { result ≡ None → (i : ℕ) → i < 64 → slice_index fetched.new i ≡ slice_index words.now (slice_index addresses.now i) }
+{
+    for i in 0..64usize {
+        let address = addresses[i];
+        if address >= words.len() as u64 {
+            return Some(i);
+        }
+        fetched[i] = words[address as usize];
+    }
+    None
+}
+
 /// Puts for each of the first `count` processors of a block the word at its address, and 0 for those that aren't chosen. Gives the
 /// place of the first chosen one whose address is outside the words, if there is one.
-fn fetch_words(
+fn fetch_chosen_words(
     addresses: &[u64; 64],
     chosen: u64,
     words: &[u64],
@@ -73,6 +90,28 @@ fn fetch_words(
         fetched[i] = word;
     }
     None
+}
+
+/// Puts for each of the first `count` processors of a block the word at its address, and 0 for those that aren't chosen. Gives the
+/// place of the first chosen one whose address is outside the words, if there is one.
+fn fetch_words(
+    addresses: &[u64; 64],
+    chosen: u64,
+    words: &[u64],
+    count: usize,
+    fetched: &mut [u64; 64],
+) -> Option<usize>
+    requires some { 0 < length words.now }
+    requires within { count ≤ 64 }
+    ensures bad { result ≡ find (λ i. word_bit chosen i && nat_le (length words.now) (slice_index addresses.now i)) (numbers_below count) }
+    ensures inside { IfSome result (λ i. i < count) }
+    ensures values { result ≡ None → (i : ℕ) → i < count → slice_index fetched.new i ≡ (if word_bit chosen i then slice_index words.now (slice_index addresses.now i) else 0) }
+{
+    if chosen == u64::MAX && count == 64 {
+        fetch_every_word(addresses, words, fetched)
+    } else {
+        fetch_chosen_words(addresses, chosen, words, count, fetched)
+    }
 }
 
 /// Puts into the planes of a block the words at the addresses of its selected processors, and 0 for the others. Gives the place in the

@@ -24,47 +24,50 @@ pub on_ok : {A E : Type 0} (r : Result A E) (P : Type 0) → IsOk r → OnOk r P
 on_ok (Ok y) P is h = h
 on_ok (Err y) P is h = absurd (cc)
 
-module _ (old new : Program Plan) (place : ℕ) (plan : Plan) (id : RowId) (rows : List (ℕ × Footprint)) (inserts : Inserts old new place plan id) (within : place ≤ length old.rows) (sound : AreIds old.next_id (ids_of old.rows)) (indexed : footprints (λ p. p) old.rows ≡ rows) where
-  pub more_rows : new.rows ≡ insert old.rows place (id.0, plan)
-  more_rows = inserts.1 ∙ ap (λ (i : RowId). insert old.rows place (i.0, plan)) (sym inserts.0)
+-- rows of data with a plan each
+module _ {T : Type 0} (plan : T → Plan) where
+  -- a row that is put in has its place, and its entry in the index
+  module _ (old new : Program T) (place : ℕ) (row : T) (id : RowId) (rows : List (ℕ × Footprint)) (inserts : Inserts old new place row id) (within : place ≤ length old.rows) (sound : AreIds old.next_id (ids_of old.rows)) (indexed : footprints plan old.rows ≡ rows) where
+    pub more_rows : new.rows ≡ insert old.rows place (id.0, row)
+    more_rows = inserts.1 ∙ ap (λ (i : RowId). insert old.rows place (i.0, row)) (sym inserts.0)
 
-  pub new_id : place_of old.rows id.0 ≡ None
-  new_id = ap (λ (i : RowId). place_of old.rows i.0) inserts.0 ∙ next_new old.rows old.next_id sound
+    pub new_id : place_of old.rows id.0 ≡ None
+    new_id = ap (λ (i : RowId). place_of old.rows i.0) inserts.0 ∙ next_new old.rows old.next_id sound
 
-  pub placed : place_of new.rows id.0 ≡ Some place
-  placed = ap (λ (l : List (ℕ × Plan)). place_of l id.0) more_rows ∙ place-insert old.rows place id.0 plan within new_id
+    pub placed : place_of new.rows id.0 ≡ Some place
+    placed = ap (λ (l : List (ℕ × T)). place_of l id.0) more_rows ∙ place-insert old.rows place id.0 row within new_id
 
-  pub others : remove (ids_of new.rows) (place_in new.rows id.0) ≡ ids_of rows
-  others =
-      ap (λ (l : List (ℕ × Plan)). remove (ids_of l) (place_in l id.0)) more_rows
-      ∙ others-insert old.rows place id.0 plan within new_id
-      ∙ sym (ids-footprints (λ (p : Plan). p) old.rows)
-      ∙ ap (λ (l : List (ℕ × Footprint)). ids_of l) indexed
+    pub others : remove (ids_of new.rows) (place_in new.rows id.0) ≡ ids_of rows
+    others =
+        ap (λ (l : List (ℕ × T)). remove (ids_of l) (place_in l id.0)) more_rows
+        ∙ others-insert old.rows place id.0 row within new_id
+        ∙ sym (ids-footprints plan old.rows)
+        ∙ ap (λ (l : List (ℕ × Footprint)). ids_of l) indexed
 
-  pub indexed_more : (more : List (ℕ × Footprint)) → more ≡ insert rows (place_in new.rows id.0) (id.0, footprint plan) → footprints (λ p. p) new.rows ≡ more
-  indexed_more more e =
-      ap (footprints (λ (p : Plan). p)) more_rows
-      ∙ footprints-insert (λ (p : Plan). p) old.rows place id.0 plan
-      ∙ ap (λ (l : List (ℕ × Footprint)). insert l place (id.0, footprint plan)) indexed
-      ∙ ap (λ n. insert rows n (id.0, footprint plan)) (sym (place_at new.rows id.0 place placed))
-      ∙ sym e
+    pub indexed_more : (more : List (ℕ × Footprint)) → more ≡ insert rows (place_in new.rows id.0) (id.0, footprint (plan row)) → footprints plan new.rows ≡ more
+    indexed_more more e =
+        ap (footprints plan) more_rows
+        ∙ footprints-insert plan old.rows place id.0 row
+        ∙ ap (λ (l : List (ℕ × Footprint)). insert l place (id.0, footprint (plan row))) indexed
+        ∙ ap (λ n. insert rows n (id.0, footprint (plan row))) (sym (place_at new.rows id.0 place placed))
+        ∙ sym e
 
--- rows that are in an index have the same ids and places there
-module _ (old : List (ℕ × Plan)) (rows : List (ℕ × Footprint)) (indexed : footprints (λ p. p) old ≡ rows) where
-  pub known_place : (id : ℕ) → place_of old id ≡ place_of rows id
-  known_place id = same_place old rows id (sym (ids-footprints (λ (p : Plan). p) old) ∙ ap (λ (l : List (ℕ × Footprint)). ids_of l) indexed)
+  -- rows that are in an index have the same ids and places there
+  module _ (old : List (ℕ × T)) (rows : List (ℕ × Footprint)) (indexed : footprints plan old ≡ rows) where
+    pub known_place : (id : ℕ) → place_of old id ≡ place_of rows id
+    known_place id = same_place old rows id (sym (ids-footprints plan old) ∙ ap (λ (l : List (ℕ × Footprint)). ids_of l) indexed)
 
-  pub known_keys : (id : ℕ) → IsSome (place_of old id) → IsSome (keys_written rows id)
-  known_keys id there = by_place (place_of rows id) refl (subst (λ (o : Option ℕ). IsSome o) (known_place id) there)
-    where
-      by_place : (o : Option ℕ) → place_of rows id ≡ o → IsSome o → IsSome (keys_written rows id)
-      by_place None e some = absurd (cc)
-      by_place (Some place) e some = let there = row_there rows id place e in let found = there.2 in rw found refl
+    pub known_keys : (id : ℕ) → IsSome (place_of old id) → IsSome (keys_written rows id)
+    known_keys id there = by_place (place_of rows id) refl (subst (λ (o : Option ℕ). IsSome o) (known_place id) there)
+      where
+        by_place : (o : Option ℕ) → place_of rows id ≡ o → IsSome o → IsSome (keys_written rows id)
+        by_place None e some = absurd (cc)
+        by_place (Some place) e some = let there = row_there rows id place e in let found = there.2 in rw found refl
 
-  pub indexed_fewer : (fewer : List (ℕ × Plan)) (left : List (ℕ × Footprint)) (id : ℕ) → fewer ≡ remove old (place_in old id) → left ≡ remove rows (place_in rows id) → footprints (λ p. p) fewer ≡ left
-  indexed_fewer fewer left id e f =
-      ap (footprints (λ (p : Plan). p)) e
-      ∙ footprints-remove (λ (p : Plan). p) old (place_in old id)
-      ∙ ap (λ (l : List (ℕ × Footprint)). remove l (place_in old id)) indexed
-      ∙ ap (λ (o : Option ℕ). remove rows (unwrap_or o 0)) (known_place id)
-      ∙ sym f
+    pub indexed_fewer : (fewer : List (ℕ × T)) (left : List (ℕ × Footprint)) (id : ℕ) → fewer ≡ remove old (place_in old id) → left ≡ remove rows (place_in rows id) → footprints plan fewer ≡ left
+    indexed_fewer fewer left id e f =
+        ap (footprints plan) e
+        ∙ footprints-remove plan old (place_in old id)
+        ∙ ap (λ (l : List (ℕ × Footprint)). remove l (place_in old id)) indexed
+        ∙ ap (λ (o : Option ℕ). remove rows (unwrap_or o 0)) (known_place id)
+        ∙ sym f

@@ -11,16 +11,31 @@ use paris_instr::{Plan, SharedPlan};
 use paris_names::FlagName::{Context, Test};
 use paris_names::{Key, RowId, has_key};
 use paris_program::Program;
-use std::alloc::Global;
+use std::alloc::{AllocError, Global};
 use std::process::Abort;
+
+/// A plan as the data of a row.
+#[derive(Drop)]
+struct Planned {
+    plan: Plan,
+}
+
+impl Clone for Planned {
+    ghost is_clone = { λ row copy. copy ≡ row };
+
+    fn clone(&self) -> Result<Planned, AllocError> {
+        let plan = self.plan.copy()?;
+        Ok(Planned { plan })
+    }
+}
 
 /// Rows of plans, with an index of them.
 #[derive(Drop)]
 struct Rows {
     alloc: Global,
-    program: Program<Plan>,
+    program: Program<Planned>,
     index: Index,
-    ghost indexed: { footprints (λ p. p) program.rows ≡ index.rows },
+    ghost indexed: { footprints (λ r. r.plan) program.rows ≡ index.rows },
 }
 
 impl Rows {
@@ -54,7 +69,7 @@ impl Rows {
         self.index.room(plan).ok().expect(rt, "there is memory");
         let id = self
             .program
-            .insert_at(place, copy)
+            .insert_at(place, Planned { plan: copy })
             .ok()
             .expect(rt, "there is memory");
         self.index
@@ -67,8 +82,8 @@ impl Rows {
     /// Takes a row out.
     fn delete(&mut self, rt: &impl Abort, id: RowId) {
         assert!(rt; self.program.place_of(id).is_some());
+        drop(self.program.delete(id).ok().expect(rt, "there is memory"));
         self.index.remove(id);
-        let _plan = self.program.delete(id);
     }
 
     /// The rows from a place on that a change of keys affects. They are found by no more looks than are promised.
@@ -343,12 +358,12 @@ fn swept(rt: &impl Abort, alloc: Global, rows: &Rows, place: usize, keys: &[Key]
         changed[key.slot()] = true;
     }
     for i in place..rows.program.len() {
-        let (id, plan) = rows.program.at(i);
+        let (id, row) = rows.program.at(i);
         let mut hit = false;
-        for key in plan.reads() {
+        for key in row.plan.reads() {
             hit = hit || changed[key.slot()];
         }
-        for key in plan.writes() {
+        for key in row.plan.writes() {
             changed[key.slot()] = hit;
         }
         if hit {
@@ -363,8 +378,8 @@ fn last_writer(rt: &impl Abort, rows: &Rows, place: usize, key: &Key) -> Option<
     let mut last = None;
     assert!(rt; place <= rows.program.len());
     for i in 0..place {
-        let (id, plan) = rows.program.at(i);
-        if has_key(plan.writes(), *key) {
+        let (id, row) = rows.program.at(i);
+        if has_key(row.plan.writes(), *key) {
             last = Some(id);
         }
     }

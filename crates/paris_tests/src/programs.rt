@@ -1,3 +1,5 @@
+//! Tests of a program: steps as a table has them, and many rows in blocks that copies share.
+
 use crate::programs::Step::*;
 use paris_names::Spot::{After, End, Start};
 use paris_names::{RowId, Spot};
@@ -46,22 +48,26 @@ fn put(rt: &impl Abort, program: &mut Program<u64>, spot: Spot, row: u64) -> Row
 
 fn delete(rt: &impl Abort, program: &mut Program<u64>, id: u64) -> u64 {
     assert!(rt; program.place_of(RowId(id)).is_some());
-    program.delete(RowId(id))
+    program.delete(RowId(id)).ok().expect(rt, "there is memory")
 }
 
 fn replace(rt: &impl Abort, program: &mut Program<u64>, id: u64, row: u64) -> u64 {
     assert!(rt; program.place_of(RowId(id)).is_some());
+    program.own(RowId(id)).ok().expect(rt, "there is memory");
     program.replace(RowId(id), row)
 }
 
 fn raise_at(rt: &impl Abort, program: &mut Program<u64>, place: usize, number: u64) {
     assert!(rt; place < program.len());
+    let (id, _) = program.at(place);
+    program.own(id).ok().expect(rt, "there is memory");
     let row = program.at_mut(place);
     *row = row.saturating_add(number);
 }
 
 /// Raises the number of a row, and answers whether there is one of this id.
-fn raise(program: &mut Program<u64>, id: u64, number: u64) -> bool {
+fn raise(rt: &impl Abort, program: &mut Program<u64>, id: u64, number: u64) -> bool {
+    program.own(RowId(id)).ok().expect(rt, "there is memory");
     match program.row_mut(RowId(id)) {
         Some(row) => {
             *row = row.saturating_add(number);
@@ -72,7 +78,8 @@ fn raise(program: &mut Program<u64>, id: u64, number: u64) -> bool {
 }
 
 /// Whether no row has this id.
-fn has_no(program: &mut Program<u64>, id: RowId) -> bool {
+fn has_no(rt: &impl Abort, program: &mut Program<u64>, id: RowId) -> bool {
+    program.own(id).ok().expect(rt, "there is memory");
     program.row(id).is_none() && program.place_of(id).is_none() && program.row_mut(id).is_none()
 }
 
@@ -103,10 +110,10 @@ fn plays_step(rt: &impl Abort, program: &mut Program<u64>, step: &Step) {
         Step::Deletes(id, old) => assert!(rt; delete(rt, program, id) == old),
         Step::Replaces(id, row, old) => assert!(rt; replace(rt, program, id, row) == old),
         Step::RaisesAt(place, number) => raise_at(rt, program, place, number),
-        Step::Raises(id, number) => assert!(rt; raise(program, id, number)),
+        Step::Raises(id, number) => assert!(rt; raise(rt, program, id, number)),
         Step::HasNext(id) => assert!(rt; program.next_id() == RowId(id)),
         Step::Has(rows) => assert!(rt; has_all(program, rows)),
-        Step::HasNo(id) => assert!(rt; has_no(program, RowId(id))),
+        Step::HasNo(id) => assert!(rt; has_no(rt, program, RowId(id))),
     }
 }
 
@@ -180,10 +187,93 @@ fn a_row_is_changed_in_place(rt: HostRuntime) {
 #[test]
 fn room_is_made_for_a_row(rt: HostRuntime) {
     let mut program: Program<u64> = Program::new(rt.alloc());
-    program.room().ok().expect(&rt, "there is memory");
+    program.room(0).ok().expect(&rt, "there is memory");
     assert!(rt; program.is_empty());
-    let Ok(id) = program.insert_start(10) else {
-        unreachable!()
-    };
+    let id = program.put_at(0, 10);
     assert!(rt; id == RowId(1));
+}
+
+/// Many rows, and the same in a plain list, each with its id and its number.
+#[derive(Drop)]
+struct Many {
+    program: Program<u64>,
+    rows: Vec<(u64, u64)>,
+}
+
+impl Many {
+    fn new(alloc: Global) -> Many {
+        Many {
+            program: Program::new(alloc),
+            rows: Vec::new(alloc),
+        }
+    }
+
+    fn insert(&mut self, rt: &impl Abort, place: usize, row: u64) {
+        assert!(rt; place <= self.program.len());
+        assert!(rt; place <= self.rows.len());
+        assert!(rt; self.program.next_id().0 < 10_000);
+        let put = self.program.insert_at(place, row);
+        let id = put.ok().expect(rt, "there is memory");
+        self.rows
+            .insert(place, (id.0, row))
+            .ok()
+            .expect(rt, "there is memory");
+    }
+
+    fn replace(&mut self, rt: &impl Abort, place: usize, row: u64) {
+        assert!(rt; place < self.rows.len());
+        let (id, old) = self.rows[place];
+        assert!(rt; replace(rt, &mut self.program, id, row) == old);
+        self.rows[place] = (id, row);
+    }
+
+    fn delete(&mut self, rt: &impl Abort, place: usize) {
+        assert!(rt; place < self.rows.len());
+        let (id, old) = self.rows.remove(place);
+        assert!(rt; delete(rt, &mut self.program, id) == old);
+    }
+
+    /// Shares what stands between two places, and gives a copy.
+    fn copy(&mut self, rt: &impl Abort, start: usize, end: usize) -> Many {
+        self.program.share(start, end);
+        Many {
+            program: self.program.copy().ok().expect(rt, "there is memory"),
+            rows: self.rows.clone().ok().expect(rt, "there is memory"),
+        }
+    }
+
+    /// Changes rows in all parts of the program: each third is replaced, and each seventh is deleted and put in again.
+    fn change(&mut self, rt: &impl Abort, row: u64) {
+        for place in 0..self.rows.len() {
+            if place % 3 == 1 {
+                self.replace(rt, place, row);
+            } else if place % 7 == 6 {
+                self.delete(rt, place);
+                self.insert(rt, place / 2, row);
+            }
+        }
+    }
+
+    fn is_same(&self) -> bool {
+        has_all(&self.program, self.rows.as_slice())
+    }
+}
+
+#[test]
+fn many_rows_go_apart_from_those_of_copies(rt: HostRuntime) {
+    let mut many = Many::new(rt.alloc());
+    for row in 0..300 {
+        let place = many.rows.len() / 3;
+        many.insert(&rt, place, row);
+    }
+    assert!(&rt; many.is_same());
+    let mut other = many.copy(&rt, 0, 300);
+    let third = other.copy(&rt, 50, 200);
+    other.change(&rt, 5_000);
+    assert!(&rt; other.is_same());
+    assert!(&rt; many.is_same());
+    many.change(&rt, 6_000);
+    assert!(&rt; many.is_same());
+    assert!(&rt; other.is_same());
+    assert!(&rt; third.is_same());
 }

@@ -5,7 +5,8 @@ use Rattle.paris_program.specs.Program.{place_in}
 use Rattle.paris_depends.specs.Index.{footprint}
 use Rattle.paris_book.specs.Marks.{data_plan}
 use Rattle.paris_book.specs.SharedIndexes.{indexed_in}
-use Rattle.paris_book.proofs.Indexing.{place_found, others_ids, added_all}
+use Rattle.paris_program.proofs.Owning.{place_found}
+use Rattle.paris_book.proofs.Indexing.{others_ids, added_all}
 use Rattle.paris_book.proofs.program_rows.add_row.Goals as goal
 
 pub add-requires-clause-there : goal.add-requires-clause-there

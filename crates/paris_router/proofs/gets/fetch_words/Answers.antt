@@ -1,40 +1,27 @@
-use Rattle.std.proofs.Common.{◌≡◌, ◌≢◌, ℕ, Bool, ◌∙◌, arith, below_more, false, get_or, length, refl, sym, true}
-use Rattle.std.specs.Prelude.{◌&&◌, nat_le}
-use Rattle.std.proofs.lemmas.Grind.{get_or-set_at}
-use Rattle.std.proofs.lemmas.List.{get_or-set_other, length-set}
+use Rattle.std.proofs.Common.{◌≡◌, ℕ, ◌<◌, ◌-◌, ◌^◌, ◌∙◌, Bool, ap, arith, cond, get_or, length, sym, true}
+use Rattle.std.specs.Prelude.{◌&&◌, find, nat_le}
+use Rattle.paris_geometry.specs.Geometry.{numbers_below}
 use Rattle.paris_plane.specs.Bits.{word_bit}
-use Rattle.paris_router.proofs.Fetched.{chosen_at}
-use Rattle.paris_router.proofs.Least.{chosen_bad, chosen_good, least_above, least_here, least_none}
+use Rattle.paris_plane.specs.Words.{ones_bit}
+use Rattle.paris_router.proofs.Least.{find_below}
 use Rattle.paris_router.proofs.gets.fetch_words.Goals as goal
 
-pub returns-then-address-words-clause-bad : goal.returns-then-address-words-clause-bad
-returns-then-address-words-clause-bad c =
-    let i : ℕ = c.loop-i.i in
-    let n : ℕ = length c.args.words.now in
-    let test : ℕ → Bool = λ j. word_bit c.args.chosen j && nat_le n (get_or c.args.addresses.now j 0) in
-    let bad : test i ≡ true = chosen_bad (word_bit c.args.chosen i) (get_or c.args.addresses.now i 0) n c.chosen_word-address.result c.chosen_word-address.ensures (omega arith) c.requires.some in
-    sym (c.loop-i.invariant.least ∙ least_here test i c.args.count (omega arith) bad)
+every_bit : (chosen : ℕ) → chosen ≡ 2 ^ 64 - 1 → (i : ℕ) → i < 64 → word_bit chosen i ≡ true
+every_bit chosen ones i h = ap (λ w. word_bit w i) ones ∙ ones_bit i h
 
-pub loop-i-preserved : goal.loop-i-preserved
-loop-i-preserved c =
-    let i : ℕ = c.loop-i.i in
+pub returns-then-count-eq64-clause-bad : goal.returns-then-count-eq64-clause-bad
+returns-then-count-eq64-clause-bad c =
     let n : ℕ = length c.args.words.now in
-    let address : ℕ = c.chosen_word-address.result in
-    let word : ℕ = c.chosen_word-word.result in
-    let place : ℕ = get_or c.args.addresses.now i 0 in
-    let test : ℕ → Bool = λ j. word_bit c.args.chosen j && nat_le n (get_or c.args.addresses.now j 0) in
-    let good : test i ≡ false = chosen_good (word_bit c.args.chosen i) place n address c.chosen_word-address.ensures (omega arith) in
-    record {
-      long = length-set c.loop-i.fetched i word ∙ c.loop-i.invariant.long;
-      least = c.loop-i.invariant.least ∙ least_above test i c.args.count (omega arith) good;
-      done = below_more _ _
-          (λ j h. let ne : j ≢ i = omega arith in
-          get_or-set_other c.loop-i.fetched i j word 0 ne ∙ c.loop-i.invariant.done j h)
-          (get_or-set_at c.loop-i.fetched i i word 0 refl (omega arith) ∙ c.chosen_word-word.ensures ∙ chosen_at (word_bit c.args.chosen i) c.args.words.now place address c.chosen_word-address.ensures);
-    }
+    let f : ℕ → Bool = λ i. nat_le n (get_or c.args.addresses.now i 0) in
+    let g : ℕ → Bool = λ i. word_bit c.args.chosen i && f i in
+    let count : 64 ≡ c.args.count = omega arith in
+    c.fetch_every_word.ensures.bad
+    ∙ find_below f g 64 (λ i h. sym (ap (λ b. b && f i) (every_bit c.args.chosen (omega arith) i h)))
+    ∙ ap (λ k. find g (numbers_below k)) count
 
-pub returns-clause-bad : goal.returns-clause-bad
-returns-clause-bad c =
-    let n : ℕ = length c.args.words.now in
-    let test : ℕ → Bool = λ j. word_bit c.args.chosen j && nat_le n (get_or c.args.addresses.now j 0) in
-    sym (c.loop-i.invariant.least ∙ least_none test c.loop-i.i c.args.count (omega arith))
+pub returns-then-count-eq64-clause-values : goal.returns-then-count-eq64-clause-values
+returns-then-count-eq64-clause-values c =
+    λ none i h.
+    let inside : i < 64 = omega arith in
+    c.fetch_every_word.ensures.values none i inside
+    ∙ sym (ap (λ b. cond b (get_or c.args.words.now (get_or c.args.addresses.now i 0) 0) 0) (every_bit c.args.chosen (omega arith) i inside))

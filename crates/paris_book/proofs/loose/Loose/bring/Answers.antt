@@ -1,5 +1,6 @@
 use Rattle.std.proofs.Common.{◌≡◌, List, sym, ap, ◌∙◌}
 use Rattle.std.proofs.Math.Path.{ap₂}
+use Rattle.std.specs.Prelude.{not}
 use Rattle.paris_names.specs.declared.ids.RowId.{RowId}
 use Rattle.paris_exec.specs.Tasks.{Task}
 use Rattle.paris_book.specs.Entries.{Entry}
@@ -43,6 +44,12 @@ pub returns-else-not-is_kept-clause-answer : goal.returns-else-not-is_kept-claus
 returns-else-not-is_kept-clause-answer c =
     let found = found_entry c.args.done.id.0 c.id.result.0 c.self.inside.rows.rows c.in-Some.place (ap (λ (r : RowId). r.0) c.id.ensures ∙ ap (λ (t : Task). t.id.0) c.order.ensures) c.in-Some.ensures.value in
     c.judge-verdict.ensures.verdict found.0 found.2 ∙ sym (answer_found c.self.inside.board c.self.inside.edits c.self.inside.rows.next_id (inputs_of c.self.inside.inputs) c.self.inside.rows.rows c.args.self.now c.in-Some.place found.0 c.args.done c.self.view_is found.1)
+
+pub keep-requires-clause-unsettled : goal.keep-requires-clause-unsettled
+keep-requires-clause-unsettled c =
+    let found = found_entry c.args.done.id.0 c.id.result.0 c.self.inside.rows.rows c.in-Some.place (ap (λ (r : RowId). r.0) c.id.ensures ∙ ap (λ (t : Task). t.id.0) c.order.ensures) c.in-Some.ensures.value in
+    let kept : c.judge-verdict.result ≡ Kept = kept_verdict c.judge-verdict.result (sym c.is_kept.ensures ∙ c.if-not-is_kept.false) in
+    record { row = found.0; there = found.2; unsettled = ap not (c.judge-verdict.ensures.unsettled found.0 found.2 kept) }
 
 pub cut_behind-requires : goal.cut_behind-requires
 cut_behind-requires c =

@@ -1,4 +1,5 @@
-use Rattle.std.proofs.Common.{List, ◌∙◌, sym, arith}
+use Rattle.std.proofs.Common.{List, ap, ◌∙◌, sym, arith}
+use Rattle.std.specs.Prelude.{not}
 use Rattle.std.proofs.Math.Path.{ap₂}
 use Rattle.paris_book.specs.Among.{inputs_of}
 use Rattle.paris_book.specs.Entries.{Entry}
@@ -34,3 +35,8 @@ pub returns-else-cut-clause-state : goal.returns-else-cut-clause-state
 returns-else-cut-clause-state c =
     let e = cut_here c.self.inside.board c.self.inside.edits c.self.inside.rows.next_id (inputs_of c.self.inside.inputs) c.self.inside.rows.rows c.args.self.now c.args.place c.self.view_is (omega arith) in
     uncut_state c.self.inside.board c.self.inside.edits c.self.inside.rows.next_id (inputs_of c.self.inside.inputs) c.self.inside.rows.rows c.args.self.now c.args.place e.0 c.self.view_is e.1 (sym (c.is_cut-cut.ensures.value e.0 e.1) ∙ c.if-cut.false)
+
+pub settle_again-requires : goal.settle_again-requires
+settle_again-requires c =
+    let e = cut_here c.self.inside.board c.self.inside.edits c.self.inside.rows.next_id (inputs_of c.self.inside.inputs) c.self.inside.rows.rows c.args.self.now c.args.place c.self.view_is (omega arith) in
+    record { row = e.0; there = e.1; unsettled = ap not (c.is_cut-cut.ensures.unsettled e.0 e.1 c.if-cut.true) }

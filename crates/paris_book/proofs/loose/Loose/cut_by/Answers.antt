@@ -1,5 +1,6 @@
 use Rattle.std.proofs.Common.{List, ◌∙◌, ap, sym}
 use Rattle.std.proofs.Math.Path.{ap₂}
+use Rattle.std.specs.Prelude.{not}
 use Rattle.std.proofs.lemmas.Option.{slice_get_within}
 use Rattle.paris_book.specs.Among.{inputs_of}
 use Rattle.paris_book.specs.Entries.{Entry}
@@ -18,7 +19,7 @@ is_cut_by-cut-requires c =
 pub settle_again-requires : goal.settle_again-requires
 settle_again-requires c =
     let own = own_entry c.self.inside.board c.self.inside.edits c.self.inside.rows.next_id (inputs_of c.self.inside.inputs) c.self.inside.rows.rows c.args.self.now c.args.place c.self.view_is c.args.order.now c.requires in
-    slice_get_within c.self.inside.rows.rows c.args.place own.0 own.1
+    record { row = own.0; there = own.1; unsettled = ap not (c.is_cut_by-cut.ensures.unsettled own.0 own.1 c.if-cut.true) }
 
 pub invariant_of-self : goal.invariant_of-self
 invariant_of-self c =

@@ -1,11 +1,14 @@
-use Rattle.std.proofs.Common.{arith, length, ◌≡◌, ◌+◌, sym, ap, ap₂, ◌∙◌, subst, drop, insert}
+use Rattle.std.proofs.Common.{List, arith, length, ◌≡◌, ◌+◌, sym, ap, ap₂, ◌∙◌, subst, drop, insert}
 use Rattle.paris_names.specs.Keys.{has_key}
 use Rattle.paris_depends.proofs.FewKeys.{writes-few}
 use Rattle.paris_depends.specs.Sweeps.{touched}
 use Rattle.paris_instr.specs.Resolve.{IsFittedTo}
 use Rattle.paris_machine.specs.State.{State}
+use Rattle.paris_names.specs.declared.ids.RowId.{RowId}
+use Rattle.paris_program.specs.Program.{AreOwn}
+use Rattle.paris_book.specs.Entries.{Entry}
 use Rattle.paris_book.specs.Among.{inputs_of}
-use Rattle.paris_book.specs.Marks.{data_plan, unsettled_by_ids, ids_in}
+use Rattle.paris_book.specs.Marks.{is_among, data_plan, unsettled_by_ids, ids_in}
 use Rattle.paris_book.proofs.Unsettling.{insert_rows}
 use Rattle.paris_book.proofs.Inserts.{inserted_rows, insert_whole, insert_view, state_of}
 use Rattle.paris_book.proofs.Calls.{few_edits, fitted_plan}
@@ -14,21 +17,25 @@ use Rattle.paris_book.proofs.loose.Loose.insert_plan.Goals as goal
 rows_are : (c : goal.After-drop-ids-2) → c.end_edit.new.rows.rows ≡ inserted_rows c.self.inside.edits c.self.inside.rows.next_id c.self.inside.rows.rows c.args.place c.args.plan
 rows_are c =
     insert_rows c.self.inside.edits c.self.inside.rows.next_id c.args.place c.args.plan c.self.inside.rows.rows c.insert_at.new.self.rows c.end_edit.new.rows.rows (ids_in c.in_ok-ids.ids.items)
-    (c.in_ok-id.ensures.ok.1 ∙ ap (λ d. insert c.self.inside.rows.rows c.args.place (c.self.inside.rows.next_id, d)) c.in_ok-row.ensures)
+    (c.in_ok-id.ensures.ok.1 ∙ ap₂ (λ (l : List Entry) n. insert l c.args.place (n, c.in_ok-row.row)) c.own_all.ensures.rows c.own_all.ensures.next_id ∙ ap (λ d. insert c.self.inside.rows.rows c.args.place (c.self.inside.rows.next_id, d)) c.in_ok-row.ensures)
     c.end_edit.ensures.sound.distinct
     (c.in_ok-ids.ensures ∙ ap (λ ks. touched data_plan (has_key ks) (drop c.args.place c.self.inside.rows.rows)) c.writes.ensures)
-    (c.end_edit.ensures.rows ∙ ap (λ js. unsettled_by_ids (c.self.inside.edits + 1) (ids_in js) c.insert_at.new.self.rows) c.as_slice.ensures.value)
+    (c.end_edit.ensures.rows ∙ ap (λ js. unsettled_by_ids (c.self.inside.edits + 1) (ids_in js) c.insert_at.new.self.rows) c.as_slice-2.ensures.value)
+
+pub end_edit-requires-clause-own : goal.end_edit-requires-clause-own
+end_edit-requires-clause-own c =
+    subst (λ (js : List RowId). AreOwn c.insert_at.new.self (is_among (ids_in js))) (c.as_slice.ensures.value ∙ sym c.as_slice-2.ensures.value) (c.insert_at.ensures.own (is_among (ids_in c.as_slice.result.now)) c.in_ok-own_all.ensures.ok)
 
 pub invariant_of-self-2 : goal.invariant_of-self-2
 invariant_of-self-2 c =
     let fits = fitted_plan c.self.inside.board (inputs_of c.self.inside.inputs) c.args.plan c.self.invariant.shaped (subst (λ (s : State). IsFittedTo s.board c.args.plan) (sym c.self.view_is) c.requires.fitted) in
     let few = few_edits c.self.inside.board c.self.inside.edits c.self.inside.rows.next_id (inputs_of c.self.inside.inputs) c.self.inside.rows.rows c.args.self.now c.self.view_is c.requires.left in
-    rw (c.end_edit.ensures.edits, c.end_edit.ensures.next_id, c.in_ok-id.ensures.ok.2) (insert_whole c.self.inside.board c.self.inside.edits c.self.inside.rows.next_id (inputs_of c.self.inside.inputs) c.self.inside.rows.rows c.end_edit.new.rows.rows c.args.place c.args.plan few fits c.self.invariant (rows_are c))
+    rw (c.end_edit.ensures.edits, c.end_edit.ensures.next_id, c.in_ok-id.ensures.ok.2, c.own_all.ensures.next_id) (insert_whole c.self.inside.board c.self.inside.edits c.self.inside.rows.next_id (inputs_of c.self.inside.inputs) c.self.inside.rows.rows c.end_edit.new.rows.rows c.args.place c.args.plan few fits c.self.invariant (rows_are c))
 
 pub returns-clause-ok : goal.returns-clause-ok
 returns-clause-ok c = (
-  c.in_ok-id.ensures.ok.0 ∙ ap (λ (s : State). record { 0 = s.next }) c.self.view_is,
-  ap₂ (λ number next. state_of c.self.inside.board number next (inputs_of c.self.inside.inputs) c.end_edit.new.rows.rows) c.end_edit.ensures.edits (c.end_edit.ensures.next_id ∙ c.in_ok-id.ensures.ok.2)
+  c.in_ok-id.ensures.ok.0 ∙ ap (λ n. record { 0 = n }) c.own_all.ensures.next_id ∙ ap (λ (s : State). record { 0 = s.next }) c.self.view_is,
+  ap₂ (λ number next. state_of c.self.inside.board number next (inputs_of c.self.inside.inputs) c.end_edit.new.rows.rows) c.end_edit.ensures.edits (c.end_edit.ensures.next_id ∙ c.in_ok-id.ensures.ok.2 ∙ ap (λ n. n + 1) c.own_all.ensures.next_id)
       ∙ insert_view c.self.inside.board c.self.inside.edits c.self.inside.rows.next_id (inputs_of c.self.inside.inputs) c.self.inside.rows.rows c.end_edit.new.rows.rows c.args.self.now c.args.place c.args.plan c.self.invariant (rows_are c) c.self.view_is,
 )
 

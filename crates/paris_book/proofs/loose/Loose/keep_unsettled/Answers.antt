@@ -11,3 +11,6 @@ returns c =
     let r = task_there s c.args.place c.args.done c.requires.own in
     subst (Advances 1 s) (sym c.keep_own.ensures)
     (task_advances s c.args.place c.args.done r.0 c.requires r.1 (sym (ap settled_on r.1) ∙ sym c.is_settled_at.ensures ∙ c.if-is_settled_at.false))
+
+pub keep_own-requires-clause-unsettled : goal.keep_own-requires-clause-unsettled
+keep_own-requires-clause-unsettled c = sym c.is_settled_at.ensures ∙ c.if-is_settled_at.false

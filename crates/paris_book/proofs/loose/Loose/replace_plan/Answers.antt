@@ -1,11 +1,14 @@
-use Rattle.std.proofs.Common.{◌≡◌, ◌+◌, ◌++◌, ◌∷◌, Ok, sym, ap, ap₂, ◌∙◌, subst, take, drop}
+use Rattle.std.specs.Prelude.{IsSome}
+use Rattle.std.proofs.Common.{List, ◌≡◌, ◌+◌, ◌++◌, ◌∷◌, Ok, sym, ap, ap₂, ◌∙◌, subst, take, drop}
 use Rattle.paris_depends.specs.Sweeps.{touched}
 use Rattle.paris_instr.specs.Resolve.{IsFittedTo}
-use Rattle.paris_program.specs.Program.{with_row}
+use Rattle.paris_names.specs.declared.ids.RowId.{RowId}
+use Rattle.paris_program.specs.Program.{AreOwn, place_in, place_of, with_row}
+use Rattle.paris_book.specs.Entries.{Entry}
 use Rattle.paris_machine.specs.State.{State, find_row}
 use Rattle.paris_machine.specs.Edits.{replaced_from}
 use Rattle.paris_book.specs.Among.{inputs_of}
-use Rattle.paris_book.specs.Marks.{data_plan, replaced_data, writes_either, unsettled_by_ids, ids_in}
+use Rattle.paris_book.specs.Marks.{is_among, data_plan, replaced_data, writes_either, unsettled_by_ids, ids_in}
 use Rattle.paris_book.proofs.Swept.{swept_entries}
 use Rattle.paris_book.proofs.Unsettling.{replace_rows}
 use Rattle.paris_book.proofs.Inserts.{state_of}
@@ -13,6 +16,10 @@ use Rattle.paris_book.proofs.Replaces.{replace_whole, replace_view}
 use Rattle.paris_book.proofs.Targets.{Target, target_of, target_row, target_there, target_some, target_within, target_place, target_drop}
 use Rattle.paris_book.proofs.Calls.{few_edits, fitted_plan}
 use Rattle.paris_book.proofs.loose.Loose.replace_plan.Goals as goal
+
+pub end_edit-requires-clause-own : goal.end_edit-requires-clause-own
+end_edit-requires-clause-own c =
+    subst (λ (js : List RowId). AreOwn c.replace.new.self (is_among (ids_in js))) (c.as_slice.ensures.value ∙ sym c.as_slice-2.ensures.value) (c.replace.ensures.own (is_among (ids_in c.as_slice.result.now)) c.in_ok-own_all.ensures.ok)
 
 pub unsettled_by_replace-requires-clause-within : goal.unsettled_by_replace-requires-clause-within
 unsettled_by_replace-requires-clause-within c =
@@ -26,8 +33,9 @@ unsettled_by_replace-requires-clause-there c =
 
 pub replace-requires : goal.replace-requires
 replace-requires c =
-    target_some c.self.inside.rows.rows (find_row c.args.self.now c.args.id) c.args.id.0 c.args.below
-    (target_of c.self.inside.board c.self.inside.edits c.self.inside.rows.next_id (inputs_of c.self.inside.inputs) c.self.inside.rows.rows c.args.self.now c.args.id.0 c.args.below c.self.view_is c.requires.there)
+    subst (λ (l : List Entry). IsSome (place_of l c.args.id.0)) (sym c.own_all.ensures.rows)
+    (target_some c.self.inside.rows.rows (find_row c.args.self.now c.args.id) c.args.id.0 c.args.below
+    (target_of c.self.inside.board c.self.inside.edits c.self.inside.rows.next_id (inputs_of c.self.inside.inputs) c.self.inside.rows.rows c.args.self.now c.args.id.0 c.args.below c.self.view_is c.requires.there))
 
 target : (c : goal.After-drop-ids-2) → Target c.self.inside.rows.rows (find_row c.args.self.now c.args.id) c.args.id.0 c.args.below
 target c = target_of c.self.inside.board c.self.inside.edits c.self.inside.rows.next_id (inputs_of c.self.inside.inputs) c.self.inside.rows.rows c.args.self.now c.args.id.0 c.args.below c.self.view_is c.requires.there
@@ -39,14 +47,15 @@ rows_are c =
     replace_rows c.self.inside.edits t.place c.args.id.0 (writes_either t.row.plan c.args.plan) c.args.plan t.row c.self.inside.rows.rows c.replace.new.self.rows c.end_edit.new.rows.rows (ids_in c.in_ok-ids.ids.items)
     t.at
     (c.in_ok-replace.ensures.ok
+    ∙ ap (λ (l : List Entry). with_row l (place_in l c.args.id.0) c.in_ok-row-in-Some.row) c.own_all.ensures.rows
     ∙ ap (λ k. with_row c.self.inside.rows.rows k c.in_ok-row-in-Some.row) (target_place c.self.inside.rows.rows (find_row c.args.self.now c.args.id) c.args.id.0 c.args.below t)
     ∙ ap (with_row c.self.inside.rows.rows t.place) (c.in_ok-row-in-Some.ensures ∙ ap (replaced_data c.args.plan (c.self.inside.edits + 1)) (target_row c.self.inside.rows.rows (find_row c.args.self.now c.args.id) c.args.id.0 c.args.below c.in-Some.row.now t c.in-Some.ensures.value)))
     c.end_edit.ensures.sound.distinct
     (c.in_ok-ids.ensures t.row t.by_id ∙ ap (λ k. touched data_plan (writes_either t.row.plan c.args.plan) (drop k c.self.inside.rows.rows)) t.just_below)
-    (c.end_edit.ensures.rows ∙ ap (λ js. unsettled_by_ids (c.self.inside.edits + 1) (ids_in js) c.replace.new.self.rows) c.as_slice.ensures.value)
+    (c.end_edit.ensures.rows ∙ ap (λ js. unsettled_by_ids (c.self.inside.edits + 1) (ids_in js) c.replace.new.self.rows) c.as_slice-2.ensures.value)
 
 next_is : (c : goal.After-drop-ids-2) → c.end_edit.new.rows.next_id ≡ c.self.inside.rows.next_id
-next_is c = c.end_edit.ensures.next_id ∙ c.replace.ensures.next_id
+next_is c = c.end_edit.ensures.next_id ∙ c.replace.ensures.next_id ∙ c.own_all.ensures.next_id
 
 pub unreachable-requires : goal.unreachable-requires
 unreachable-requires c =

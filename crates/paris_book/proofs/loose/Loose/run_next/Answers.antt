@@ -1,9 +1,12 @@
 use Rattle.std.proofs.Common.{◌∙◌, ap, sym, subst, rules}
-use Rattle.std.specs.Prelude.{IsSome}
+use Rattle.std.specs.Prelude.{IsSome, slice_get}
+use Rattle.paris_machine.specs.State.{State}
+use Rattle.paris_book.proofs.Finds.{row_at}
+use Rattle.paris_book.proofs.Takes.{next_found, ready_unsettled}
 use Rattle.paris_machine.specs.Orders.{take_reply}
 use Rattle.paris_machine.specs.CutOff.{cut_off}
 use Rattle.paris_book.specs.Among.{inputs_of}
-use Rattle.paris_book.specs.Steps.{WasSettled}
+use Rattle.paris_book.specs.Steps.{WasSettled, settled_on}
 use Rattle.paris_book.proofs.ReadyRuns.{gives_own, gives_some, own_settles, own_run, none_runs, ready_at, none_ready_at}
 use Rattle.paris_book.proofs.loose.Loose.run_next.Goals as goal
 
@@ -43,3 +46,10 @@ pub returns-in-Some-execute_inside-clause-state : goal.returns-in-Some-execute_i
 returns-in-Some-execute_inside-clause-state c =
     let r = ready_at c.self.inside.board c.self.inside.edits c.self.inside.rows.next_id (inputs_of c.self.inside.inputs) c.self.inside.rows.rows c.args.self.now c.self.view_is c.in-Some.place c.in-Some.ensures in
     c.cut_behind.ensures ∙ ap cut_off c.keep_own.ensures ∙ own_run c.args.self.now c.in-Some.place r.0 r.1 r.2 c.ids_are_apart.ensures
+
+pub keep_own-requires-clause-unsettled : goal.keep_own-requires-clause-unsettled
+keep_own-requires-clause-unsettled c =
+    let es = c.self.inside.rows.rows in
+    let found = next_found es c.in-Some.place c.in-Some.ensures in
+    let seen = ap (λ (s : State). slice_get s.rows c.in-Some.place) (sym c.self.view_is) ∙ row_at es c.in-Some.place found.0 found.2 in
+    ap settled_on seen ∙ ready_unsettled es c.in-Some.place found.0 found.1

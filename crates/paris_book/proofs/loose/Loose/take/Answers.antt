@@ -1,6 +1,6 @@
-use Rattle.std.proofs.Common.{List, rules, refl, ◌∙◌, subst}
+use Rattle.std.proofs.Common.{List, ap, rules, refl, ◌∙◌, subst}
 use Rattle.std.proofs.Math.Path.{ap₂}
-use Rattle.std.specs.Prelude.{IsSome}
+use Rattle.std.specs.Prelude.{not, IsSome}
 use Rattle.paris_machine.specs.Orders.{take_reply}
 use Rattle.paris_book.specs.Entries.{Entry}
 use Rattle.paris_book.specs.Among.{inputs_of}
@@ -18,7 +18,7 @@ order_at-requires-clause-within c =
 pub hand_out-requires : goal.hand_out-requires
 hand_out-requires c =
     let found = next_found c.self.inside.rows.rows c.in-Some.place c.in-Some.ensures in
-    slice_get_within c.self.inside.rows.rows c.in-Some.place found.0 found.2
+    record { row = found.0; there = found.2; unsettled = ap not (ready_unsettled c.self.inside.rows.rows c.in-Some.place found.0 found.1) }
 
 pub invariant_of-self : goal.invariant_of-self
 invariant_of-self c =

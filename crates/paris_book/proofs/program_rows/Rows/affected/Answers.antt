@@ -7,12 +7,12 @@ use Rattle.paris_book.specs.Marks.{data_plan}
 use Rattle.paris_book.proofs.program_rows.Rows.affected.Goals as goal
 
 pub affected-requires-clause-of : goal.affected-requires-clause-of
-affected-requires-clause-of c = sym (ids-footprints data_plan c.self.inside.program.rows) ∙ ap (λ (l : List (ℕ × Footprint)). ids_of l) (c.self.invariant.indexed ∙ sym c.get.ensures)
+affected-requires-clause-of c = sym (ids-footprints data_plan c.self.inside.program.rows) ∙ ap (λ (l : List (ℕ × Footprint)). ids_of l) (c.self.invariant.listed.indexed ∙ sym c.get.ensures)
 
 pub affected-requires-clause-few : goal.affected-requires-clause-few
 affected-requires-clause-few c =
     let none = c.new-looks.ensures in
-    omega (arith, none, few_looks (length c.args.keys.now) (length c.self.inside.program.rows) c.requires.few c.self.invariant.few)
+    omega (arith, none, few_looks (length c.args.keys.now) (length c.self.inside.program.rows) c.requires.few c.self.invariant.listed.few)
 
 pub returns : goal.returns
-returns c = rw (← c.self.view_is) (IfOk-weaker c.affected.result _ _ (λ ids touched. touched data_plan (c.self.invariant.indexed ∙ sym c.get.ensures)) c.affected.ensures.touched)
+returns c = rw (← c.self.view_is) (IfOk-weaker c.affected.result _ _ (λ ids touched. touched data_plan (c.self.invariant.listed.indexed ∙ sym c.get.ensures)) c.affected.ensures.touched)

@@ -2,9 +2,10 @@ use Rattle.std.proofs.Common.{rules}
 use Rattle.std.specs.Option.{IsSome}
 use Rattle.paris_program.specs.Program.{place_of}
 use Rattle.paris_tests.proofs.Indexed.{known_keys}
+use Rattle.paris_tests.specs.declared.depends.Planned.{Planned}
 use Rattle.paris_tests.proofs.depends.Rows.key_count.Goals as goal
 
 pub keys-requires : goal.keys-requires
 keys-requires g c =
     let there : IsSome (place_of c.args.self.now.program.rows c.args.id.0) = search rules in
-    known_keys c.args.self.now.program.rows c.args.self.now.index.rows c.args.self.now.indexed c.args.id.0 there
+    known_keys (λ (r : Planned). r.plan) c.args.self.now.program.rows c.args.self.now.index.rows c.args.self.now.indexed c.args.id.0 there

@@ -1,0 +1,5 @@
+pub mod Block
+pub mod BlockLending
+pub mod Blocks
+pub mod KeptLending
+pub mod Lending
