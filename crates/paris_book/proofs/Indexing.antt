@@ -1,8 +1,8 @@
 -- The index of a program's rows, after rows are put in, taken out, replaced, and changed in all but their plans.
-use Rattle.std.proofs.Common.{◌≡◌, ℕ, zero, suc, ◌<◌, ◌≤◌, List, [], ◌∷◌, length, set, Option, Some, nat_eq, refl, sym, ap, ◌∙◌, subst, arith, slice_get}
+use Rattle.std.proofs.Common.{◌≡◌, ℕ, zero, suc, ◌<◌, ◌≤◌, List, [], ◌∷◌, length, set, Option, Some, nat_eq, refl, sym, ap, ◌∙◌, subst, arith, slice_get, slice_set}
 use Rattle.std.proofs.lemmas.List.{length-map, map-set}
 use Rattle.std.proofs.lemmas.Option.{slice_get-map}
-use Rattle.std.specs.Prelude.{insert, remove, IsSome, position}
+use Rattle.std.specs.Prelude.{insert, remove, IsSome, position, slice_index}
 use Rattle.std.specs.List.{IsDistinct}
 use Rattle.std.specs.Option.{option_map, unwrap_or}
 use Rattle.paris_model.specs.Instructions.{Plan}
@@ -11,6 +11,7 @@ use Rattle.paris_program.proofs.CallerLemmas.{length-with_row}
 use Rattle.paris_program.proofs.Owning.{place_found}
 use Rattle.paris_depends.specs.Index.{Footprint, footprint, footprints}
 use Rattle.paris_depends.proofs.CallerLemmas.{ids-footprints, footprints-insert, footprints-remove, remove-insert}
+use Rattle.paris_depends.proofs.Edited.{put-back}
 use Rattle.paris_depends.proofs.Slots.{map-insert, map-remove}
 use Rattle.paris_book.specs.Entries.{Entry}
 use Rattle.paris_book.specs.Indexed.{IsIndexed}
@@ -24,22 +25,6 @@ module _ {X : Type 0} where
   put_there xs zero x within = refl
   put_there [] (suc i) x within = absurd (omega arith)
   put_there (y ∷ xs) (suc i) x within = put_there xs i x (omega arith)
-
-  put_back : (xs : List X) (i : ℕ) (x : X) → slice_get xs i ≡ Some x → insert (remove xs i) i x ≡ xs
-  put_back [] i x at = absurd (cc)
-  put_back (y ∷ xs) zero x at = let same : x ≡ y = cc in ap (λ z. z ∷ xs) same
-  put_back (y ∷ xs) (suc i) x at = ap (λ l. y ∷ l) (put_back xs i x at)
-
-  set_there : (xs : List X) (i : ℕ) (x : X) → i < length xs → slice_get (set xs i x) i ≡ Some x
-  set_there [] i x within = absurd (omega arith)
-  set_there (y ∷ xs) zero x within = refl
-  set_there (y ∷ xs) (suc i) x within = set_there xs i x (omega arith)
-
-  remove-set : (xs : List X) (i : ℕ) (x : X) → remove (set xs i x) i ≡ remove xs i
-  remove-set [] zero x = refl
-  remove-set [] (suc i) x = refl
-  remove-set (y ∷ xs) zero x = refl
-  remove-set (y ∷ xs) (suc i) x = ap (λ l. y ∷ l) (remove-set xs i x)
 
 module _ {T : Type 0} where
   module _ (plan : T → Plan) where
@@ -68,17 +53,18 @@ module _ {T : Type 0} where
     put_plan rows new place r e within is at =
         ap (λ (o : Option (ℕ × T)). plan (unwrap_or o r).1) (sym (put_there rows place r within) ∙ ap (λ l. slice_get l place) (sym is) ∙ at)
 
-    -- the same of a program in which a row was replaced
-    pub replaced_others : (rows new : List (ℕ × T)) (place : ℕ) (x : T) → new ≡ with_row rows place x → remove (footprints plan new) place ≡ remove (footprints plan rows) place
-    replaced_others rows new place x is =
+    -- the keys of a row that is given other data
+    pub replaced_all : (rows new : List (ℕ × T)) (index other : List (ℕ × Footprint)) (id place : ℕ) (x : T) → footprints plan rows ≡ index → place_of rows id ≡ Some place → new ≡ with_row rows place x → other ≡ with_row index (place_in index id) (footprint (plan x))
+        → footprints plan new ≡ other
+    replaced_all rows new index other id place x indexed at is put =
         let one : ℕ × T → ℕ × Footprint = λ r. (r.0, footprint (plan r.1)) in
-        ap (λ l. remove (footprints plan l) place) is
-        ∙ ap (λ l. remove l place) (map-set one rows place (id_at rows place, x))
-        ∙ remove-set (footprints plan rows) place (one (id_at rows place, x))
-
-    pub replaced_plan : (rows new : List (ℕ × T)) (place : ℕ) (x : T) (e : ℕ × T) → place < length rows → new ≡ with_row rows place x → slice_get new place ≡ Some e → plan x ≡ plan e.1
-    replaced_plan rows new place x e within is at =
-        ap (λ (o : Option (ℕ × T)). plan (unwrap_or o (id_at rows place, x)).1) (sym (set_there rows place (id_at rows place, x) within) ∙ ap (λ l. slice_get l place) (sym is) ∙ at)
+        let f : Footprint = footprint (plan x) in
+        ap (λ (l : List (ℕ × T)). footprints plan l) is
+        ∙ map-set one rows place (id_at rows place, x)
+        ∙ ap (λ (ids : List ℕ). slice_set (footprints plan rows) place (slice_index ids place, f)) (sym (ids-footprints plan rows))
+        ∙ ap (λ (o : Option ℕ). with_row (footprints plan rows) (unwrap_or o 0) f) (sym (place_of-footprints rows id ∙ at))
+        ∙ ap (λ (l : List (ℕ × Footprint)). with_row l (place_in l id) f) indexed
+        ∙ sym put
 
     -- of the row at a place: the other rows' ids, and all rows after it was added to the others
     pub others_ids : (rows : List (ℕ × T)) (index : List (ℕ × Footprint)) (place : ℕ) (r : ℕ × T) → IsDistinct nat_eq (ids_of rows) → slice_get rows place ≡ Some r → remove (footprints plan rows) place ≡ index → remove (ids_of rows) (place_in rows r.0) ≡ ids_of index
@@ -92,7 +78,7 @@ module _ {T : Type 0} where
         → footprints plan rows ≡ new
     added_all rows index new place r distinct at is put =
         let one : ℕ × T → ℕ × Footprint = λ r. (r.0, footprint (plan r.1)) in
-        sym (put_back (footprints plan rows) place (one r) (slice_get-map one rows place ∙ ap (option_map one) at))
+        sym (put-back (footprints plan rows) place (one r) (slice_get-map one rows place ∙ ap (option_map one) at))
         ∙ ap (λ l. insert l place (one r)) is
         ∙ ap (λ o. insert index (unwrap_or o 0) (one r)) (sym (place_found rows place r distinct at))
         ∙ sym put

@@ -133,7 +133,7 @@ impl Book {
     }
 
     /// Brings a result, and settles its row where it belongs to the present program and the present input data, with the rows that
-    /// are cut off then. It takes no memory.
+    /// are cut off then. It needs no memory.
     pub fn bring(&mut self, done: Done) -> Verdict
         ensures answer { result ≡ verdict_of self.old done }
         ensures state { self.new ≡ after_bring self.old done }

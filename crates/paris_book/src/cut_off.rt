@@ -90,7 +90,7 @@ impl Loose {
         }
     }
 
-    /// One pass over the rows in program order, which settles each that is cut off. It takes no memory.
+    /// One pass over the rows in program order, which settles each that is cut off. It needs no memory.
     pub(crate) fn cut_off(&mut self)
         ensures { self.new ≡ cut_off self.old }
     {

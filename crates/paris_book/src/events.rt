@@ -57,7 +57,7 @@ impl Book {
     }
 
     /// One event. The error says that memory for it was refused, and hands the event back; the book is as it was. A refused edit, a
-    /// take where no row is ready, a result, a release and a look at a row that is to be settled take no memory.
+    /// take where no row is ready, a result, a release and a look at a row that is to be settled need no memory.
     pub fn step(&mut self, event: Event) -> Result<Reply, (Event, AllocError)>
         ensures reply { IfOk result (λ reply. reply ≡ reply_to self.old event) }
         ensures state { OnOk result (self.new ≡ after self.old event) }

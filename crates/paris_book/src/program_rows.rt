@@ -12,7 +12,7 @@ ghost use Rattle.paris_machine.specs.Settling.{unsettled_rows};
 ghost use Rattle.paris_book.specs.Entries.{Entry, ChangedAt, entry_plan, machine_row};
 ghost use Rattle.paris_book.specs.Indexed.{IsUnsettledAt};
 ghost use Rattle.paris_book.specs.Marks.{data_plan, is_among, ids_in, out_data, kept_data, again_data, recalled_data, stale_data};
-ghost use Rattle.paris_book.specs.SharedIndexes.{HasOwnRoom, indexed_in};
+ghost use Rattle.paris_book.specs.SharedIndexes.{CanAddIn, indexed_in};
 ghost use Rattle.paris_book.specs.Statuses.{next_unsettled};
 
 use crate::rows::RowData;
@@ -55,7 +55,7 @@ fn add_row(index: &mut SharedIndex, program: &Program<RowData>, place: usize, pl
     requires there { place < length program.now.rows }
     requires others { remove (footprints data_plan program.now.rows) place ≡ indexed_in index.old }
     requires plan { (e : Entry) → slice_get program.now.rows place ≡ Some e → e.1.plan ≡ plan }
-    requires room { HasOwnRoom index.old (footprint plan) }
+    requires room { CanAddIn index.old place (footprint plan) }
     ensures { footprints data_plan program.now.rows ≡ indexed_in index.new }
 {
     let (id, _) = program.at(place);
@@ -187,8 +187,19 @@ impl Rows {
         self.statuses.set(place, row.status());
     }
 
-    /// Settles the row at a place, which is unsettled, by a result of its plan.
+    /// Settles the row at a place, which is unsettled, by a result of its plan. Where no row is unsettled then, copies share all.
     pub(crate) fn keep(&mut self, place: usize, done: Done)
+        requires unsettled { IsUnsettledAt self.old.rows place }
+        requires plan { (e : Entry) → slice_get self.old.rows place ≡ Some e → e.1.plan ≡ done.plan }
+        ensures rows { ChangedAt (kept_data done) self.old.rows place self.new.rows }
+        ensures next_id { self.new.next_id ≡ self.old.next_id }
+    {
+        self.put_result(place, done);
+        self.share_all_settled();
+    }
+
+    /// Settles the row at a place, which is unsettled, by a result of its plan.
+    fn put_result(&mut self, place: usize, done: Done)
         requires unsettled { IsUnsettledAt self.old.rows place }
         requires plan { (e : Entry) → slice_get self.old.rows place ≡ Some e → e.1.plan ≡ done.plan }
         ensures rows { ChangedAt (kept_data done) self.old.rows place self.new.rows }
@@ -199,8 +210,19 @@ impl Rows {
         self.statuses.set(place, row.status());
     }
 
-    /// Settles the row at a place, which is unsettled, by the result that was last kept of it.
+    /// Settles the row at a place, which is unsettled, by the result that was last kept of it. Where no row is unsettled then, copies
+    /// share all.
     pub(crate) fn settle_again(&mut self, place: usize)
+        requires { IsUnsettledAt self.old.rows place }
+        ensures rows { ChangedAt again_data self.old.rows place self.new.rows }
+        ensures next_id { self.new.next_id ≡ self.old.next_id }
+    {
+        self.put_last(place);
+        self.share_all_settled();
+    }
+
+    /// Settles the row at a place, which is unsettled, by the result that was last kept of it.
+    fn put_last(&mut self, place: usize)
         requires { IsUnsettledAt self.old.rows place }
         ensures rows { ChangedAt again_data self.old.rows place self.new.rows }
         ensures next_id { self.new.next_id ≡ self.old.next_id }
@@ -294,7 +316,7 @@ impl Rows {
         let plan = row.shared_plan()?;
         self.program.room(place)?;
         self.index.own(self.alloc)?;
-        self.index.room(plan.get())?;
+        self.index.room(place, plan.get())?;
         self.statuses.insert(place, row.status())?;
         let id = self.program.put_at(place, row);
         add_row(&mut self.index, &self.program, place, plan);
@@ -311,6 +333,7 @@ impl Rows {
         ensures own { KeepsOwn self.old self.new }
     {
         self.index.own(self.alloc)?;
+        self.index.own_row(id)?;
         let place = self.program.place_of(id).unwrap();
         self.program.delete(id)?;
         self.index.remove(id);
@@ -329,13 +352,12 @@ impl Rows {
     {
         let plan = row.shared_plan()?;
         self.index.own(self.alloc)?;
-        self.index.room(plan.get())?;
+        self.index.room_to_replace(id, plan.get())?;
         self.program.own(id)?;
         let place = self.program.place_of(id).unwrap();
-        self.index.remove(id);
         self.statuses.set(place, row.status());
         self.program.replace(id, row);
-        add_row(&mut self.index, &self.program, place, plan);
+        self.index.replace(id, plan);
         self.index.share(self.alloc);
         Ok(())
     }

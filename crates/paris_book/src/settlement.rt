@@ -87,7 +87,6 @@ impl Loose {
         ensures { self.new ≡ run_at self.old place }
     {
         self.rows.keep(place, done);
-        self.rows.share_all_settled();
     }
 
     /// Gives the row at a place its turn. An unsettled row that would compute again what it computed last is settled with that. Any

@@ -1,10 +1,10 @@
 //! The index of a book's rows, which its snapshots share until one of them changes it.
 
-ghost use Rattle.std.specs.Prelude.{◌≡◌, [], insert, remove, IsSome, IfErr, IfOk, OnOk};
+ghost use Rattle.std.specs.Prelude.{◌≡◌, ◌≤◌, [], insert, length, remove, IsSome, IfErr, IfOk, OnOk};
 ghost use Rattle.std.specs.Arc.{arc_value};
-ghost use Rattle.paris_program.specs.Program.{ids_of, place_of, place_in};
-ghost use Rattle.paris_depends.specs.Index.{Footprint, footprint};
-ghost use Rattle.paris_book.specs.SharedIndexes.{indexed_in, IsOwn, HasOwnRoom};
+ghost use Rattle.paris_program.specs.Program.{ids_of, place_of, place_in, with_row};
+ghost use Rattle.paris_depends.specs.Index.{footprint};
+ghost use Rattle.paris_book.specs.SharedIndexes.{indexed_in, CanAddIn, CanChangeIn, HasOwnRoom, IsOwn};
 
 use paris_depends::Index;
 use paris_instr::{Plan, SharedPlan};
@@ -83,14 +83,45 @@ impl SharedIndex {
         }
     }
 
-    /// Makes room for one more row of this plan in an index to change, as `Index::room` does.
-    pub(crate) fn room(&mut self, plan: &Plan) -> Result<(), AllocError>
-        requires { IsOwn self.old }
+    /// Makes room for one more row of this plan at a place in an index to change, as `Index::room` does.
+    pub(crate) fn room(&mut self, place: usize, plan: &Plan) -> Result<(), AllocError>
+        requires own { IsOwn self.old }
+        requires there { place ≤ length (indexed_in self.old) }
         ensures rows { indexed_in self.new ≡ indexed_in self.old }
+        ensures ok { OnOk result (CanAddIn self.new place (footprint plan.now)) }
+    {
+        match self {
+            SharedIndex::Own(index) => index.room(place, plan),
+            SharedIndex::Shared(_) => unreachable!(),
+        }
+    }
+
+    /// Makes the row with this id in an index to change one that may be changed, as `Index::own` does.
+    pub(crate) fn own_row(&mut self, id: RowId) -> Result<(), AllocError>
+        requires own { IsOwn self.old }
+        requires there { IsSome (place_of (indexed_in self.old) id.0) }
+        ensures rows { indexed_in self.new ≡ indexed_in self.old }
+        ensures ok { OnOk result (CanChangeIn self.new id.0) }
+    {
+        match self {
+            SharedIndex::Own(index) => index.own(id),
+            SharedIndex::Shared(_) => unreachable!(),
+        }
+    }
+
+    /// Makes the row with this id in an index to change one that may be changed, with room for the keys of another plan.
+    pub(crate) fn room_to_replace(&mut self, id: RowId, plan: &Plan) -> Result<(), AllocError>
+        requires own { IsOwn self.old }
+        requires there { IsSome (place_of (indexed_in self.old) id.0) }
+        ensures rows { indexed_in self.new ≡ indexed_in self.old }
+        ensures own { OnOk result (CanChangeIn self.new id.0) }
         ensures ok { OnOk result (HasOwnRoom self.new (footprint plan.now)) }
     {
         match self {
-            SharedIndex::Own(index) => index.room(plan),
+            SharedIndex::Own(index) => {
+                index.own(id)?;
+                index.room_for_keys(plan)
+            }
             SharedIndex::Shared(_) => unreachable!(),
         }
     }
@@ -99,27 +130,36 @@ impl SharedIndex {
     pub(crate) fn add<T>(&mut self, program: &Program<T>, id: RowId, plan: SharedPlan)
         requires there { IsSome (place_of program.now.rows id.0) }
         requires others { remove (ids_of program.now.rows) (place_in program.now.rows id.0) ≡ ids_of (indexed_in self.old) }
-        requires room { HasOwnRoom self.old (footprint plan) }
+        requires room { CanAddIn self.old (place_in program.now.rows id.0) (footprint plan) }
         ensures { indexed_in self.new ≡ insert (indexed_in self.old) (place_in program.now.rows id.0) (id.0, footprint plan) }
     {
         match self {
-            SharedIndex::Own(index) => match index.add(program, id, plan) {
-                Ok(()) => {}
-                Err(_) => unreachable!(),
-            },
+            SharedIndex::Own(index) => index.add(program, id, plan),
             SharedIndex::Shared(_) => unreachable!(),
         }
     }
 
-    /// Takes the row with this id out of an index to change. It takes no memory, and leaves all room that was made.
+    /// Takes the row with this id out, which may be changed. It takes no memory.
     pub(crate) fn remove(&mut self, id: RowId)
-        requires own { IsOwn self.old }
         requires there { IsSome (place_of (indexed_in self.old) id.0) }
-        ensures rows { indexed_in self.new ≡ remove (indexed_in self.old) (place_in (indexed_in self.old) id.0) }
-        ensures room { (f : Footprint) → HasOwnRoom self.old f → HasOwnRoom self.new f }
+        requires own { CanChangeIn self.old id.0 }
+        ensures { indexed_in self.new ≡ remove (indexed_in self.old) (place_in (indexed_in self.old) id.0) }
     {
         match self {
             SharedIndex::Own(index) => index.remove(id),
+            SharedIndex::Shared(_) => unreachable!(),
+        }
+    }
+
+    /// Gives the row with this id, which may be changed, another plan, for which there is room. It takes no memory.
+    pub(crate) fn replace(&mut self, id: RowId, plan: SharedPlan)
+        requires there { IsSome (place_of (indexed_in self.old) id.0) }
+        requires own { CanChangeIn self.old id.0 }
+        requires room { HasOwnRoom self.old (footprint plan) }
+        ensures { indexed_in self.new ≡ with_row (indexed_in self.old) (place_in (indexed_in self.old) id.0) (footprint plan) }
+    {
+        match self {
+            SharedIndex::Own(index) => index.replace(id, plan),
             SharedIndex::Shared(_) => unreachable!(),
         }
     }
@@ -129,10 +169,13 @@ impl SharedIndex {
         ensures { indexed_in self.new ≡ indexed_in self.old }
     {
         match mem::replace(self, SharedIndex::new(alloc)) {
-            SharedIndex::Own(index) => match Arc::new(alloc, index) {
-                Ok(index) => *self = SharedIndex::Shared(index),
-                Err(failed) => *self = SharedIndex::Own(failed.value),
-            },
+            SharedIndex::Own(mut index) => {
+                index.share();
+                match Arc::new(alloc, index) {
+                    Ok(index) => *self = SharedIndex::Shared(index),
+                    Err(failed) => *self = SharedIndex::Own(failed.value),
+                }
+            }
             SharedIndex::Shared(index) => *self = SharedIndex::Shared(index),
         }
     }

@@ -2,6 +2,7 @@ pub mod Affect
 pub mod Around
 pub mod ByIds
 pub mod CallerLemmas
+pub mod Edited
 pub mod FewKeys
 pub mod Found
 pub mod Halving

@@ -1,7 +1,6 @@
 -- How an index keeps what it knows.
 use Rattle.std.specs.Prelude.{◌≡◌, ◌≤◌, length}
 use Rattle.std.specs.List.{AllByRecursion, IsDistinct}
-use Rattle.indexmap.specs.IndexMap.{spare}
 use Rattle.paris_names.specs.declared.keys.Key.{Key}
 use Rattle.paris_names.specs.Keys.{key_eq, key_slot}
 use Rattle.paris_depends.specs.Index.{Footprint, Index, writers, readers}
@@ -10,9 +9,11 @@ use Rattle.paris_depends.specs.declared.index.Index.TheInside.{Inside}
 
 abbrev pub indexed : Inside → Index
 indexed i = record {
-  rows = i.rows.entries;
+  rows = i.table.rows;
   room = record {
-    rows = spare i.rows;
+    places = i.table.room;
+    own = i.table.own;
+    spare = i.table.spare;
     writers = i.writers.room;
     readers = i.readers.room;
   };
@@ -26,6 +27,6 @@ pub record IsRow (f : Footprint) : Type 0 where
 
 -- the lists have the writers and the readers of each key, and the rows are sound
 pub record IsIndex (i : Inside) : Type 0 where
-  pub writers : (k : Key) → list_at i.writers (key_slot k) ≡ writers i.rows.entries k
-  pub readers : (k : Key) → list_at i.readers (key_slot k) ≡ readers i.rows.entries k
-  pub sound : AllByRecursion (λ r. IsRow r.1) i.rows.entries
+  pub writers : (k : Key) → list_at i.writers (key_slot k) ≡ writers i.table.rows k
+  pub readers : (k : Key) → list_at i.readers (key_slot k) ≡ readers i.table.rows k
+  pub sound : AllByRecursion (λ r. IsRow r.1) i.table.rows

@@ -5,5 +5,6 @@ pub mod Lists
 pub mod ListsInside
 pub mod Places
 pub mod Reaches
+pub mod RowTable
 pub mod Sides
 pub mod Sweeps

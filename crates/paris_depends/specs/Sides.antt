@@ -1,5 +1,5 @@
 -- The two sides of an index: the rows that write a key, and those that read it.
-use Rattle.std.specs.Prelude.{ℕ, zero, suc, List, Bool, Option, None, slice_get}
+use Rattle.std.specs.Prelude.{◌≡◌, ℕ, zero, suc, ◌⊎◌, List, Bool, Option, None, remove, slice_get}
 use Rattle.std.specs.List.{filter}
 use Rattle.std.specs.Map.{keys_of}
 use Rattle.paris_names.specs.declared.keys.Key.{Key}
@@ -20,6 +20,10 @@ test_of Readers k = reads_key k
 -- the ids of the rows that write a key, or of those that read it
 abbrev pub entries : Side → List (ℕ × Footprint) → Key → List ℕ
 entries side rows k = keys_of (filter (test_of side k) rows)
+
+-- the ids of a list are the entries of the rows, or of all of them but the one at a place
+abbrev pub AreEntries : Side → Key → List (ℕ × Footprint) → ℕ → List ℕ → Type 0
+AreEntries side k rows place ids = (ids ≡ entries side rows k) ⊎ (ids ≡ entries side (remove rows place) k)
 
 -- the entry of a list just before a place
 abbrev pub entry_before : List ℕ → ℕ → Option ℕ

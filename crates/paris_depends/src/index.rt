@@ -1,14 +1,13 @@
 //! The rows that write and read each key, in program order, and the keys that each row writes.
 
-ghost use Rattle.std.specs.Prelude.{◌≡◌, List, ◌+◌, ◌^◌, ◌<◌, ◌≤◌, [], length, slice_get, Some, IsSome, IfSome, IfOk, OnOk, OnErr, IsOk, insert, remove};
+ghost use Rattle.std.specs.Prelude.{◌≡◌, ℕ, List, ◌+◌, ◌^◌, ◌<◌, ◌≤◌, [], length, slice_get, Some, IsSome, IfSome, IfOk, OnOk, insert, remove};
 ghost use Rattle.paris_names.specs.declared.keys.Key.{Key as AnyKey};
-ghost use Rattle.paris_program.specs.Program.{ids_of, place_of, place_in};
-ghost use Rattle.paris_depends.specs.Index.{Footprint, HasRoom, footprint, keys_written, readers, writers};
+ghost use Rattle.paris_program.specs.Program.{ids_of, place_of, place_in, with_row};
+ghost use Rattle.paris_depends.specs.Index.{CanAdd, CanChange, HasRoom, footprint, keys_written, readers, writers};
 
 use crate::lists::Lists;
-use crate::row_keys::{RowKeys, put_row};
+use crate::row_table::RowTable;
 use crate::sides::{Side, put_all, room_for, take_all_out};
-use indexmap::IndexMap;
 use paris_instr::{Plan, SharedPlan};
 use paris_names::{Key, RowId};
 use paris_program::Program;
@@ -53,11 +52,11 @@ impl Looks {
     }
 }
 
-/// An index of the rows of a program: which rows write a key, which read it, and which keys a row writes. A clause sees the rows in
-/// program order, each with the keys that its plan writes and reads, and the room for more.
+/// An index of the rows of a program: which rows write a key, which read it, and which keys a row writes. Copies share what none of
+/// them changes. A clause sees the rows in program order, each with the keys that its plan writes and reads, and the room for more.
 #[derive(Drop)]
 pub struct Index {
-    rows: IndexMap<u64, RowKeys>,
+    table: RowTable,
     writers: Lists,
     readers: Lists,
 }
@@ -80,7 +79,7 @@ impl Index {
         ensures { result.rows ≡ [] }
     {
         Index {
-            rows: IndexMap::new(alloc),
+            table: RowTable::new(alloc),
             writers: Lists::new(alloc),
             readers: Lists::new(alloc),
         }
@@ -128,7 +127,7 @@ impl Index {
         ensures value { IfSome (keys_written self.now.rows id.0) (λ keys. result ≡ length keys) }
         ensures few { result ≤ 3 }
     {
-        match self.rows.get(&id.0) {
+        match self.table.row(id) {
             Some(row) => row.written().len(),
             None => unreachable!(),
         }
@@ -143,7 +142,7 @@ impl Index {
         ensures looks { looks.new ≡ looks.old + 1 }
     {
         looks.add_one();
-        match self.rows.get(&id.0) {
+        match self.table.row(id) {
             Some(row) => row.written()[i],
             None => unreachable!(),
         }
@@ -151,67 +150,100 @@ impl Index {
 }
 
 impl Index {
-    /// Makes room for one more row of this plan, so that the next `add` of a plan that writes and reads the same keys takes no
-    /// memory. It changes nothing else, also where memory is refused.
-    pub fn room(&mut self, plan: &Plan) -> Result<(), AllocError>
+    /// Makes room for one more row of this plan at a place, so that it can be added there with no more memory. The rows stay, also
+    /// where memory is refused.
+    pub fn room(&mut self, place: usize, plan: &Plan) -> Result<(), AllocError>
+        requires { place ≤ length self.old.rows }
         ensures rows { self.new.rows ≡ self.old.rows }
-        ensures ok { OnOk result (HasRoom self.new.room (footprint plan.now)) }
-        ensures succeeds { HasRoom self.old.room (footprint plan.now) → IsOk result }
+        ensures ok { OnOk result (CanAdd self.new.room place (footprint plan.now)) }
     {
-        self.rows.reserve(1)?;
+        self.table.room(place)?;
         room_for(&mut self.writers, plan.writes())?;
         room_for(&mut self.readers, plan.reads())
     }
 
-    /// Adds a row of a program, which has this plan. The other rows of the program are in the index. Where memory is refused the rows
-    /// are as before.
-    pub fn add<T>(
-        &mut self,
-        program: &Program<T>,
-        id: RowId,
-        plan: SharedPlan,
-    ) -> Result<(), AllocError>
+    /// Makes the row with this id one that may be changed, with the lists of its keys. The rows stay, also where memory is refused.
+    pub fn own(&mut self, id: RowId) -> Result<(), AllocError>
+        requires { IsSome (place_of self.old.rows id.0) }
+        ensures rows { self.new.rows ≡ self.old.rows }
+        ensures ok { OnOk result (CanChange self.new id.0) }
+    {
+        let place = self.table.place_of(id).unwrap();
+        self.table.own(place)?;
+        let row = self.table.at(place);
+        room_for(&mut self.writers, row.keys_on(Side::Writers))?;
+        room_for(&mut self.readers, row.keys_on(Side::Readers))
+    }
+
+    /// Makes room for the keys of this plan in their lists. Nothing else changes, also where memory is refused.
+    pub fn room_for_keys(&mut self, plan: &Plan) -> Result<(), AllocError>
+        ensures rows { self.new.rows ≡ self.old.rows }
+        ensures kept { (id : ℕ) → CanChange self.old id → CanChange self.new id }
+        ensures ok { OnOk result (HasRoom self.new.room (footprint plan.now)) }
+    {
+        room_for(&mut self.writers, plan.writes())?;
+        room_for(&mut self.readers, plan.reads())
+    }
+
+    /// Adds a row of a program, which has this plan and for which there is room. The other rows of the program are in the index. It
+    /// takes no memory.
+    pub fn add<T>(&mut self, program: &Program<T>, id: RowId, plan: SharedPlan)
         requires there { IsSome (place_of program.now.rows id.0) }
         requires others { remove (ids_of program.now.rows) (place_in program.now.rows id.0) ≡ ids_of self.old.rows }
-        ensures ok { OnOk result (self.new.rows ≡ insert self.old.rows (place_in program.now.rows id.0) (id.0, footprint plan)) }
-        ensures err { OnErr result (self.new.rows ≡ self.old.rows) }
-        ensures succeeds { HasRoom self.old.room (footprint plan) → IsOk result }
+        requires room { CanAdd self.old.room (place_in program.now.rows id.0) (footprint plan) }
+        ensures { self.new.rows ≡ insert self.old.rows (place_in program.now.rows id.0) (id.0, footprint plan) }
     {
-        self.room(plan.get())?;
         let place = program.place_of(id).unwrap();
-        put_all(
-            &mut self.writers,
-            &self.rows,
-            plan.get().writes(),
-            place,
-            id,
-        );
-        put_all(&mut self.readers, &self.rows, plan.get().reads(), place, id);
-        put_row(&mut self.rows, place, id, RowKeys::new(plan));
-        Ok(())
+        self.table.put(place, id, plan);
+        put_all(&mut self.writers, &self.table, Side::Writers, place);
+        put_all(&mut self.readers, &self.table, Side::Readers, place);
     }
 
-    /// Takes the row with this id out. It takes no memory, and leaves all room that was made.
+    /// Takes the row with this id out, which may be changed. It takes no memory.
     pub fn remove(&mut self, id: RowId)
-        requires { IsSome (place_of self.old.rows id.0) }
-        ensures rows { self.new.rows ≡ remove self.old.rows (place_in self.old.rows id.0) }
-        ensures room { (f : Footprint) → HasRoom self.old.room f → HasRoom self.new.room f }
+        requires there { IsSome (place_of self.old.rows id.0) }
+        requires own { CanChange self.old id.0 }
+        ensures { self.new.rows ≡ remove self.old.rows (place_in self.old.rows id.0) }
     {
-        let place = self.rows.get_index_of(&id.0).unwrap();
-        take_all_out(&mut self.writers, &self.rows, Side::Writers, place);
-        take_all_out(&mut self.readers, &self.rows, Side::Readers, place);
-        let _row = self.rows.shift_remove_index(place);
+        let place = self.table.place_of(id).unwrap();
+        take_all_out(&mut self.writers, &self.table, Side::Writers, place);
+        take_all_out(&mut self.readers, &self.table, Side::Readers, place);
+        self.table.take_out(place);
     }
 
-    /// A copy, with the same rows. It shares their plans.
+    /// Gives the row with this id, which may be changed, another plan, for which there is room. It takes no memory.
+    pub fn replace(&mut self, id: RowId, plan: SharedPlan)
+        requires there { IsSome (place_of self.old.rows id.0) }
+        requires own { CanChange self.old id.0 }
+        requires room { HasRoom self.old.room (footprint plan) }
+        ensures { self.new.rows ≡ with_row self.old.rows (place_in self.old.rows id.0) (footprint plan) }
+    {
+        let place = self.table.place_of(id).unwrap();
+        take_all_out(&mut self.writers, &self.table, Side::Writers, place);
+        take_all_out(&mut self.readers, &self.table, Side::Readers, place);
+        self.table.replace(place, plan);
+        put_all(&mut self.writers, &self.table, Side::Writers, place);
+        put_all(&mut self.readers, &self.table, Side::Readers, place);
+    }
+
+    /// Makes the rows and the lists ones that copies share. What memory is refused for stays as it is.
+    pub fn share(&mut self)
+        ensures { self.new.rows ≡ self.old.rows }
+    {
+        self.table.share();
+        self.writers.share();
+        self.readers.share();
+    }
+
+    /// A copy, with the same rows. It has what is shared in common with this one, and copies of the rest.
     pub fn copy(&self) -> Result<Index, AllocError>
         ensures { IfOk result (λ copy. copy.rows ≡ self.now.rows) }
     {
-        let rows = self.rows.clone()?;
+        let table = self.table.copy()?;
         let writers = self.writers.copy()?;
         let readers = self.readers.copy()?;
         Ok(Index {
-            rows,
+            table,
             writers,
             readers,
         })

@@ -1,11 +1,13 @@
 //! What depends on what: the row that a key's value comes from, and the rows whose recipes change with keys.
 #![tactic(auto)]
 
+mod id_list;
 mod index;
 mod lists;
 mod nearby;
 mod reaches;
 mod row_keys;
+mod row_table;
 mod sides;
 mod sources;
 mod sweeps;

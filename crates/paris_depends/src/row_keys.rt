@@ -1,50 +1,63 @@
-//! The rows of an index, each with the keys that it writes and reads.
+//! A row of an index, with the keys that it writes and reads.
 
-ghost use Rattle.std.specs.Prelude.{◌≡◌, ◌<◌, ◌≤◌, None, length, insert};
-ghost use Rattle.indexmap.specs.IndexMap.{spare};
-ghost use Rattle.paris_program.specs.Program.{place_of};
+ghost use Rattle.std.specs.Prelude.{◌≡◌};
 ghost use Rattle.paris_depends.specs.Index.{footprint};
 ghost use Rattle.paris_depends.specs.Sides.{keys_on};
 
 use crate::sides::Side;
-use indexmap::IndexMap;
 use paris_instr::SharedPlan;
 use paris_names::{Key, RowId};
 use std::alloc::AllocError;
 use std::marker::Model;
 
-/// The keys that a row's plan writes, and those that it reads. A clause sees the two lists.
+/// The id of a row, with the keys that its plan writes, and those that it reads. A clause sees the id and the two lists.
 #[derive(Drop)]
 pub(crate) struct RowKeys {
+    id: u64,
     plan: SharedPlan,
 }
 
 impl Model for RowKeys {
+    ghost use Rattle.std.specs.Prelude.{ℕ};
     ghost use Rattle.paris_depends.specs.Index.{Footprint, footprint};
 
-    ghost Value = { Footprint };
+    ghost Value = { ℕ × Footprint };
 
-    ghost view = { λ r. footprint r.plan };
+    ghost view = { λ r. (r.id, footprint r.plan) };
 }
 
 impl RowKeys {
-    /// The keys of a plan.
-    pub(crate) fn new(plan: SharedPlan) -> RowKeys
-        ensures { result ≡ footprint plan }
+    /// The keys of the plan of the row with this id.
+    pub(crate) fn new(id: RowId, plan: SharedPlan) -> RowKeys
+        ensures { result ≡ (id.0, footprint plan) }
     {
-        RowKeys { plan }
+        RowKeys { id: id.0, plan }
+    }
+
+    /// Puts the keys of another plan in place of those that it has.
+    pub(crate) fn set_plan(&mut self, plan: SharedPlan)
+        ensures { self.new ≡ (self.old.0, footprint plan) }
+    {
+        self.plan = plan;
+    }
+
+    /// The row's id.
+    pub(crate) fn id(&self) -> RowId
+        ensures { result.0 ≡ self.now.0 }
+    {
+        RowId(self.id)
     }
 
     /// The keys that the row's plan writes.
     pub(crate) fn written(&self) -> &[Key]
-        ensures { result.now ≡ self.now.written }
+        ensures { result.now ≡ self.now.1.written }
     {
         self.plan.get().writes()
     }
 
     /// The keys on a side.
     pub(crate) fn keys_on(&self, side: Side) -> &[Key]
-        ensures { result.now ≡ keys_on side self.now }
+        ensures { result.now ≡ keys_on side self.now.1 }
     {
         match side {
             Side::Writers => self.plan.get().writes(),
@@ -58,19 +71,6 @@ impl Clone for RowKeys {
 
     fn clone(&self) -> Result<RowKeys, AllocError> {
         let plan = self.plan.copy()?;
-        Ok(RowKeys { plan })
-    }
-}
-
-/// Puts a row before those that stand from a place on. There is room for it, and its id is new.
-pub(crate) fn put_row(rows: &mut IndexMap<u64, RowKeys>, place: usize, id: RowId, row: RowKeys)
-    requires within { place ≤ length rows.old.entries }
-    requires room { 0 < spare rows.old }
-    requires new { place_of rows.old.entries id.0 ≡ None }
-    ensures { rows.new.entries ≡ insert rows.old.entries place (id.0, row) }
-{
-    match rows.insert_before(place, id.0, row) {
-        Ok(_) => (),
-        Err(_) => unreachable!(),
+        Ok(RowKeys { id: self.id, plan })
     }
 }

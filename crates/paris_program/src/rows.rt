@@ -143,7 +143,7 @@ impl<T: Clone + Drop> Program<T> {
         ensures next_id { IfOk result (λ program. program.next_id ≡ self.now.next_id) }
         ensures own { IfOk result (λ program. program.own ≡ self.now.own) }
     {
-        let ids = self.ids.copy()?;
+        let ids = self.ids.copy(self.alloc)?;
         let rows = self.rows.copy()?;
         Ok(Program {
             alloc: self.alloc,

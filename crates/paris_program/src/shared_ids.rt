@@ -2,12 +2,10 @@
 
 ghost use Rattle.std.specs.Prelude.{◌≡◌, ◌^◌, ◌<◌, ◌≤◌, [], nat_eq, length, position, insert, remove, IfErr, IfOk, IfSome, OnOk};
 ghost use Rattle.std.specs.Arc.{arc_value};
-ghost use Rattle.std.specs.List.{IsDistinct};
-ghost use Rattle.indexmap.specs.IndexMap.{keys};
 ghost use Rattle.paris_program.specs.Program.{AreIds};
 ghost use Rattle.paris_program.specs.SharedIds.{ids_held, own_spare, AreOwnIds};
 
-use indexmap::IndexMap;
+use crate::ids::Ids;
 use std::alloc::{AllocError, Global};
 use std::mem;
 use std::sync::Arc;
@@ -15,27 +13,20 @@ use std::sync::Arc;
 /// Ids that are changed, or ids that are only read and may have several owners.
 #[derive(Drop)]
 pub(crate) enum SharedIds {
-    Own(IndexMap<u64, ()>),
-    Shared(Arc<IndexMap<u64, ()>, Global>),
-}
-
-/// The ids once more.
-fn copies(ids: &IndexMap<u64, ()>) -> Result<IndexMap<u64, ()>, AllocError>
-    ensures { IfOk result (λ copies. keys copies ≡ keys ids.now) }
-{
-    ids.clone()
+    Own(Ids),
+    Shared(Arc<Ids, Global>),
 }
 
 /// The ids themselves: a copy, where they have other owners.
-fn owned(ids: SharedIds) -> Result<IndexMap<u64, ()>, (Arc<IndexMap<u64, ()>, Global>, AllocError)>
-    ensures ok { IfOk result (λ own. keys own ≡ ids_held ids) }
-    ensures err { IfErr result (λ e. keys (arc_value e.0) ≡ ids_held ids) }
+fn owned(alloc: Global, ids: SharedIds) -> Result<Ids, (Arc<Ids, Global>, AllocError)>
+    ensures ok { IfOk result (λ own. own.ids ≡ ids_held ids) }
+    ensures err { IfErr result (λ e. (arc_value e.0).ids ≡ ids_held ids) }
 {
     match ids {
         SharedIds::Own(ids) => Ok(ids),
         SharedIds::Shared(ids) => match Arc::try_unwrap(ids) {
             Ok(ids) => Ok(ids),
-            Err(shared) => match copies(&shared) {
+            Err(shared) => match shared.copy(alloc) {
                 Ok(copy) => Ok(copy),
                 Err(error) => Err((shared, error)),
             },
@@ -48,12 +39,12 @@ impl SharedIds {
     pub(crate) fn new(alloc: Global) -> SharedIds
         ensures { ids_held result ≡ [] }
     {
-        SharedIds::Own(IndexMap::new(alloc))
+        SharedIds::Own(Ids::new(alloc))
     }
 
     /// The ids by their places.
-    fn get(&self) -> &IndexMap<u64, ()>
-        ensures { keys result.now ≡ ids_held self.now }
+    fn get(&self) -> &Ids
+        ensures { result.now.ids ≡ ids_held self.now }
     {
         match self {
             SharedIds::Own(ids) => ids,
@@ -74,15 +65,15 @@ impl SharedIds {
         ensures value { result ≡ position (nat_eq id) (ids_held self.now) }
         ensures within { IfSome result (λ place. place < length (ids_held self.now)) }
     {
-        self.get().get_index_of(&id)
+        self.get().place_of(id)
     }
 
     /// The ids once more: with one more owner, or where they are changed, a copy of them.
-    pub(crate) fn copy(&self) -> Result<SharedIds, AllocError>
+    pub(crate) fn copy(&self, alloc: Global) -> Result<SharedIds, AllocError>
         ensures { IfOk result (λ copy. ids_held copy ≡ ids_held self.now) }
     {
         match self {
-            SharedIds::Own(ids) => Ok(SharedIds::Own(copies(ids)?)),
+            SharedIds::Own(ids) => Ok(SharedIds::Own(ids.copy(alloc)?)),
             SharedIds::Shared(ids) => Ok(SharedIds::Shared(Arc::try_clone(ids)?)),
         }
     }
@@ -92,7 +83,7 @@ impl SharedIds {
         ensures ids { ids_held self.new ≡ ids_held self.old }
         ensures ok { OnOk result (AreOwnIds self.new) }
     {
-        match owned(mem::replace(self, SharedIds::new(alloc))) {
+        match owned(alloc, mem::replace(self, SharedIds::new(alloc))) {
             Ok(ids) => {
                 *self = SharedIds::Own(ids);
                 Ok(())
@@ -111,7 +102,7 @@ impl SharedIds {
         ensures ok { OnOk result (0 < own_spare self.new) }
     {
         match self {
-            SharedIds::Own(ids) => ids.reserve(1),
+            SharedIds::Own(ids) => ids.room(),
             SharedIds::Shared(_) => unreachable!(),
         }
     }
@@ -121,14 +112,10 @@ impl SharedIds {
         requires room { 0 < own_spare self.old }
         requires there { place ≤ length (ids_held self.old) }
         requires next { AreIds id (ids_held self.old) }
-        ensures ids { ids_held self.new ≡ insert (ids_held self.old) place id }
-        ensures distinct { IsDistinct nat_eq (ids_held self.new) }
+        ensures { ids_held self.new ≡ insert (ids_held self.old) place id }
     {
         match self {
-            SharedIds::Own(ids) => match ids.insert_before(place, id, ()) {
-                Ok(_) => {}
-                Err(_) => unreachable!(),
-            },
+            SharedIds::Own(ids) => ids.insert(place, id),
             SharedIds::Shared(_) => unreachable!(),
         }
     }
@@ -137,13 +124,10 @@ impl SharedIds {
     pub(crate) fn remove(&mut self, place: usize)
         requires own { AreOwnIds self.old }
         requires there { place < length (ids_held self.old) }
-        ensures ids { ids_held self.new ≡ remove (ids_held self.old) place }
-        ensures distinct { IsDistinct nat_eq (ids_held self.new) }
+        ensures { ids_held self.new ≡ remove (ids_held self.old) place }
     {
         match self {
-            SharedIds::Own(ids) => {
-                ids.shift_remove_index(place);
-            }
+            SharedIds::Own(ids) => ids.remove(place),
             SharedIds::Shared(_) => unreachable!(),
         }
     }

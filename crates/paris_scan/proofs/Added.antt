@@ -57,9 +57,9 @@ shown_parts L v x ps long e =
     parts (2 ^ L) (number_at (take L ps) v) (x % 2 ^ L) (get_or (plane_at ps L) v false) (leb (2 ^ L) x) (low_lt ps L v (omega arith)) (mod-lt x (pow_pos L)) (sym (split_at L v ps long) ∙ e)
 
 -- x and above it b came to v from where its partner's planes show a list, and were added to what showed another
-pub sums_joined : (L v x : ℕ) (b : Bool) (xs ys : List ℕ) (old new : List (List Bool)) (carry : List Bool) → length old ≡ L + 1 → length new ≡ L + 1 → x < 2 ^ L → x + 2 ^ L * bit b ≡ sum_shown L xs → number_at old v ≡ sum_shown L ys → number_at (take L new) v + 2 ^ L * bit_in carry v ≡ x + number_at (take L old) v → get_or (plane_at new L) v false ≡ ((get_or (plane_at old L) v false || b) || get_or carry v false) → number_at new v ≡ sum_shown L (xs ++ ys)
+pub sums_joined : (L v x : ℕ) (b : Bool) (xs ys : List ℕ) (old new : List (List Bool)) (c : Bool) → length old ≡ L + 1 → length new ≡ L + 1 → x < 2 ^ L → x + 2 ^ L * bit b ≡ sum_shown L xs → number_at old v ≡ sum_shown L ys → number_at (take L new) v + 2 ^ L * bit c ≡ x + number_at (take L old) v → get_or (plane_at new L) v false ≡ ((get_or (plane_at old L) v false || b) || c) → number_at new v ≡ sum_shown L (xs ++ ys)
 unfolding sum_shown
-sums_joined L v x b xs ys old new carry nl nn small ex ey exact top =
+sums_joined L v x b xs ys old new c nl nn small ex ey exact top =
     let p : ℕ = 2 ^ L in
     let m : ℕ = sum xs in
     let y : ℕ = sum ys in
@@ -67,11 +67,11 @@ sums_joined L v x b xs ys old new carry nl nn small ex ey exact top =
     let there = shown_parts L v y old nl ey in
     let s : ℕ = number_at (take L new) v in
     let hs : s < p = low_lt new L v (omega (arith, nn)) in
-    let sums : s + p * bit_in carry v ≡ m % p + y % p = exact ∙ ap (λ t. t + number_at (take L old) v) came.0 ∙ ap (λ t. m % p + t) there.0 in
-    let low_is : s ≡ (m + y) % p = sum_mod s p (bit_in carry v) (m % p + y % p) hs sums ∙ sym (add-mod m y p) in
+    let sums : s + p * bit c ≡ m % p + y % p = exact ∙ ap (λ t. t + number_at (take L old) v) came.0 ∙ ap (λ t. m % p + t) there.0 in
+    let low_is : s ≡ (m + y) % p = sum_mod s p (bit c) (m % p + y % p) hs sums ∙ sym (add-mod m y p) in
     let top_is : get_or (plane_at new L) v false ≡ leb p (m + y) =
-    top ∙ ap (λ t. (t || b) || get_or carry v false) there.1 ∙ ap (λ t. (leb p y || t) || get_or carry v false) came.1
-    ∙ overflow_of p m y s (get_or carry v false) (pow_pos L) hs sums in
+    top ∙ ap (λ t. (t || b) || c) there.1 ∙ ap (λ t. (leb p y || t) || c) came.1
+    ∙ overflow_of p m y s (c) (pow_pos L) hs sums in
     split_at L v new nn
     ∙ ap (λ t. t + p * bit_in (plane_at new L) v) low_is ∙ ap (λ t. (m + y) % p + p * bit t) top_is
     ∙ ap (λ t. t % p + p * bit (leb p t)) (sym (sum_append xs ys))

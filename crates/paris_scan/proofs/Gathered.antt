@@ -28,7 +28,7 @@ unfolding row
 row_all P own s zero u each = All-nil P
 row_all P own s (suc n) u each = All-append P (own u) (row own s n (u + s)) (each u) (row_all P own s n (u + s) each)
 
-append_nil : (xs : List ℕ) → xs ++ [] ≡ xs
+pub append_nil : (xs : List ℕ) → xs ++ [] ≡ xs
 append_nil [] = refl
 append_nil (x ∷ xs) = ap (λ l. x ∷ l) (append_nil xs)
 

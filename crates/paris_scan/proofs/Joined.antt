@@ -19,21 +19,26 @@ use Rattle.paris_scan.specs.Laws.{combined_append}
 use Rattle.paris_scan.proofs.Tops.{low_lt}
 
 -- an operation on each two bits, in numbers
+pub bits_combined : (op : ℕ → ℕ → ℕ) (g : Bool → Bool → Bool) → ByBit op g → (v u w : ℕ) (xs ys zs : List (List Bool)) → length ys ≡ length xs → length zs ≡ length xs
+    → ((k : ℕ) → k < length xs → get_or (plane_at zs k) w false ≡ g (get_or (plane_at xs k) v false) (get_or (plane_at ys k) u false)) → op (number_at xs v) (number_at ys u) < 2 ^ length xs → number_at zs w ≡ op (number_at xs v) (number_at ys u)
+bits_combined op g law v u w xs ys zs ny nz each small =
+    let a : ℕ = number_at xs v in
+    let b : ℕ = number_at ys u in
+    number_from_bits zs w (op a b) (λ k hk.
+    each k (omega arith)
+    ∙ sym (law a b k ∙ ap (λ t. g t (word_bit b k)) (word_bit-number_at xs k v) ∙ ap (g (get_or (plane_at xs k) v false)) (word_bit-number_at ys k u)))
+    ∙ ap (λ m. op a b % 2 ^ m) nz
+    ∙ mod-eq_of_lt small
+
 pub combined_number : (op : ℕ → ℕ → ℕ) (g : Bool → Bool → Bool) → ByBit op g → (n v : ℕ) (xs ys zs : List (List Bool)) → length ys ≡ length xs → length zs ≡ length xs → AllOf n xs → AllOf n ys → v < n
     → ((k : ℕ) → k < length xs → plane_at zs k ≡ zip2 g (plane_at xs k) (plane_at ys k)) → op (number_at xs v) (number_at ys v) < 2 ^ length xs → number_at zs v ≡ op (number_at xs v) (number_at ys v)
 combined_number op g law n v xs ys zs ny nz ax ay h each small =
-    let a : ℕ = number_at xs v in
-    let b : ℕ = number_at ys v in
-    number_from_bits zs v (op a b) (λ k hk.
-    let in_xs : k < length xs = omega arith in
-    let in_ys : k < length ys = omega arith in
+    bits_combined op g law v v v xs ys zs ny nz (λ k in_xs.
     let nx : length (plane_at xs k) ≡ n = ax k in_xs in
-    let my : length (plane_at ys k) ≡ n = ay k in_ys in
+    let my : length (plane_at ys k) ≡ n = ay k (omega (arith, in_xs, ny)) in
     ap (λ l. get_or l v false) (each k in_xs)
-    ∙ get_or-zip2 g (plane_at xs k) (plane_at ys k) v false false false (omega (arith, h, nx)) (omega (arith, h, my))
-    ∙ sym (law a b k ∙ ap (λ t. g t (word_bit b k)) (word_bit-number_at xs k v) ∙ ap (g (get_or (plane_at xs k) v false)) (word_bit-number_at ys k v)))
-    ∙ ap (λ m. op a b % 2 ^ m) nz
-    ∙ mod-eq_of_lt small
+    ∙ get_or-zip2 g (plane_at xs k) (plane_at ys k) v false false false (omega (arith, h, nx)) (omega (arith, h, my)))
+    small
 
 pub all_zipped : (g : Bool → Bool → Bool) (n : ℕ) (xs ys zs : List (List Bool)) → length ys ≡ length xs → length zs ≡ length xs → AllOf n xs → AllOf n ys → ((k : ℕ) → k < length xs → plane_at zs k ≡ zip2 g (plane_at xs k) (plane_at ys k)) → AllOf n zs
 all_zipped g n xs ys zs ny nz ax ay each k h =
@@ -55,12 +60,12 @@ below_step p xn yn b true false hx hy e = grind (arith, nat_tests, mul-one p)
 below_step p xn yn b false true hx hy e = grind (arith, nat_tests, mul-one p)
 below_step p xn yn b false false hx hy e = grind (arith, nat_tests)
 
-pub below_more : (k v : ℕ) (xs ys : List (List Bool)) (x y : List Bool) (b c : Bool) → k < length xs → k < length ys → x ≡ plane_at xs k → y ≡ plane_at ys k
-    → b ≡ ltb (number_at (take k xs) v) (number_at (take k ys) v) → c ≡ borrow_bit b (get_or x v false) (get_or y v false) → c ≡ ltb (number_at (take (k + 1) xs) v) (number_at (take (k + 1) ys) v)
-below_more k v xs ys x y b c hx hy ex ey before is =
+pub below_more : (k v u : ℕ) (xs ys : List (List Bool)) (x y : List Bool) (b c : Bool) → k < length xs → k < length ys → x ≡ plane_at xs k → y ≡ plane_at ys k
+    → b ≡ ltb (number_at (take k xs) v) (number_at (take k ys) u) → c ≡ borrow_bit b (get_or x v false) (get_or y u false) → c ≡ ltb (number_at (take (k + 1) xs) v) (number_at (take (k + 1) ys) u)
+below_more k v u xs ys x y b c hx hy ex ey before is =
     is
-    ∙ below_step (2 ^ k) (number_at (take k xs) v) (number_at (take k ys) v) b (get_or x v false) (get_or y v false) (low_lt xs k v (omega arith)) (low_lt ys k v (omega arith)) before
-    ∙ sym (ap (λ z. ltb z (number_at (take (k + 1) ys) v)) (one_more xs k v x hx ex) ∙ ap (ltb (number_at (take k xs) v + 2 ^ k * bit_in x v)) (one_more ys k v y hy ey))
+    ∙ below_step (2 ^ k) (number_at (take k xs) v) (number_at (take k ys) u) b (get_or x v false) (get_or y u false) (low_lt xs k v (omega arith)) (low_lt ys k u (omega arith)) before
+    ∙ sym (ap (λ z. ltb z (number_at (take (k + 1) ys) u)) (one_more xs k v x hx ex) ∙ ap (ltb (number_at (take k xs) v + 2 ^ k * bit_in x v)) (one_more ys k u y hy ey))
 
 -- the greater of two
 pub greater : (x y : ℕ) → cond (ltb y x) x y ≡ max y x

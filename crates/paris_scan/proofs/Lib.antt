@@ -1,6 +1,7 @@
 pub mod Tops
 pub mod Twice
 pub mod Reach
+pub mod RunValues
 pub mod Carried
 pub mod Joined
 pub mod Turns
@@ -19,3 +20,5 @@ pub mod OneLine
 pub mod OneByOne
 pub mod Totals
 pub mod Spans
+pub mod Rows
+pub mod Written

@@ -100,18 +100,18 @@ pub cut_same : {X : Type 0} (b : Bool) (d x y : X) → (b ≡ false → x ≡ y)
 cut_same true d x y h = refl
 cut_same false d x y h = h refl
 
-pub made_before : {X : Type 0} (d : Direction) (by n place v : ℕ) (begins : ℕ → Bool) (made old : ℕ → X) (z : X) (xs : List X) → 0 < by → place < n → v ≡ walked d n place → (begins v ≡ false → HasBefore d by n v) → Walked n (walked d n) place made old z xs
-    → cond (begins v) z (get_or xs (before d by v) z) ≡ cond (begins v) z (made (before d by v))
-made_before d by n place v begins made old z xs some h is reach w =
-    cut_same (begins v) z (get_or xs (before d by v) z) (made (before d by v)) (λ none.
+pub made_before : {X : Type 0} (d : Direction) (by n place v : ℕ) (begins : ℕ → Bool) (made old : ℕ → X) (t z : X) (xs : List X) → 0 < by → place < n → v ≡ walked d n place → (begins v ≡ false → HasBefore d by n v) → Walked n (walked d n) place made old z xs
+    → cond (begins v) t (get_or xs (before d by v) z) ≡ cond (begins v) t (made (before d by v))
+made_before d by n place v begins made old t z xs some h is reach w =
+    cut_same (begins v) t (get_or xs (before d by v) z) (made (before d by v)) (λ none.
     let e = before_earlier d by n place some h (subst (HasBefore d by n) is (reach none)) in
     let at : before d by v ≡ walked d n e.place_of = ap (before d by) is ∙ e.is in
     ap (λ u. get_or xs u z) at ∙ w.first e.place_of e.earlier ∙ ap made (sym at))
 
-pub old_before : {X : Type 0} (d : Direction) (by n place v : ℕ) (begins : ℕ → Bool) (made old : ℕ → X) (z : X) (xs : List X) → place < n → v ≡ returned d n place → (begins v ≡ false → HasBefore d by n v) → Walked n (returned d n) place made old z xs
-    → cond (begins v) z (get_or xs (before d by v) z) ≡ cond (begins v) z (old (before d by v))
-old_before d by n place v begins made old z xs h is reach w =
-    cut_same (begins v) z (get_or xs (before d by v) z) (old (before d by v)) (λ none.
+pub old_before : {X : Type 0} (d : Direction) (by n place v : ℕ) (begins : ℕ → Bool) (made old : ℕ → X) (t z : X) (xs : List X) → place < n → v ≡ returned d n place → (begins v ≡ false → HasBefore d by n v) → Walked n (returned d n) place made old z xs
+    → cond (begins v) t (get_or xs (before d by v) z) ≡ cond (begins v) t (old (before d by v))
+old_before d by n place v begins made old t z xs h is reach w =
+    cut_same (begins v) t (get_or xs (before d by v) z) (old (before d by v)) (λ none.
     let l = before_later d by n place h (subst (HasBefore d by n) is (reach none)) in
     let at : before d by v ≡ returned d n l.place_of = ap (before d by) is ∙ l.is in
     ap (λ u. get_or xs u z) at ∙ w.rest l.place_of l.later l.within ∙ ap old (sym at))

@@ -40,7 +40,7 @@ maximum_dual L x y hx hy = omega arith
 double_complement : (L x : ℕ) → x < 2 ^ L → complement L (complement L x) ≡ x
 double_complement L x h = omega arith
 
-combined_below : (op : Combiner) (L x : ℕ) (ys : List ℕ) → x < 2 ^ L → All (λ y. y < 2 ^ L) ys → combined op L x ys < 2 ^ L
+pub combined_below : (op : Combiner) (L x : ℕ) (ys : List ℕ) → x < 2 ^ L → All (λ y. y < 2 ^ L) ys → combined op L x ys < 2 ^ L
 combined_below op L x [] h fits = h
 combined_below op L x (y ∷ ys) h fits = combined_below op L (combine op L x y) ys (combined_fit op L x y h (All-head (λ z. z < 2 ^ L) y ys fits)) (All-tail (λ z. z < 2 ^ L) y ys fits)
 

@@ -1,9 +1,11 @@
--- Sums that are made one after another along lines.
+-- Values that are made one after another along lines.
 use Rattle.std.specs.Prelude.{ℕ, ◌≡◌, ◌<◌, ◌≤◌, ◌+◌, ◌-◌, ◌^◌, Bool, List, cond, nat_le, slice_index}
 use Rattle.paris_geometry.specs.declared.direction.Direction.{Direction}
 use Rattle.paris_geometry.specs.declared.direction.Direction.TheVariants.{Upward, Downward}
+use Rattle.paris_model.specs.declared.operators.Combiner.{Combiner}
 use Rattle.paris_model.specs.declared.operators.Inclusion.{Inclusion}
 use Rattle.paris_model.specs.declared.operators.Inclusion.TheVariants.{Inclusive, Exclusive}
+use Rattle.paris_model.specs.Combine.{combine}
 use Rattle.paris_model.specs.Store.{everywhere, low}
 use Rattle.paris_field.specs.Numbers.{bits_everywhere}
 use Rattle.paris_scan.specs.Runs.{before}
@@ -21,18 +23,26 @@ HasBefore direction by n v = (direction ≡ Upward → by ≤ v) × (direction �
 abbrev pub own_word : (ℕ → Bool) → List ℕ → ℕ → ℕ
 own_word selected words v = cond (selected v) (slice_index words v) 0
 
--- the sum of the processor that lies `by` before v, or 0 where a run begins
-abbrev pub sum_before : Direction → ℕ → (ℕ → Bool) → (ℕ → ℕ) → ℕ → ℕ
-sum_before direction by begins sums v = cond (begins v) 0 (sums (before direction by v))
+-- the value of the processor that lies `by` before v, or `none` where a run begins
+abbrev pub value_before : ℕ → Direction → ℕ → (ℕ → Bool) → (ℕ → ℕ) → ℕ → ℕ
+value_before none direction by begins values v = cond (begins v) none (values (before direction by v))
 
--- in n processors each sum is the one before and the processor's own number
-abbrev pub AreRunning : Direction → ℕ → ℕ → (ℕ → Bool) → (ℕ → ℕ) → (ℕ → ℕ) → Type 0
-AreRunning direction by n begins own sums = (v : ℕ) → v < n → sums v ≡ sum_before direction by begins sums v + own v
+-- in n processors each value is what the processor makes of the one before
+abbrev pub AreRunning : (ℕ → ℕ → ℕ) → ℕ → Direction → ℕ → ℕ → (ℕ → Bool) → (ℕ → ℕ) → Type 0
+AreRunning next none direction by n begins values = (v : ℕ) → v < n → values v ≡ next v (value_before none direction by begins values v)
 
--- what a scan shows of the sums at v
-abbrev pub shown_sum : Inclusion → Direction → ℕ → (ℕ → Bool) → (ℕ → ℕ) → ℕ → ℕ
-shown_sum Inclusive direction by begins sums v = sums v
-shown_sum Exclusive direction by begins sums v = sum_before direction by begins sums v
+-- a sum with the processor's own number
+abbrev pub added : (ℕ → ℕ) → ℕ → ℕ → ℕ
+added own v x = x + own v
+
+-- a number combined with the word of a processor that passes the test
+abbrev pub taken : Combiner → ℕ → (ℕ → Bool) → List ℕ → ℕ → ℕ → ℕ
+taken op bits selected words v x = cond (selected v) (combine op bits x (slice_index words v)) x
+
+-- what a scan shows of the values at v
+abbrev pub shown_value : ℕ → Inclusion → Direction → ℕ → (ℕ → Bool) → (ℕ → ℕ) → ℕ → ℕ
+shown_value none Inclusive direction by begins values v = values v
+shown_value none Exclusive direction by begins values v = value_before none direction by begins values v
 
 -- the low bits of the sums of n processors
 abbrev pub low_sums : ℕ → ℕ → (ℕ → ℕ) → List ℕ

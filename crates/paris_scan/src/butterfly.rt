@@ -1,4 +1,5 @@
-//! Values gathered over whole lines: after each step a processor holds what twice as many neighbours of its line show.
+//! Values gathered over whole lines: after each turn a processor holds what twice as many neighbours of its line show. Lines that lie
+//! whole words apart are gathered row by row.
 
 ghost use Rattle.std.specs.Prelude.{◌≡◌, ℕ, ◌+◌, ◌^◌, ◌<◌, ◌≤◌, ◌∷◌, All, Bool, IfOk, List, [], length};
 ghost use Rattle.paris_geometry.specs.Geometry.{axis_length, processor_count, stride};
@@ -6,6 +7,8 @@ ghost use Rattle.paris_model.specs.Lines.{line_values, values_where};
 ghost use Rattle.paris_field.specs.Numbers.{AllOf, number_at};
 ghost use Rattle.paris_scan.specs.Blocks.{block};
 
+use crate::blocks::JoinBlock;
+use crate::columns::{column_planes, is_column};
 use crate::combine::Commute;
 use crate::partner::Partner;
 use paris_field::zero_planes;
@@ -45,9 +48,8 @@ fn gather<C: Commute>(
     }
 }
 
-/// What the values of each line come to, in each of its processors. In `state` each selected processor has its own value, and the
-/// others have 0.
-pub fn spread_planes<C: Commute>(
+/// Does what `spread_planes` does, by turns over all processors.
+fn turned_planes<C: Commute>(
     alloc: Global,
     geometry: Geometry,
     axis: usize,
@@ -67,4 +69,27 @@ pub fn spread_planes<C: Commute>(
     let mut spare = Plane::zeros(alloc, vps)?;
     gather::<C>(geometry, axis, &mut state, &mut brought, &mut spare);
     Ok(state)
+}
+
+/// What the values of each line come to, in each of its processors. In `state` each selected processor has its own value, and the
+/// others have 0.
+pub fn spread_planes<C: JoinBlock>(
+    alloc: Global,
+    geometry: Geometry,
+    axis: usize,
+    state: Vec<Plane>,
+) -> Result<Vec<Plane>, AllocError>
+    requires axis { axis < length geometry }
+    requires some { C.extra ≤ length state.items }
+    requires state { AllOf (processor_count geometry) state.items }
+    ensures count { IfOk result (λ planes. length planes.items ≡ length state.items) }
+    ensures long { IfOk result (λ planes. AllOf (processor_count geometry) planes.items) }
+    ensures shows { IfOk result (λ planes. (L : ℕ) (selected : ℕ → Bool) (value : ℕ → ℕ) → length state.items ≡ L + C.extra → ((u : ℕ) → value u < 2 ^ L)
+        → ((v : ℕ) → v < processor_count geometry → number_at state.items v ≡ C.shows L (values_where selected value (v ∷ [])))
+        → (v : ℕ) → v < processor_count geometry → number_at planes.items v ≡ C.shows L (line_values geometry axis selected value v)) }
+{
+    if is_column(geometry, axis) {
+        return column_planes::<C>(alloc, geometry, axis, state);
+    }
+    turned_planes::<C>(alloc, geometry, axis, state)
 }

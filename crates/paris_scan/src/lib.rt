@@ -1,12 +1,15 @@
 //! Values combined along the lines of an axis, in logarithmically many steps: by doubling up to each processor, and by a
-//! butterfly over whole lines. Scans by sums of up to 64 bits along long lines make one sum after another.
+//! butterfly over whole lines. Scans by sums, maxima and minima of up to 64 bits along long lines make one value after another.
 #![tactic(auto)]
 
 mod adjacent;
 mod bitwise;
+mod blocks;
 mod butterfly;
+mod columns;
 mod combine;
 mod doubling;
+mod extremes;
 mod firsts;
 mod lines;
 mod maxima;
@@ -22,6 +25,7 @@ mod sums;
 
 pub use adjacent::Total;
 pub use bitwise::{Ors, Xors};
+pub use blocks::JoinBlock;
 pub use butterfly::spread_planes;
 pub use combine::{Combine, Commute};
 pub use firsts::Firsts;

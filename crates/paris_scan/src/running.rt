@@ -1,13 +1,13 @@
-//! Sums that are made one after another, as numbers: each processor's of that of the one before it on its line.
+//! Values that are made one after another, as numbers: each processor's of that of the one before it on its line. Here are sums.
 
-ghost use Rattle.std.specs.Prelude.{◌≡◌, ℕ, ◌^◌, ◌<◌, ◌≤◌, ◌||◌, Some, IfOk, cond, false, length, nat_le, replicate, slice_index};
-ghost use Rattle.paris_geometry.specs.Geometry.{processor_count};
+ghost use Rattle.std.specs.Prelude.{◌≡◌, ℕ, ◌^◌, ◌<◌, ◌≤◌, ◌||◌, Some, IfOk, cond, false, length, nat_le, replicate, slice_index, true};
+ghost use Rattle.paris_geometry.specs.Geometry.{is_geometry, processor_count, stride};
 ghost use Rattle.paris_model.specs.declared.operators.Combiner.TheVariants.{Sum};
 ghost use Rattle.paris_field.specs.Fields.{AllFit};
-ghost use Rattle.paris_field.specs.Numbers.{has};
+ghost use Rattle.paris_field.specs.Numbers.{bits_everywhere, has};
 ghost use Rattle.paris_scan.specs.Lines.{combined_field, scanned, sums_overflow};
-ghost use Rattle.paris_scan.specs.Running.{AreRunning, HasBefore, low_sums, over_sums, own_word, shown_sum, walked};
-ghost use Rattle.paris_scan.specs.Runs.{before};
+ghost use Rattle.paris_scan.specs.Running.{AreRunning, HasBefore, added, low_sums, over_sums, own_word, shown_value, value_before, walked};
+ghost use Rattle.paris_scan.specs.Runs.{before, begins_run};
 
 use crate::adjacent::power;
 use crate::lines::{Along, begin_plane};
@@ -21,17 +21,37 @@ use std::alloc::{AllocError, Global};
 
 /// How lines are walked: the one before a processor lies `by` from it, and none does where `begins` has a 1.
 #[derive(Drop)]
-struct Steps {
-    direction: Direction,
+pub(crate) struct Steps {
+    pub(crate) direction: Direction,
     by: usize,
     begins: Plane,
     ghost some: { 0 < by },
-    ghost small: { length begins < 2 ^ 64 },
     ghost reach: { (v : ℕ) → v < length begins → has begins v ≡ false → HasBefore direction by (length begins) v },
 }
 
+/// How the lines of a scan are walked.
+pub(crate) fn line_steps(
+    alloc: Global,
+    along: &Along,
+    segments: &Plane,
+) -> Result<Steps, AllocError>
+    requires axis { along.now.axis < length along.now.geometry }
+    requires segments { length segments.now ≡ processor_count along.now.geometry }
+    ensures sound { IfOk result (λ _. is_geometry along.now.geometry ≡ true) }
+    ensures direction { IfOk result (λ steps. steps.direction ≡ along.now.direction) }
+    ensures by { IfOk result (λ steps. steps.by ≡ stride along.now.geometry along.now.axis) }
+    ensures begins { IfOk result (λ steps. steps.begins ≡ bits_everywhere (processor_count along.now.geometry) (begins_run along.now.geometry along.now.axis along.now.direction (has segments.now))) }
+{
+    let begins = begin_plane(alloc, along, segments)?;
+    Ok(Steps {
+        direction: along.direction,
+        by: along.geometry.stride(along.axis),
+        begins,
+    })
+}
+
 /// The processor at a place of `count` that are walked in the direction.
-fn walked(direction: Direction, count: usize, place: usize) -> usize
+pub(crate) fn walked(direction: Direction, count: usize, place: usize) -> usize
     requires { place < count }
     ensures value { result ≡ walked direction count place }
     ensures within { result < count }
@@ -52,14 +72,14 @@ fn own_word(selected: &Plane, words: &[u64], v: usize) -> u64
     if selected.get(v) { word } else { 0 }
 }
 
-/// The word of the processor before another one, or 0 where there is none.
-fn word_before(steps: &Steps, words: &[u64], v: usize) -> u64
+/// The word of the processor before another one, or `none` where there is none.
+pub(crate) fn word_before(steps: &Steps, words: &[u64], none: u64, v: usize) -> u64
     requires within { v < length words.now }
     requires count { length steps.now.begins ≡ length words.now }
-    ensures { result ≡ cond (has steps.now.begins v) 0 (slice_index words.now (before steps.now.direction steps.now.by v)) }
+    ensures { result ≡ value_before none steps.now.direction steps.now.by (has steps.now.begins) (slice_index words.now) v }
 {
     if steps.begins.get(v) {
-        return 0;
+        return none;
     }
     match steps.direction {
         Direction::Upward => words[v - steps.by],
@@ -70,6 +90,7 @@ fn word_before(steps: &Steps, words: &[u64], v: usize) -> u64
 /// The bit of the processor before another one, or 0 where there is none.
 fn bit_before(steps: &Steps, plane: &Plane, v: usize) -> bool
     requires within { v < length plane.now }
+    requires small { length plane.now < 2 ^ 64 }
     requires count { length steps.now.begins ≡ length plane.now }
     ensures { result ≡ cond (has steps.now.begins v) false (has plane.now (before steps.now.direction steps.now.by v)) }
 {
@@ -96,14 +117,14 @@ fn make_sums(steps: &Steps, selected: &Plane, bits: u64, words: &mut [u64], over
     requires selected { length selected.now ≡ length words.old }
     requires zeros { overflow.old ≡ replicate (length words.old) false }
     ensures long { length words.new ≡ length words.old }
-    ensures words { (sums : ℕ → ℕ) → AreRunning steps.now.direction steps.now.by (length words.old) (has steps.now.begins) (own_word (has selected.now) words.old) sums → words.new ≡ low_sums bits (length words.old) sums }
-    ensures overflow { (sums : ℕ → ℕ) → AreRunning steps.now.direction steps.now.by (length words.old) (has steps.now.begins) (own_word (has selected.now) words.old) sums → overflow.new ≡ over_sums bits (length words.old) sums }
+    ensures words { (sums : ℕ → ℕ) → AreRunning (added (own_word (has selected.now) words.old)) 0 steps.now.direction steps.now.by (length words.old) (has steps.now.begins) sums → words.new ≡ low_sums bits (length words.old) sums }
+    ensures overflow { (sums : ℕ → ℕ) → AreRunning (added (own_word (has selected.now) words.old)) 0 steps.now.direction steps.now.by (length words.old) (has steps.now.begins) sums → overflow.new ≡ over_sums bits (length words.old) sums }
 {
     let bound = power(bits);
     let count = words.len();
     for place in 0..count {
         let v = walked(steps.direction, count, place);
-        let before = word_before(steps, words, v);
+        let before = word_before(steps, words, 0, v);
         let sum = before as u128 + own_word(selected, words, v) as u128;
         words[v] = (sum & (bound - 1)) as u64;
         if is_over(bit_before(steps, overflow, v), sum, bound) {
@@ -112,16 +133,16 @@ fn make_sums(steps: &Steps, selected: &Plane, bits: u64, words: &mut [u64], over
     }
 }
 
-/// Writes over each word that of the one before it.
-fn step_back(steps: &Steps, words: &mut [u64])
+/// Writes over each word that of the one before it, or `none` where there is none.
+pub(crate) fn step_back(steps: &Steps, words: &mut [u64], none: u64)
     requires count { length steps.now.begins ≡ length words.old }
     ensures long { length words.new ≡ length words.old }
-    ensures words { (v : ℕ) → v < length words.old → slice_index words.new v ≡ cond (has steps.now.begins v) 0 (slice_index words.old (before steps.now.direction steps.now.by v)) }
+    ensures words { (v : ℕ) → v < length words.old → slice_index words.new v ≡ value_before none steps.now.direction steps.now.by (has steps.now.begins) (slice_index words.old) v }
 {
     let count = words.len();
     for place in 0..count {
         let v = walked(steps.direction, count, count - 1 - place);
-        words[v] = word_before(steps, words, v);
+        words[v] = word_before(steps, words, none, v);
     }
 }
 
@@ -151,9 +172,9 @@ fn shown_sums(
     requires fit { AllFit bits words.items }
     ensures value { IfOk result (λ combined. (sums : ℕ → ℕ) → words.items ≡ low_sums bits (length words.items) sums → combined.value ≡ record {
       width = bits;
-      numbers = low_sums bits (length words.items) (shown_sum inclusion steps.now.direction steps.now.by (has steps.now.begins) sums);
+      numbers = low_sums bits (length words.items) (shown_value 0 inclusion steps.now.direction steps.now.by (has steps.now.begins) sums);
     }) }
-    ensures overflow { IfOk result (λ combined. (sums : ℕ → ℕ) → overflow ≡ over_sums bits (length words.items) sums → combined.overflow ≡ Some (over_sums bits (length words.items) (shown_sum inclusion steps.now.direction steps.now.by (has steps.now.begins) sums))) }
+    ensures overflow { IfOk result (λ combined. (sums : ℕ → ℕ) → overflow ≡ over_sums bits (length words.items) sums → combined.overflow ≡ Some (over_sums bits (length words.items) (shown_value 0 inclusion steps.now.direction steps.now.by (has steps.now.begins) sums))) }
 {
     match inclusion {
         Inclusion::Inclusive => Ok(Combined {
@@ -161,7 +182,7 @@ fn shown_sums(
             overflow: Some(overflow),
         }),
         Inclusion::Exclusive => {
-            step_back(steps, &mut words);
+            step_back(steps, &mut words, 0);
             let before = bits_before(alloc, steps, &overflow)?;
             Ok(Combined {
                 value: FieldValue::from_words(alloc, bits, &words)?,
@@ -193,12 +214,7 @@ pub(crate) fn scan_running(
 {
     let mut words = x.low_words(bits)?;
     let mut overflow = Plane::zeros(alloc, words.len())?;
-    let begins = begin_plane(alloc, along, segments)?;
-    let steps = Steps {
-        direction: along.direction,
-        by: along.geometry.stride(along.axis),
-        begins,
-    };
+    let steps = line_steps(alloc, along, segments)?;
     make_sums(&steps, selected, bits, &mut words, &mut overflow);
     let combined = shown_sums(alloc, &steps, along.inclusion, bits, words, overflow)?;
     Ok(combined)

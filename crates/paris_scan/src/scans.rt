@@ -2,13 +2,14 @@
 
 ghost use Rattle.std.specs.Prelude.{◌≡◌, ◌<◌, ◌≤◌, Some, IfOk, IfSome, is_some, length};
 ghost use Rattle.paris_geometry.specs.Geometry.{processor_count};
-ghost use Rattle.paris_model.specs.declared.operators.Combiner.TheVariants.{Sum};
+ghost use Rattle.paris_model.specs.declared.operators.Combiner.TheVariants.{Maximum, Minimum, Sum};
 ghost use Rattle.paris_model.specs.declared.operators.Inclusion.TheVariants.{Inclusive};
 ghost use Rattle.paris_scan.specs.Lines.{combined_field, first_field, is_sum, scanned, sums_overflow};
 ghost use Rattle.paris_scan.specs.Shown.{complement_shown, shown_field};
 
 use crate::bitwise::{Ors, Xors};
 use crate::combine::Commute;
+use crate::extremes::{Greatest, Least, scan_words};
 use crate::firsts::Firsts;
 use crate::lines::{Along, scan_planes};
 use crate::maxima::Maxima;
@@ -24,6 +25,9 @@ use std::alloc::{AllocError, Global};
 
 /// So many turns of a plane, or fewer, take less time than sums that are made one after another.
 const FEW_TURNS: u64 = 760;
+
+/// So many turns of a plane, or fewer, take less time than maxima that are made one after another.
+const FEW_TURNS_OF_MAXIMA: u64 = 200;
 
 /// What the values that a scan combines come to, by an operator that has no plane of its own.
 fn scan_field<C: Commute>(
@@ -71,13 +75,13 @@ fn scan_complements<C: Commute>(
     Ok(complement_value(planes, x.len()))
 }
 
-/// Whether a turn of each plane for each digit of a coordinate takes longer than sums that are made one after another.
-fn has_many_turns(along: &Along, bits: u64) -> bool
+/// Whether a turn of each plane for each digit of a coordinate makes more turns than `few`.
+fn has_many_turns(along: &Along, bits: u64, few: u64) -> bool
     requires axis { along.now.axis < length along.now.geometry }
     requires narrow { bits ≤ 64 }
 {
     let digits = u64::from(along.geometry.len(along.axis).trailing_zeros());
-    digits * bits > FEW_TURNS
+    digits * bits > few
 }
 
 /// The low bits of the sums that a scan makes, and where the exact sum needs more.
@@ -100,12 +104,59 @@ fn scan_sums(
       overflow = Some (sums_overflow bits (processor_count along.now.geometry) (scanned along.now.geometry along.now.axis along.now.direction along.now.inclusion segments.now selected.now bits x.now));
     }) }
 {
-    if bits <= 64 && has_many_turns(along, bits) {
+    if bits <= 64 && has_many_turns(along, bits, FEW_TURNS) {
         return scan_running(alloc, along, x, selected, segments, bits);
     }
     let state = summed_planes(alloc, selected, x.low(bits))?;
     let planes = scan_planes::<Sums>(alloc, along, state, segments)?;
     Ok(sum_value(planes, x.len()))
+}
+
+/// The greatest of the values that a scan combines.
+fn scan_maxima(
+    alloc: Global,
+    along: &Along,
+    x: &FieldValue,
+    selected: &Plane,
+    segments: &Plane,
+    bits: u64,
+) -> Result<FieldValue, AllocError>
+    requires axis { along.now.axis < length along.now.geometry }
+    requires narrow { bits ≤ 128 }
+    requires x_width { bits ≤ x.now.width }
+    requires count { length x.now.numbers ≡ processor_count along.now.geometry }
+    requires selected { length selected.now ≡ processor_count along.now.geometry }
+    requires segments { length segments.now ≡ processor_count along.now.geometry }
+    ensures { IfOk result (λ value. value ≡ combined_field Maximum bits (processor_count along.now.geometry) (scanned along.now.geometry along.now.axis along.now.direction along.now.inclusion segments.now selected.now bits x.now)) }
+{
+    if bits <= 64 && has_many_turns(along, bits, FEW_TURNS_OF_MAXIMA) {
+        return scan_words::<Greatest>(alloc, along, x, selected, segments, bits);
+    }
+    scan_field::<Maxima>(alloc, along, x, selected, segments, bits)
+}
+
+/// The least of the values that a scan combines.
+fn scan_minima(
+    alloc: Global,
+    along: &Along,
+    x: &FieldValue,
+    selected: &Plane,
+    segments: &Plane,
+    bits: u64,
+) -> Result<FieldValue, AllocError>
+    requires axis { along.now.axis < length along.now.geometry }
+    requires narrow { bits ≤ 128 }
+    requires x_width { bits ≤ x.now.width }
+    requires count { length x.now.numbers ≡ processor_count along.now.geometry }
+    requires selected { length selected.now ≡ processor_count along.now.geometry }
+    requires segments { length segments.now ≡ processor_count along.now.geometry }
+    ensures { IfOk result (λ value. value ≡ combined_field Minimum bits (processor_count along.now.geometry) (scanned along.now.geometry along.now.axis along.now.direction along.now.inclusion segments.now selected.now bits x.now)) }
+{
+    if bits <= 64 && has_many_turns(along, bits, FEW_TURNS_OF_MAXIMA) {
+        return scan_words::<Least>(alloc, along, x, selected, segments, bits);
+    }
+    let value = scan_complements::<Maxima>(alloc, along, x, selected, segments, bits)?;
+    Ok(value)
 }
 
 /// In each processor what the low `bits` bits of the selected processors combine to, from the start of its segment on. Where a bit of
@@ -157,11 +208,11 @@ pub fn scan(
             Ok(without_overflow(value))
         }
         Combiner::Maximum => {
-            let value = scan_field::<Maxima>(alloc, &along, x, selected, segments, bits)?;
+            let value = scan_maxima(alloc, &along, x, selected, segments, bits)?;
             Ok(without_overflow(value))
         }
         Combiner::Minimum => {
-            let value = scan_complements::<Maxima>(alloc, &along, x, selected, segments, bits)?;
+            let value = scan_minima(alloc, &along, x, selected, segments, bits)?;
             Ok(without_overflow(value))
         }
     }

@@ -6,7 +6,7 @@ ghost use Rattle.paris_plain.specs.Narrow.{IsNarrow};
 ghost use Rattle.paris_model.specs.declared.actions.Action.TheVariants.{AlongLine};
 
 use crate::calls::{Call, Case, run_case};
-use crate::cases::{LINES, ROWS, SETS, SUMS, Sample, random_sample};
+use crate::cases::{COLUMNS, LINES, ROWS, RUNNING_SETS, SETS, Sample, random_sample};
 use crate::expected::expected;
 use paris_field::FieldValue;
 use paris_geometry::{Direction, Geometry};
@@ -306,8 +306,21 @@ fn lines_in_a_row_combine_to_what_their_numbers_do(rt: HostRuntime) -> Result<()
     Ok(())
 }
 
-/// Runs scans by sums along an axis, in both directions, with each processor's own number and without.
-fn run_sums(
+#[test]
+fn lines_whole_words_apart_combine_to_what_their_numbers_do(rt: HostRuntime) -> Result<(), Fail> {
+    for (lengths, widths, contexts) in COLUMNS {
+        for width in *widths {
+            run_contexts(&rt, rt.alloc(), *lengths, *width, *contexts)?;
+        }
+    }
+    Ok(())
+}
+
+/// The operators whose scans may make one number after another.
+const RUNNING: [Combiner; 3] = [Combiner::Sum, Combiner::Maximum, Combiner::Minimum];
+
+/// Runs scans by these operators along an axis, in both directions, with each processor's own number and without.
+fn run_scans(
     rt: &impl Abort,
     alloc: Global,
     sample: &Sample,
@@ -315,10 +328,10 @@ fn run_sums(
     bits: u64,
 ) -> Result<(), Fail> {
     assert!(rt; 0 < bits && bits <= 128);
-    for call in &CALLS[..4] {
+    for k in 0..12usize {
         let case = Case {
-            call: *call,
-            operator: Combiner::Sum,
+            call: CALLS[k % 4],
+            operator: RUNNING[k / 4],
             axis,
             place: 0,
             bits,
@@ -332,15 +345,15 @@ fn run_sums(
 fn run_axes(rt: &impl Abort, alloc: Global, sample: &Sample) -> Result<(), Fail> {
     let width = sample.field.width();
     for axis in 0..sample.geometry.axes() {
-        run_sums(rt, alloc, sample, axis, width)?;
-        run_sums(rt, alloc, sample, axis, width / 2 + 1)?;
+        run_scans(rt, alloc, sample, axis, width)?;
+        run_scans(rt, alloc, sample, axis, width / 2 + 1)?;
     }
     Ok(())
 }
 
 #[test]
-fn sums_are_those_of_a_loop_over_numbers(rt: HostRuntime) -> Result<(), Fail> {
-    for (lengths, widths, contexts) in SUMS {
+fn scans_give_what_a_loop_over_numbers_does(rt: HostRuntime) -> Result<(), Fail> {
+    for (lengths, widths, contexts) in RUNNING_SETS {
         for width in *widths {
             for eighths in *contexts {
                 let sample = random_sample(&rt, rt.alloc(), lengths, *width, *eighths)?;

@@ -32,6 +32,9 @@ pub(crate) const SETS: &[(&[u64], &[u64], usize, usize)] = &[
     (&[65_536], &[8, 128], 19, 0),
     (&[2, 32_768], &[1], 19, 3),
     (&[256, 256], &[8], 19, 6),
+    (&[8, 8, 1024, 1], &[8], 19, 6),
+    (&[64, 1024, 1], &[8], 27, 15),
+    (&[8, 128, 8, 1], &[8], 19, 6),
 ];
 
 /// Sets of which each axis but one has a single place: the lengths of their axes, widths, and in how many eighths of the processors the
@@ -55,8 +58,23 @@ pub(crate) const ROWS: &[(&[u64], &[u64], &[u64])] = &[
     (&[1024, 2], &[8], &[5]),
 ];
 
-/// Sets whose sums are numbers: the lengths of their axes, widths, and in how many eighths of the processors the context is 1.
-pub(crate) const SUMS: &[(&[u64], &[u64], &[u64])] = &[
+/// Sets in lines that lie whole words apart along an axis, and some that nearly do: the lengths of their axes, widths, and in how many
+/// eighths of the processors the context is 1.
+pub(crate) const COLUMNS: &[(&[u64], &[u64], &[u64])] = &[
+    (&[64, 8], &[1, 8, 96, 128], &[0, 1, 8]),
+    (&[64, 4], &[8], &[5]),
+    (&[32, 16], &[8], &[5]),
+    (&[32, 2, 16], &[64], &[5]),
+    (&[64, 1, 32], &[33], &[5]),
+    (&[64, 8, 2], &[8], &[1, 8]),
+    (&[16, 8, 8, 2], &[7], &[5]),
+    (&[128, 8, 2], &[1], &[5]),
+    (&[256, 8], &[8], &[8]),
+];
+
+/// Sets whose sums, maxima and minima may be made one after another: the lengths of their axes, widths, and in how many eighths of the
+/// processors the context is 1.
+pub(crate) const RUNNING_SETS: &[(&[u64], &[u64], &[u64])] = &[
     (&[1], NUMBERS, &[0, 8]),
     (&[32], NUMBERS, &[0, 5, 8]),
     (&[64], NUMBERS, &[5]),

@@ -62,6 +62,87 @@ fn an_input_has_its_values(rt: HostRuntime) {
 }
 
 #[test]
+fn a_value_is_read_at_each_length(rt: HostRuntime) {
+    for (line, value) in [
+        ("input a 0 5 0", 0),
+        ("input a 0 5 18", 18),
+        ("input a 0 5 1000000000000000000", 1_000_000_000_000_000_000),
+        ("input a 0 5 9999999999999999999", 9_999_999_999_999_999_999),
+        (
+            "input a 0 5 10000000000000000000",
+            10_000_000_000_000_000_000,
+        ),
+        ("input a 0 5 18446744073709551609", (1 << 64) - 7),
+        ("input a 0 5 18446744073709551615", (1 << 64) - 1),
+        ("input a 0 5 18446744073709551616", 1 << 64),
+        ("input a 0 5 18446744073709551620", (1 << 64) + 4),
+        (
+            "input a 0 5 99999999999999999999",
+            99_999_999_999_999_999_999,
+        ),
+        (
+            "input a 0 5 184467440737095516159",
+            10 * ((1 << 64) - 1) + 9,
+        ),
+        (
+            "input a 0 5 170141183460469231731687303715884105728",
+            1 << 127,
+        ),
+        (
+            "input a 0 5 340282366920938463463374607431768211455",
+            u128::MAX,
+        ),
+    ] {
+        let read = read_command(rt.alloc(), line.as_bytes(), false);
+        match &read {
+            Ok(
+                Command::Edit(
+                    Edit::Input {
+                        key: _,
+                        from: _,
+                        values,
+                    },
+                ),
+            ) => {
+                assert!(rt; values.as_slice() == [5u128, value].as_slice(), "of {line}");
+            }
+            _other => assert!(rt; false, "{line} is not read"),
+        }
+    }
+}
+
+#[test]
+fn values_of_different_lengths_stand_in_one_line(rt: HostRuntime) {
+    let line =
+        b"input a 3 18446744073709551615 0 18446744073709551616 9999999999999999999 340282366920938463463374607431768211455 12 10000000000000000000";
+    let read = read_command(rt.alloc(), line, false);
+    match &read {
+        Ok(
+            Command::Edit(
+                Edit::Input {
+                    key: _,
+                    from,
+                    values,
+                },
+            ),
+        ) => {
+            assert!(rt; *from == 3);
+            let all = [
+                (1u128 << 64) - 1,
+                0,
+                1 << 64,
+                9_999_999_999_999_999_999,
+                u128::MAX,
+                12,
+                10_000_000_000_000_000_000,
+            ];
+            assert!(rt; values.as_slice() == all.as_slice());
+        }
+        _other => assert!(rt; false, "an input is read"),
+    }
+}
+
+#[test]
 fn an_insertion_has_its_place(rt: HostRuntime) {
     let read = read_command(rt.alloc(), b"insert after 7 set-test S", false);
     match &read {
@@ -102,6 +183,22 @@ fn wrong_lines_have_the_column_of_the_first_wrong_word(rt: HostRuntime) {
         ("set S 2 2", 9),
         ("input a 0", 10),
         ("input a 0 1 x", 13),
+        ("input a 0 ", 11),
+        ("input a 0  1", 11),
+        ("input a 0 1  2", 13),
+        ("input a 0 1 ", 13),
+        ("input a 0 1  ", 13),
+        ("input a 0 00", 11),
+        ("input a 0 1 01", 13),
+        ("input a 0 0123456789012345678", 11),
+        ("input a 0 01234567890123456789", 11),
+        ("input a 0 00000000000000000000", 11),
+        ("input a 0 18446744073709551615x", 11),
+        ("input a 0 1844674407370955161x", 11),
+        ("input a 0 18446744073709551616:", 11),
+        ("input a 0 340282366920938463463374607431768211456", 11),
+        ("input a 0 1 999999999999999999999999999999999999999 x", 13),
+        ("input a 0 1 1000000000000000000000000000000000000000", 13),
         ("input a.flag 0 1", 7),
         ("input a. 0 1", 7),
         ("insert at end", 8),

@@ -66,24 +66,35 @@ impl Rows {
         let shared = SharedPlan::new(self.alloc, other)
             .ok()
             .expect(rt, "there is memory");
-        self.index.room(plan).ok().expect(rt, "there is memory");
+        self.index
+            .room(place, plan)
+            .ok()
+            .expect(rt, "there is memory");
         let id = self
             .program
             .insert_at(place, Planned { plan: copy })
             .ok()
             .expect(rt, "there is memory");
-        self.index
-            .add(&self.program, id, shared)
-            .ok()
-            .expect(rt, "there is room");
+        self.index.add(&self.program, id, shared);
         id
     }
 
     /// Takes a row out.
     fn delete(&mut self, rt: &impl Abort, id: RowId) {
         assert!(rt; self.program.place_of(id).is_some());
+        self.index.own(id).ok().expect(rt, "there is memory");
         drop(self.program.delete(id).ok().expect(rt, "there is memory"));
         self.index.remove(id);
+    }
+
+    /// The same rows once more, which have all that can be shared in common with these.
+    fn copy(&mut self, rt: &impl Abort) -> Rows {
+        self.index.share();
+        Rows {
+            alloc: self.alloc,
+            program: self.program.copy().ok().expect(rt, "there is memory"),
+            index: self.index.copy().ok().expect(rt, "there is memory"),
+        }
     }
 
     /// The rows from a place on that a change of keys affects. They are found by no more looks than are promised.
@@ -302,6 +313,64 @@ fn an_index_has_the_writers_and_readers_in_program_order(rt: HostRuntime) {
     rows.delete(&rt, third);
     has_lists(&rt, &rows, &c, &[1], &[1, 2]);
     assert!(rt; rows.origin(&rt, 1, c) == Some(RowId(1)));
+}
+
+/// Three rows that write `c` and read it or `a`, under the ids 1, 2 and 3.
+fn three_rows(rt: &impl Abort, alloc: Global) -> Rows {
+    let mut rows = Rows::new(alloc);
+    put_all(
+        rt,
+        alloc,
+        &mut rows,
+        &[
+            b"u-move-1L c a 8",
+            b"u-move-1L d c 8",
+            b"u-move-always-1L c a 8",
+        ],
+    );
+    rows
+}
+
+/// Takes the first row out, and puts one in before the others.
+fn change(rt: &impl Abort, alloc: Global, rows: &mut Rows) {
+    let board = board(rt, alloc);
+    rows.delete(rt, RowId(1));
+    let _id = rows.put(rt, 0, &plan_on(rt, alloc, &board, b"u-move-1L d c 8"));
+}
+
+/// The lists of `c` and `d` are those of the three rows.
+fn are_as_before(rt: &impl Abort, rows: &Rows) {
+    has_lists(rt, rows, &key(rt, Field(2)), &[1, 3], &[1, 2]);
+    has_lists(rt, rows, &key(rt, Field(3)), &[2], &[2]);
+}
+
+/// The lists of `c` and `d` are those after the change.
+fn are_changed(rt: &impl Abort, rows: &Rows) {
+    has_lists(rt, rows, &key(rt, Field(2)), &[3], &[4, 2]);
+    has_lists(rt, rows, &key(rt, Field(3)), &[4, 2], &[4, 2]);
+}
+
+#[test]
+fn a_copy_stays_while_the_first_changes(rt: HostRuntime) {
+    let alloc = rt.alloc();
+    let mut rows = three_rows(&rt, alloc);
+    are_as_before(&rt, &rows);
+    let copy = rows.copy(&rt);
+    change(&rt, alloc, &mut rows);
+    are_changed(&rt, &rows);
+    are_as_before(&rt, &copy);
+}
+
+#[test]
+fn the_first_stays_while_a_copy_changes(rt: HostRuntime) {
+    let alloc = rt.alloc();
+    let mut rows = three_rows(&rt, alloc);
+    let mut copy = rows.copy(&rt);
+    change(&rt, alloc, &mut copy);
+    are_changed(&rt, &copy);
+    are_as_before(&rt, &rows);
+    change(&rt, alloc, &mut rows);
+    are_changed(&rt, &rows);
 }
 
 #[test]

@@ -14,6 +14,8 @@ mod families;
 #[cfg(test)]
 mod geometries;
 #[cfg(test)]
+mod ids;
+#[cfg(test)]
 mod lists;
 #[cfg(test)]
 mod names;

@@ -1,11 +1,13 @@
 -- Digits at the head of some bytes, and the word that they are.
-use Rattle.std.proofs.Common.{◌≡◌, ℕ, zero, suc, ◌+◌, ◌-◌, ◌*◌, ◌<◌, ◌≤◌, List, [], ◌∷◌, ◌++◌, Bool, true, false, ◌&&◌, get_or, length, take, nat_eq, arith, ◌∙◌, sym, ap, refl, inl, inr}
+use Rattle.std.proofs.Common.{◌≡◌, ℕ, ◌+◌, ◌-◌, ◌*◌, ◌<◌, ◌≤◌, List, [], ◌∷◌, ◌++◌, Bool, true, false, ◌&&◌, ◌||◌, ◌^◌, if◌then◌else◌, None, Some, get_or, length, take, nat_eq, nat_lt, nat_le, arith, ◌∙◌, sym, ap, refl}
+use Rattle.std.specs.Prelude.{slice_index}
+use Rattle.std.proofs.lemmas.Bool.{lt-ltb}
 use Rattle.std.specs.List.{list_all, position_or_len}
 use Rattle.std.proofs.lemmas.Bool.Decides.{nat_tests}
 use Rattle.std.proofs.lemmas.List.{get_or-take, length-take-le, take_more}
 use Rattle.std.proofs.lemmas.List.Folds.{list_all-append}
 use Rattle.std.proofs.lemmas.List.Sums.{position_or_len_is}
-use Rattle.paris_text.specs.Words.{is_digit, value_from}
+use Rattle.paris_text.specs.Words.{is_digit, is_number, value_from, value_word}
 use Rattle.paris_text.proofs.NumberLemmas.{digit_at}
 
 -- a digit more
@@ -38,3 +40,19 @@ digits_are_word bytes n within digits end =
     sym (position_or_len_is (λ b. nat_eq b 32) bytes n 0 within
     (λ k h. no_space (get_or bytes k 0) (omega (arith, (digit_at (take n bytes) k digits (omega (arith, h, length-take-le n bytes within))).0, get_or-take n bytes k 0 h)))
     (λ h. is_space (get_or bytes n 0) (end h)))
+
+-- what a test lets through
+pub kept_some : (t : Bool) (n m : ℕ) → (if t then Some n else None) ≡ Some m → m ≡ n
+kept_some true n m h = cc
+kept_some false n m h = absurd (cc)
+
+-- digits whose head is no zero before another digit are a number
+digits_are_number : (w : List ℕ) → 0 < length w → list_all is_digit w ≡ true → (nat_lt 48 (slice_index w 0) || nat_le (length w) 1) ≡ true → is_number w ≡ true
+unfolding is_number
+digits_are_number w some digits plain = rw (lt-ltb 0 (length w) some, digits, plain) refl
+
+-- and stand for what they spell
+pub digits_are_value : (w : List ℕ) (n : ℕ) → 0 < length w → list_all is_digit w ≡ true → (nat_lt 48 (slice_index w 0) || nat_le (length w) 1) ≡ true → n ≡ value_from 0 w → n < 2 ^ 64 → value_word w ≡ Some n
+digits_are_value w n some digits plain is small =
+    let below : value_from 0 w < 2 ^ 128 = rw (← is) (omega (arith, small)) in
+    rw (digits_are_number w some digits plain, lt-ltb (value_from 0 w) (2 ^ 128) below, is) refl

@@ -1,7 +1,7 @@
 -- Reading one word or more of a kind.
-use Rattle.std.proofs.Common.{◌≡◌, ℕ, ◌+◌, List, [], ◌∷◌, ◌++◌, length, Option, None, Some, Result, Ok, Err, refl, sym, ap, append_assoc}
+use Rattle.std.proofs.Common.{◌≡◌, ℕ, ◌+◌, List, [], ◌∷◌, ◌++◌, length, Option, None, Some, Result, Ok, Err, arith, refl, sym, ap, append_assoc}
 use Rattle.paris_text.specs.Kinds.{Kind, Meaning, meaning}
-use Rattle.paris_text.specs.Reading.{Place, ◌>>=◌, read_word, kind_at}
+use Rattle.paris_text.specs.Reading.{Place, ◌>>=◌, left, place, next_word, read_word, kind_at}
 use Rattle.paris_text.specs.CommandReading.{each_at, many_at}
 
 -- what is read, behind what was read before
@@ -37,3 +37,19 @@ many_more k p x c w ws h = rw h (go (meaning k w))
         ≡ behind (x ∷ []) (read_word o c w ws >>= λ y. each_at k y.1.0 y.1.1 >>= λ ys. Ok (y.0 ∷ ys))
     go None = refl
     go (Some y) = on y (each_at k (c + length w + 1) ws)
+
+-- a word that reads is one of those that are left
+pub left_less : (k : Kind) (line : List ℕ) (at after : ℕ) (x : Meaning k) → kind_at k (place line at) ≡ Ok (x, place line after) → length (left line at) ≡ length (left line after) + 1
+unfolding kind_at place
+left_less k line at after x h = go (left line at) h
+  where
+    fewer : (w : List ℕ) (ws vs : List (List ℕ)) (c d : ℕ) (o : Option (Meaning k)) → read_word o c w ws ≡ Ok (x, (d, vs)) → length (w ∷ ws) ≡ length vs + 1
+    fewer w ws vs c d None e = absurd (cc)
+    fewer w ws vs c d (Some y) e =
+        let pair : (let q : Meaning k × Place = (y, (c + length w + 1, ws)) in q) ≡ (x, (d, vs)) = cc in
+        let same : ws ≡ vs = ap (λ (q : Meaning k × Place). q.1.1) pair in
+        rw same (omega arith)
+
+    go : (ws : List (List ℕ)) → next_word (meaning k) (at + 1) ws ≡ Ok (x, (after + 1, left line after)) → length ws ≡ length (left line after) + 1
+    go [] e = absurd (cc)
+    go (w ∷ ws) e = fewer w ws (left line after) (at + 1) (after + 1) (meaning k w) e

@@ -1,8 +1,10 @@
 -- Words, digits, and what is left of a line.
 use Rattle.std.proofs.Common.{◌≡◌, ℕ, ◌+◌, ◌-◌, ◌*◌, ◌<◌, ◌≤◌, List, [], ◌∷◌, length, take, drop, true, false, not, cond, nat_eq, refl, ap, get_or, add-one, drop-cons, ◌∙◌, arith, Option, None, Some, if◌then◌else◌, nat_le, nat_lt, sym, ◌++◌, append_assoc, option_map}
 use Rattle.std.specs.Prelude.{Bool}
-use Rattle.std.specs.List.{onto_first, position_or_len}
-use Rattle.std.proofs.lemmas.List.Splits.{slice_split_first}
+use Rattle.std.specs.List.{count_by, onto_first, position_or_len}
+use mir.Val.{bool_byte}
+use Rattle.std.proofs.lemmas.List.Sums.{count_by_more_no, count_by_more_yes}
+use Rattle.std.proofs.lemmas.List.Splits.{length-slice_split, slice_split_first}
 use Rattle.std.proofs.lemmas.Bool.{ltb-true, ltb-false, le-ltb}
 use Rattle.std.proofs.lemmas.Bool.Decides.{nat_tests}
 use Rattle.std.proofs.lemmas.List.{drop-drop, length-drop, take_all, at_drop_more}
@@ -85,6 +87,22 @@ unfolding left
 left_over line at past =
     let no : nat_le at (length line) ≡ false = grind (arith, nat_tests) in
     rw no refl
+
+-- a byte more, which may be a space
+pub spaces_more : (bytes : List ℕ) (i n : ℕ) → i < length bytes → n ≡ bool_byte (nat_eq (get_or bytes i 0) 32)
+    → count_by (λ b. nat_eq b 32) (take i bytes) + n ≡ count_by (λ b. nat_eq b 32) (take (i + 1) bytes)
+spaces_more bytes i n within is = rw is (go (nat_eq (get_or bytes i 0) 32) refl)
+  where
+    go : (t : Bool) → nat_eq (get_or bytes i 0) 32 ≡ t → count_by (λ b. nat_eq b 32) (take i bytes) + bool_byte t ≡ count_by (λ b. nat_eq b 32) (take (i + 1) bytes)
+    go true e = sym (count_by_more_yes (λ b. nat_eq b 32) bytes i 0 within e)
+    go false e = omega (arith, count_by_more_no (λ b. nat_eq b 32) bytes i 0 within e)
+
+-- one word more is left than spaces
+pub left_count : (line : List ℕ) (at : ℕ) → at ≤ length line → length (left line at) ≡ count_by (λ b. nat_eq b 32) (drop at line) + 1
+unfolding left
+left_count line at within =
+    let here : nat_le at (length line) ≡ true = grind (arith, nat_tests) in
+    rw here (length-slice_split (λ b. nat_eq b 32) (drop at line))
 
 -- all words of the line are left at its start
 pub left_all : (line : List ℕ) → left line 0 ≡ words line

@@ -6,7 +6,7 @@ ghost use Rattle.std.specs.Prelude.{◌≡◌, ◌+◌, ◌<◌, ◌≤◌, leng
 ghost use Rattle.paris_names.specs.declared.faults.Fault.TheVariants.{Syntax as SyntaxFault};
 ghost use Rattle.paris_text.specs.Kinds.{direction_word, inclusion_word, option_word};
 ghost use Rattle.paris_text.specs.Kinds.Kind.{NameWord, NumberWord, ValueWord, DirectionWord, InclusionWord, OptionWord, KeyWord, AxesWord, ProfileWord};
-ghost use Rattle.paris_text.specs.Reading.{place, Gives, word_at, mnemonic_at, kind_at, end_at};
+ghost use Rattle.paris_text.specs.Reading.{place, left, Gives, word_at, mnemonic_at, kind_at, end_at};
 ghost use Rattle.paris_text.specs.Shapes.Shape.{Done, One};
 ghost use Rattle.paris_text.specs.CommandReading.{GivesIfRoom, verb_at, spot_at, many_at, shape_at};
 ghost use Rattle.paris_text.specs.Room.{values_room};
@@ -97,7 +97,8 @@ pub fn next_number(line: &[u8], at: usize) -> Result<(u64, usize), Syntax>
     }
 }
 
-/// The next word as a number, and the place where the next one begins, where it has 19 digits or fewer. `None` says nothing of it.
+/// The next word as a number, and the place where the next one begins, where it is below `2 ^ 64`. `None` says nothing of it.
+#[inline(always)]
 fn short_value(line: &[u8], at: usize) -> Option<(u64, usize)>
     requires { at ≤ length line.now + 1 }
     ensures gives { IfSome result (λ x. kind_at ValueWord (place line.now at) ≡ Ok (x.0, place line.now x.1)) }
@@ -110,7 +111,22 @@ fn short_value(line: &[u8], at: usize) -> Option<(u64, usize)>
     Some((value, at + len + 1))
 }
 
+/// The next word as a number below `2 ^ 128`, where the word's end is looked for first.
+#[inline(never)]
+fn long_value(line: &[u8], at: usize) -> Result<(u128, usize), Syntax>
+    requires { at ≤ length line.now + 1 }
+    ensures gives { Gives (λ x. (x.0, place line.now x.1)) result (kind_at ValueWord (place line.now at)) }
+    ensures within { IfOk result (λ x. (x.1 ≤ length line.now + 1) × (at < x.1)) }
+{
+    let (word, next) = next_word(line, at)?;
+    match words::value_of_word(word) {
+        Some(value) => Ok((value, next)),
+        None => Err(Syntax(at as u64 + 1)),
+    }
+}
+
 /// The next word as a number below `2 ^ 128`.
+#[inline(always)]
 pub fn next_value(line: &[u8], at: usize) -> Result<(u128, usize), Syntax>
     requires { at ≤ length line.now + 1 }
     ensures gives { Gives (λ x. (x.0, place line.now x.1)) result (kind_at ValueWord (place line.now at)) }
@@ -119,11 +135,7 @@ pub fn next_value(line: &[u8], at: usize) -> Result<(u128, usize), Syntax>
     if let Some((value, next)) = short_value(line, at) {
         return Ok((u128::from(value), next));
     }
-    let (word, next) = next_word(line, at)?;
-    match words::value_of_word(word) {
-        Some(value) => Ok((value, next)),
-        None => Err(Syntax(at as u64 + 1)),
-    }
+    long_value(line, at)
 }
 
 /// The next word as a direction.
@@ -225,21 +237,30 @@ fn count_values(line: &[u8], at: usize) -> Result<usize, Syntax>
     }
 }
 
-/// All words that are left as numbers below `2 ^ 128`; there is one or more. Memory is asked for once all of them are read.
+/// How many words are left.
+fn count_words(line: &[u8], at: usize) -> usize
+    ensures { result ≡ length (left line.now at) }
+{
+    if at > line.len() {
+        return 0;
+    }
+    words::count_spaces(&line[at..]) + 1
+}
+
+/// All words that are left as numbers below `2 ^ 128`; there is one or more. Room is made for as many numbers as there are words. Where
+/// memory is refused, the words are read before that is answered, so a wrong word comes first.
 pub fn next_values(alloc: Global, line: &[u8], at: usize) -> Result<Items<u128>, Fault>
     requires { at ≤ length line.now + 1 }
     ensures { GivesIfRoom (λ x. x) result (many_at ValueWord (place line.now at)) }
 {
-    let count = count_values(line, at)?;
-    let Ok(mut values) = Vec::with_capacity(alloc, count) else {
+    let Ok(mut values) = Vec::with_capacity(alloc, count_words(line, at)) else {
+        count_values(line, at)?;
         return Err(Fault::NoMemory);
     };
     let mut next = at;
     loop {
         let (value, after) = next_value(line, next)?;
-        let Ok(()) = values.push(value) else {
-            return Err(Fault::NoMemory);
-        };
+        values.push_reserved(value);
         if after > line.len() {
             return Ok(Items::new(values));
         }

@@ -1,8 +1,8 @@
 //! The words of a line, and what each of them spells.
 
-ghost use Rattle.std.specs.Prelude.{◌≡◌, ℕ, ◌+◌, ◌-◌, ◌^◌, ◌<◌, ◌≤◌, List, length, min, take, drop, nat_eq, nat_lt, nat_le, slice_index, ◌||◌, Option, Some, None, if◌then◌else◌, true, false, IfOk};
+ghost use Rattle.std.specs.Prelude.{◌≡◌, ℕ, ◌+◌, ◌-◌, ◌*◌, ◌^◌, ◌<◌, ◌≤◌, List, length, min, take, drop, nat_eq, nat_lt, nat_le, slice_index, ◌||◌, Option, Some, None, if◌then◌else◌, true, false, IfOk};
 ghost use Rattle.std.specs.Fmt.{decimal};
-ghost use Rattle.std.specs.List.{position_or_len, list_all};
+ghost use Rattle.std.specs.List.{count_by, position_or_len, list_all};
 ghost use Rattle.std.specs.Option.{IfSome};
 ghost use Rattle.paris_text.specs.Words.{is_digit, is_number, value_from, value_word, number_word, flag_word, key_word, axes_word, profile_word};
 ghost use Rattle.paris_text.specs.Room.{axes_room};
@@ -21,6 +21,17 @@ pub fn len_before(bytes: &[u8], stop: u8) -> usize
         }
     }
     bytes.len()
+}
+
+/// How many spaces stand among some bytes.
+pub(crate) fn count_spaces(bytes: &[u8]) -> usize
+    ensures { result ≡ count_by (λ b. nat_eq b 32) bytes.now }
+{
+    let mut count = 0;
+    for byte in bytes {
+        count += usize::from(*byte == b' ');
+    }
+    count
 }
 
 fn is_digit(byte: u8) -> bool
@@ -139,6 +150,31 @@ fn leading_digits(bytes: &[u8]) -> (u64, usize)
     (value, most)
 }
 
+/// A number with one digit more behind it, if it is below `2 ^ 64`.
+fn with_digit(value: u64, byte: u8) -> Option<u64>
+    ensures { result ≡ (if nat_lt (value * 10 + (byte - 48)) (2 ^ 64) then Some (value * 10 + (byte - 48)) else None) }
+{
+    let tens = value.checked_mul(10)?;
+    tens.checked_add(u64::from(byte.saturating_sub(b'0')))
+}
+
+/// The number that the digits at the head of some bytes spell, and how many they are: of more than 20 digits the first 20 count, and the
+/// first 19 where 20 spell no number below `2 ^ 64`.
+fn leading_number(bytes: &[u8]) -> (u64, usize)
+    ensures within { result.1 ≤ length bytes.now }
+    ensures digits { list_all is_digit (take result.1 bytes.now) ≡ true }
+    ensures value { result.0 ≡ value_from 0 (take result.1 bytes.now) }
+{
+    let (value, len) = leading_digits(bytes);
+    if len < WORD_DIGITS || len == bytes.len() || !is_digit(bytes[len]) {
+        return (value, len);
+    }
+    match with_digit(value, bytes[len]) {
+        Some(more) => (more, len + 1),
+        None => (value, len),
+    }
+}
+
 /// Whether some bytes have a space at a place, or end there.
 fn ends_at(bytes: &[u8], place: usize) -> bool
     requires { place ≤ length bytes.now }
@@ -147,18 +183,18 @@ fn ends_at(bytes: &[u8], place: usize) -> bool
     place == bytes.len() || bytes[place] == b' '
 }
 
-/// The number that the first word of some bytes spells, and the length of that word, where it has 19 digits or fewer. `None` says nothing
-/// of the word.
+/// The number that the first word of some bytes spells, and the length of that word, where it is below `2 ^ 64`. `None` says nothing of
+/// the word.
 pub(crate) fn short_value(bytes: &[u8]) -> Option<(u64, usize)>
     ensures within { IfSome result (λ x. x.1 ≤ length bytes.now) }
     ensures word { IfSome result (λ x. x.1 ≡ position_or_len (λ b. nat_eq b 32) bytes.now) }
     ensures value { IfSome result (λ x. value_word (take x.1 bytes.now) ≡ Some x.0) }
 {
-    let (value, len) = leading_digits(bytes);
-    if !ends_at(bytes, len) {
+    let (value, len) = leading_number(bytes);
+    if len == 0 || !ends_at(bytes, len) {
         return None;
     }
-    if !is_number(&bytes[..len]) {
+    if !is_plain(&bytes[..len]) {
         return None;
     }
     Some((value, len))

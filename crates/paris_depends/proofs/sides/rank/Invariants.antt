@@ -1,9 +1,9 @@
 -- The rank lies between the ends.
-use Rattle.std.proofs.Common.{◌≡◌, ◌≤◌, ◌-◌, length}
+use Rattle.std.proofs.Common.{◌<◌, ◌≤◌, ◌-◌, length}
 use Rattle.paris_names.specs.declared.keys.Key.{Key}
 use Rattle.paris_depends.specs.Lists.{list_at}
 use Rattle.paris_depends.specs.Places.{count_to}
-use Rattle.paris_depends.specs.Sides.{test_of, entries}
+use Rattle.paris_depends.specs.Sides.{AreEntries, test_of}
 use Rattle.paris_depends.specs.declared.sides.Side.{Side}
 use Rattle.paris_depends.proofs.sides.rank.Given as goal
 
@@ -11,7 +11,7 @@ abbrev pub invariant-loop-low : goal.invariant-loop-low
 invariant-loop-low l = record {
   up : l.low ≤ l.high;
   within : l.high ≤ length (list_at l.lists l.slot);
-  between : (side : Side) (key : Key) → list_at l.lists l.slot ≡ entries side l.rows.entries key → l.place ≤ length l.rows.entries → (l.low ≤ count_to (test_of side key) l.rows.entries l.place) × (count_to (test_of side key) l.rows.entries l.place ≤ l.high);
+  between : (side : Side) (key : Key) → AreEntries side key l.rows.rows l.place (list_at l.lists l.slot) → l.place < length l.rows.rows → (l.low ≤ count_to (test_of side key) l.rows.rows l.place) × (count_to (test_of side key) l.rows.rows l.place ≤ l.high);
 }
 
 abbrev pub decreases-loop-low : goal.decreases-loop-low

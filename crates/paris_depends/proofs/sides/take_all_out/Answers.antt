@@ -1,14 +1,13 @@
-use Rattle.std.proofs.Common.{ℕ, List, sym, ap, ◌∙◌, cond, arith, subst}
+use Rattle.std.proofs.Common.{◌<◌, ℕ, List, inl, sym, ap, ◌∙◌, cond, arith, subst}
 use Rattle.std.proofs.lemmas.List.{take_all}
 use Rattle.std.specs.List.{IsDistinct}
 use Rattle.std.specs.Prelude.{remove}
 use Rattle.paris_names.specs.declared.keys.Key.{Key}
 use Rattle.paris_names.specs.Keys.{has_key, key_eq}
 use Rattle.paris_depends.specs.Index.{Footprint}
-use Rattle.paris_depends.specs.Lists.{list_at}
+use Rattle.paris_depends.specs.Lists.{list_at, room_at}
 use Rattle.paris_depends.specs.Places.{count_to}
 use Rattle.paris_depends.specs.Sides.{entries, keys_on, test_of}
-use Rattle.paris_depends.proofs.Found.{lent_row}
 use Rattle.paris_depends.proofs.KeyTurns.{has_key-at, new-once, turned-more}
 use Rattle.paris_depends.proofs.Kept.{all-at, entries-remove, entry-within}
 use Rattle.paris_depends.proofs.sides.take_all_out.Goals as goal
@@ -17,9 +16,9 @@ pub take_out-requires : goal.take_out-requires
 take_out-requires c =
     let keys : List Key = c.keys_on-key-items.result.now in
     let key : Key = c.key-item.result in
-    let rows : List (ℕ × Footprint) = c.args.rows.now.entries in
-    let row : ℕ × Footprint = (c.unwrap.result.0.now, c.unwrap.result.1.now) in
-    let there = lent_row rows c.args.place c.get_index.result c.unwrap.result c.get_index.ensures.entry c.unwrap.ensures in
+    let rows : List (ℕ × Footprint) = c.args.rows.now.rows in
+    let row : ℕ × Footprint = c.at-row.result.now in
+    let there = c.at-row.ensures in
     let once = all-at (λ (r : ℕ × Footprint). IsDistinct key_eq (keys_on c.args.side r.1)) rows c.args.place row c.requires.once there in
     let each = subst (λ (ks : List Key). IsDistinct key_eq ks) (sym c.keys_on-key-items.ensures) once in
     let old = c.loop-key.invariant.lists key
@@ -27,25 +26,27 @@ take_out-requires c =
     in
     let here = ap (list_at c.loop-key.lists) c.slot.ensures.value ∙ old in
     let here' = ap (list_at c.loop-key.lists) c.slot-in-loop-key.ensures.value ∙ old in
-    let rank = c.rank-i.ensures.rank c.args.side key here (omega (arith, c.requires.within)) in
+    let rank = c.rank-i.ensures.rank c.args.side key (inl here) c.requires.within in
     let has = ap (λ ks. has_key ks key) (sym c.keys_on-key-items.ensures) ∙ has_key-at keys c.loop-key.key-index key c.loop-key-test.true c.key-item.is in
     let below = entry-within c.args.side rows c.args.place row key there has in
-    rw (here', rank) below
+    let room = c.requires.room row there key has in
+    let slot = ap (room_at c.args.lists.now) c.slot-in-loop-key.ensures.value in
+    let more = c.loop-key.invariant.more c.slot-in-loop-key.result in
+    record { there = rw (here', rank) below; room = omega (arith, room, slot, more) }
 
 pub loop-key-preserved : goal.loop-key-preserved
 loop-key-preserved c =
     let keys : List Key = c.keys_on-key-items.result.now in
     let i : ℕ = c.loop-key.key-index in
     let key : Key = c.key-item.result in
-    let rows : List (ℕ × Footprint) = c.args.rows.now.entries in
-    let row : ℕ × Footprint = (c.unwrap.result.0.now, c.unwrap.result.1.now) in
-    let there = lent_row rows c.args.place c.get_index.result c.unwrap.result c.get_index.ensures.entry c.unwrap.ensures in
-    let once = all-at (λ (r : ℕ × Footprint). IsDistinct key_eq (keys_on c.args.side r.1)) rows c.args.place row c.requires.once there in
+    let rows : List (ℕ × Footprint) = c.args.rows.now.rows in
+    let row : ℕ × Footprint = c.at-row.result.now in
+    let once = all-at (λ (r : ℕ × Footprint). IsDistinct key_eq (keys_on c.args.side r.1)) rows c.args.place row c.requires.once c.at-row.ensures in
     let each = subst (λ (ks : List Key). IsDistinct key_eq ks) (sym c.keys_on-key-items.ensures) once in
     let old : Key → List ℕ = entries c.args.side rows in
     let new : Key → List ℕ = λ k. remove (old k) (count_to (test_of c.args.side k) rows c.args.place) in
     let there = c.loop-key.invariant.lists key ∙ ap (λ b. cond b (new key) (old key)) (new-once keys i key each c.loop-key-test.true c.key-item.is) in
-    let rank = c.rank-i.ensures.rank c.args.side key (ap (list_at c.loop-key.lists) c.slot.ensures.value ∙ there) (omega (arith, c.requires.within)) in
+    let rank = c.rank-i.ensures.rank c.args.side key (inl (ap (list_at c.loop-key.lists) c.slot.ensures.value ∙ there)) c.requires.within in
     record {
       lists = turned-more keys i key c.loop-key-test.true c.key-item.is c.slot-in-loop-key.result (list_at c.loop-key.lists) (list_at c.take_out.new.self) (λ s. remove (list_at c.loop-key.lists s) c.rank-i.result) new old
           c.slot-in-loop-key.ensures.value c.take_out.ensures.ids
@@ -56,9 +57,8 @@ loop-key-preserved c =
 
 pub returns-clause-ids : goal.returns-clause-ids
 returns-clause-ids c = λ k.
-    let rows : List (ℕ × Footprint) = c.args.rows.now.entries in
+    let rows : List (ℕ × Footprint) = c.args.rows.now.rows in
     let old : List ℕ = entries c.args.side rows k in
-    let there = lent_row rows c.args.place c.get_index.result c.unwrap.result c.get_index.ensures.entry c.unwrap.ensures in
     c.loop-key.invariant.lists k
     ∙ ap (λ ks. cond (has_key ks k) (remove old (count_to (test_of c.args.side k) rows c.args.place)) old) (take_all c.loop-key.key-index c.keys_on-key-items.result.now c.loop-key-test.false ∙ c.keys_on-key-items.ensures)
-    ∙ sym (entries-remove c.args.side rows c.args.place (c.unwrap.result.0.now, c.unwrap.result.1.now) k there)
+    ∙ sym (entries-remove c.args.side rows c.args.place c.at-row.result.now k c.at-row.ensures)

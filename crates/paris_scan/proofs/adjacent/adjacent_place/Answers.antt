@@ -1,6 +1,5 @@
-use Rattle.std.proofs.Common.{◌≡◌, ℕ, ◌+◌, ◌*◌, ◌/◌, ◌%◌, ◌<◌, ◌∙◌, List, ap, arith, length, sym}
+use Rattle.std.proofs.Common.{◌≡◌, ℕ, ◌+◌, ◌*◌, ◌/◌, ◌%◌, ◌∙◌, List, ap, arith, length, sym}
 use Rattle.std.proofs.lemmas.Result.{IfOk-weaker}
-use Rattle.std.specs.Prelude.{slice_index}
 use Rattle.paris_geometry.specs.Geometry.{at_coordinate, axis_length, processor_count}
 use Rattle.paris_field.specs.Fields.{FieldNumbers, operand}
 use Rattle.paris_scan.specs.Adjacent.{lines_field}

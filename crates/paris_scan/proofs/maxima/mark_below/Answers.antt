@@ -36,6 +36,6 @@ loop-k-preserved c =
     record {
       long = ap length c.put_triple.ensures ∙ length_triple borrow_bit b x y c.loop-k.invariant.long nx ny;
       at = λ v h.
-          below_more k v c.args.x.now c.args.y.now x y (get_or b v false) (get_or c.put_triple.new.self v false) c.loop-k-test.true iny ex ey (c.loop-k.invariant.at v h)
+          below_more k v v c.args.x.now c.args.y.now x y (get_or b v false) (get_or c.put_triple.new.self v false) c.loop-k-test.true iny ex ey (c.loop-k.invariant.at v h)
           (ap (λ (l : List Bool). get_or l v false) c.put_triple.ensures ∙ get_triple borrow_bit b x y v c.loop-k.invariant.long nx ny h);
     }

@@ -1,5 +1,5 @@
 -- The planes so far hold the low bits.
-use Rattle.std.proofs.Common.{◌≡◌, ◌<◌, ◌*◌, ◌/◌, ◌%◌, ◌^◌, ℕ, length}
+use Rattle.std.proofs.Common.{◌≡◌, ◌<◌, ◌/◌, ◌%◌, ◌^◌, ℕ, length}
 use Rattle.std.specs.Prelude.{slice_index}
 use Rattle.paris_field.specs.Numbers.{AllOf, number_at}
 use Rattle.paris_scan.proofs.repeated.line_planes.Given as goal

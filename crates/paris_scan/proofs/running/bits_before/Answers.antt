@@ -1,7 +1,8 @@
 use Rattle.std.proofs.Common.{◌<◌, arith, length}
 use Rattle.paris_field.specs.Numbers.{has}
 use Rattle.paris_scan.specs.Runs.{before}
-use Rattle.paris_scan.proofs.Totals.{cut_moved, reaches_from}
+use Rattle.paris_scan.proofs.RunValues.{reaches_from}
+use Rattle.paris_scan.proofs.Totals.{cut_moved}
 use Rattle.paris_scan.proofs.running.bits_before.Goals as goal
 
 pub returns-clause-bits : goal.returns-clause-bits

@@ -5,7 +5,7 @@ use Rattle.paris_geometry.specs.declared.direction.Direction.{Direction}
 use Rattle.paris_model.specs.Store.{low}
 use Rattle.paris_field.specs.Numbers.{has}
 use Rattle.paris_field.proofs.Places.{plane_is}
-use Rattle.paris_scan.specs.Running.{AreRunning, HasBefore, own_word, sum_before, walked}
+use Rattle.paris_scan.specs.Running.{AreRunning, HasBefore, added, own_word, value_before, walked}
 use Rattle.paris_scan.specs.Runs.{before}
 use Rattle.paris_scan.proofs.OneByOne.{Walked, forward, low_next, made_before, over_next, walked_all, walked_kept, walked_set}
 use Rattle.paris_scan.proofs.running.make_sums.Goals as goal
@@ -29,21 +29,21 @@ loop-place-preserved c =
     let at : v ≡ walked d n k = c.walked-v.ensures.value in
     let inside : k < n = c.loop-place-test.true in
     let reach : begins v ≡ false → HasBefore d by n v = λ none. subst (λ m. HasBefore d by m v) c.requires.count (c.args.steps.now.reach v (omega (arith, c.requires.count, c.walked-v.ensures.within)) none) in
-    let Runs : (ℕ → ℕ) → Type 0 = AreRunning d by n begins own in
+    let Runs : (ℕ → ℕ) → Type 0 = AreRunning (added own) 0 d by n begins in
     let here : (sums : ℕ → ℕ) → Runs sums → c.own_word.result ≡ own v = λ sums runs.
     c.own_word.ensures ∙ ap (λ t. cond (has c.args.selected.now v) t 0) (ap (λ u. get_or words u 0) at ∙ (c.loop-place.invariant.low sums runs).rest k (omega arith) inside ∙ ap old (sym at)) in
     let is_low : (sums : ℕ → ℕ) → Runs sums → low_before ≡ cond (begins v) 0 (low bits (sums (before d by v))) = λ sums runs.
-    c.word_before-before.ensures ∙ made_before d by n k v begins (λ u. low bits (sums u)) old 0 words c.args.steps.now.some inside at reach (c.loop-place.invariant.low sums runs) in
+    c.word_before-before.ensures ∙ made_before d by n k v begins (λ u. low bits (sums u)) old 0 0 words c.args.steps.now.some inside at reach (c.loop-place.invariant.low sums runs) in
     let is_over : (sums : ℕ → ℕ) → Runs sums → c.bit_before.result ≡ cond (begins v) false (leb (2 ^ bits) (sums (before d by v))) = λ sums runs.
-    c.bit_before.ensures ∙ made_before d by n k v begins (λ u. leb (2 ^ bits) (sums u)) (λ _. false) false overflow c.args.steps.now.some inside at reach (c.loop-place.invariant.over sums runs) in
+    c.bit_before.ensures ∙ made_before d by n k v begins (λ u. leb (2 ^ bits) (sums u)) (λ _. false) false false overflow c.args.steps.now.some inside at reach (c.loop-place.invariant.over sums runs) in
     let low_made : (sums : ℕ → ℕ) → Runs sums → x ≡ low bits (sums v) = λ sums runs.
     ap (λ p. bit_and (low_before + c.own_word.result) (p - 1)) c.power-bound.ensures
     ∙ low_next bits (sums (before d by v)) low_before c.own_word.result (begins v) (is_low sums runs)
-    ∙ ap (low bits) (ap (λ y. sum_before d by begins sums v + y) (here sums runs) ∙ sym (runs v c.walked-v.ensures.within)) in
+    ∙ ap (low bits) (ap (λ y. value_before 0 d by begins sums v + y) (here sums runs) ∙ sym (runs v c.walked-v.ensures.within)) in
     let over_made : (sums : ℕ → ℕ) → Runs sums → c.is_over.result ≡ leb (2 ^ bits) (sums v) = λ sums runs.
     c.is_over.ensures ∙ ap (λ p. c.bit_before.result || leb p (low_before + c.own_word.result)) c.power-bound.ensures
     ∙ over_next bits (sums (before d by v)) low_before c.own_word.result (begins v) c.bit_before.result (is_low sums runs) (is_over sums runs)
-    ∙ ap (leb (2 ^ bits)) (ap (λ y. sum_before d by begins sums v + y) (here sums runs) ∙ sym (runs v c.walked-v.ensures.within)) in
+    ∙ ap (leb (2 ^ bits)) (ap (λ y. value_before 0 d by begins sums v + y) (here sums runs) ∙ sym (runs v c.walked-v.ensures.within)) in
     record {
       count = length-set words v x ∙ c.loop-place.invariant.count;
       long = elim c.if-is_over.branch [

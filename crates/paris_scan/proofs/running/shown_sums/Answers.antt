@@ -4,7 +4,7 @@ use Rattle.paris_model.specs.declared.operators.Inclusion.{Inclusion}
 use Rattle.paris_plane.proofs.Bits.{written}
 use Rattle.paris_field.specs.Fields.{AllFit, FieldNumbers}
 use Rattle.paris_field.specs.Numbers.{has}
-use Rattle.paris_scan.specs.Running.{HasBefore, low_sums, over_sums, shown_sum}
+use Rattle.paris_scan.specs.Running.{HasBefore, low_sums, over_sums, shown_value}
 use Rattle.paris_scan.specs.Runs.{before}
 use Rattle.paris_scan.proofs.Totals.{before_fits, lows_before, overs_before}
 use Rattle.paris_scan.proofs.running.shown_sums.Goals as goal
@@ -36,7 +36,7 @@ returns-clause-value c =
     ∙ lows_before c.args.bits d by begins sums old c.step_back.new.words low (c.step_back.ensures.long ∙ ap length there)
     (λ v h none. subst (λ m. HasBefore d by m v) c.requires.count (c.args.steps.now.reach v (omega (arith, h, c.requires.count)) none))
     (λ v h. c.step_back.ensures.words v (omega (arith, h, ap length there)) ∙ ap (λ (l : List ℕ). cond (begins v) 0 (get_or l (before d by v) 0)) there)
-    ∙ ap (λ (i : Inclusion). low_sums c.args.bits (length old) (shown_sum i d by begins sums)) (sym c.in-Exclusive.is))
+    ∙ ap (λ (i : Inclusion). low_sums c.args.bits (length old) (shown_value 0 i d by begins sums)) (sym c.in-Exclusive.is))
 
 pub returns-clause-overflow : goal.returns-clause-overflow
 returns-clause-overflow c =
@@ -48,4 +48,4 @@ returns-clause-overflow c =
     ap Some (overs_before c.args.bits n d by begins sums c.args.overflow c.in_ok-before-in-Exclusive.before over (c.in_ok-before-in-Exclusive.ensures.long ∙ c.requires.long)
     (λ v h none. subst (λ m. HasBefore d by m v) c.requires.count (c.args.steps.now.reach v (omega (arith, h, c.requires.count)) none))
     (λ v h. c.in_ok-before-in-Exclusive.ensures.bits v (omega (arith, h, c.requires.long)))
-    ∙ ap (λ (i : Inclusion). over_sums c.args.bits n (shown_sum i d by begins sums)) (sym c.in-Exclusive.is))
+    ∙ ap (λ (i : Inclusion). over_sums c.args.bits n (shown_value 0 i d by begins sums)) (sym c.in-Exclusive.is))

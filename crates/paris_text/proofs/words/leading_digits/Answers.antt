@@ -1,5 +1,4 @@
-use Rattle.std.proofs.Common.{◌≡◌, ◌<◌, ◌-◌, ◌+◌, ◌*◌, true, take, rules, arith, get_or, length, sym, ap, ◌∙◌, add-one}
-use Rattle.std.specs.List.{list_all}
+use Rattle.std.proofs.Common.{◌≡◌, ◌<◌, ◌-◌, ◌+◌, ◌*◌, true, take, arith, get_or, length, sym, ap, ◌∙◌, add-one}
 use Rattle.paris_text.specs.Words.{is_digit, value_from}
 use Rattle.paris_text.proofs.HeadLemmas.{head_digits, head_value}
 use Rattle.paris_text.proofs.NumberLemmas.{digit_bounds, eighteen_digits, more_digits}

@@ -23,11 +23,11 @@ pub invariant_of-self : goal.invariant_of-self
 invariant_of-self c =
     let own = own_entry c.self.inside.board c.self.inside.edits c.self.inside.rows.next_id (inputs_of c.self.inside.inputs) c.self.inside.rows.rows c.args.self.now c.args.place c.self.view_is c.args.done c.requires.own in
     let put = c.keep.ensures.rows own.0 own.1 in
-    rw (c.share_all_settled.ensures.next_id, c.share_all_settled.ensures.rows, c.keep.ensures.next_id, put) (own_whole c.self.inside.board c.self.inside.edits c.self.inside.rows.next_id (inputs_of c.self.inside.inputs) c.self.inside.rows.rows c.args.self.now c.args.place c.self.view_is c.args.done c.requires.own own.0 own.1 own.2 own.3 c.self.invariant)
+    rw (c.keep.ensures.next_id, put) (own_whole c.self.inside.board c.self.inside.edits c.self.inside.rows.next_id (inputs_of c.self.inside.inputs) c.self.inside.rows.rows c.args.self.now c.args.place c.self.view_is c.args.done c.requires.own own.0 own.1 own.2 own.3 c.self.invariant)
 
 pub returns : goal.returns
 returns c =
     let own = own_entry c.self.inside.board c.self.inside.edits c.self.inside.rows.next_id (inputs_of c.self.inside.inputs) c.self.inside.rows.rows c.args.self.now c.args.place c.self.view_is c.args.done c.requires.own in
     let put = c.keep.ensures.rows own.0 own.1 in
-    ap₂ (λ next (es : List Entry). state_of c.self.inside.board c.self.inside.edits next (inputs_of c.self.inside.inputs) es) (c.share_all_settled.ensures.next_id ∙ c.keep.ensures.next_id) (c.share_all_settled.ensures.rows ∙ put)
+    ap₂ (λ next (es : List Entry). state_of c.self.inside.board c.self.inside.edits next (inputs_of c.self.inside.inputs) es) c.keep.ensures.next_id put
     ∙ own_state c.self.inside.board c.self.inside.edits c.self.inside.rows.next_id (inputs_of c.self.inside.inputs) c.self.inside.rows.rows c.args.self.now c.args.place c.self.view_is c.args.done own.0 own.1 own.3

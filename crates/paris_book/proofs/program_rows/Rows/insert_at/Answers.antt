@@ -1,14 +1,15 @@
-use Rattle.std.proofs.Common.{◌≡◌, ◌≤◌, List, refl, sym, ap, ◌∙◌, subst, arith, length}
+use Rattle.std.proofs.Common.{◌≡◌, ◌≤◌, ℕ, List, refl, sym, ap, ◌∙◌, subst, arith, length}
 use Rattle.std.specs.Prelude.{insert}
+use Rattle.std.proofs.lemmas.List.{length-map}
 use Rattle.std.proofs.lemmas.List.Edits.{length-insert}
 use Rattle.paris_program.specs.Program.{Program}
 use Rattle.paris_model.specs.Instructions.{Plan}
-use Rattle.paris_depends.specs.Index.{footprint}
+use Rattle.paris_depends.specs.Index.{Footprint, footprint}
 use Rattle.paris_book.specs.Entries.{Entry}
 use Rattle.paris_book.specs.Marks.{data_plan}
 use Rattle.paris_book.specs.Rows.{RowData}
 use Rattle.paris_events.specs.declared.rows.Status.{Status}
-use Rattle.paris_book.specs.SharedIndexes.{HasOwnRoom, indexed_in}
+use Rattle.paris_book.specs.SharedIndexes.{CanAddIn, indexed_in}
 use Rattle.paris_book.proofs.Indexing.{put_others, put_plan, standing_put}
 use Rattle.paris_book.specs.Indexed.{IsHeld, is_unsettled_entry}
 use Rattle.paris_book.proofs.Holding.{held_still}
@@ -25,6 +26,13 @@ row c = (c.room.new.self.next_id, c.args.row)
 
 put : (c : goal.After-add_row-arg-2-1) → c.put_at-id.new.self.rows ≡ insert c.self.inside.program.rows c.args.place (row c)
 put c = c.put_at-id.ensures.value.1 ∙ ap (λ l. insert l c.args.place (row c)) c.in_ok-room.ensures.rows
+
+pub room-requires-2-clause-there : goal.room-requires-2-clause-there
+room-requires-2-clause-there c =
+    let same : length c.self.inside.program.rows ≡ length c.args.self.now.rows = ap (λ (p : Program RowData). length p.rows) c.self.view_is in
+    let long = ap length (c.self.invariant.listed.indexed ∙ sym c.in_ok-own.ensures.rows) in
+    let place = c.requires.place in
+    omega (arith, same, long, place, length-map {B = ℕ × Footprint} c.self.inside.program.rows (λ (e : Entry). (e.0, footprint (data_plan e.1))))
 
 pub put_at-id-requires-clause-place : goal.put_at-id-requires-clause-place
 put_at-id-requires-clause-place c =
@@ -48,7 +56,7 @@ add_row-requires-clause-plan c = λ e at.
     sym (put_plan data_plan c.self.inside.program.rows c.put_at-id.new.self.rows c.args.place (row c) e (within c) (put c) at) ∙ sym c.in_ok-plan.ensures
 
 pub add_row-requires-clause-room : goal.add_row-requires-clause-room
-add_row-requires-clause-room c = subst (λ (p : Plan). HasOwnRoom c.room-2.new.self (footprint p)) c.get.ensures c.in_ok-room-2.ensures.ok
+add_row-requires-clause-room c = subst (λ (p : Plan). CanAddIn c.room-2.new.self c.args.place (footprint p)) c.get.ensures c.in_ok-room-2.ensures.ok
 
 pub invariant_of-self-2 : goal.invariant_of-self-2
 invariant_of-self-2 c =

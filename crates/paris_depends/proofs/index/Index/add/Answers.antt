@@ -1,63 +1,104 @@
-use Rattle.std.proofs.Common.{ℕ, List, Option, sym, ap, ◌∙◌, subst}
-use Rattle.std.specs.List.{AllByRecursion, IsDistinct}
-use Rattle.std.specs.Prelude.{insert}
-use Rattle.std.specs.Option.{unwrap_or}
-use Rattle.paris_names.specs.declared.keys.Key.{Key}
-use Rattle.paris_names.specs.Keys.{key_eq}
-use Rattle.paris_model.specs.Instructions.{reads, writes}
-use Rattle.paris_depends.specs.Index.{Footprint, Index, footprint, readers, writers}
+use Rattle.std.proofs.Common.{ℕ, List, sym, ap, ◌∙◌, subst}
+use Rattle.std.specs.List.{AllByRecursion}
+use Rattle.paris_program.specs.Program.{place_in}
+use Rattle.paris_depends.specs.Index.{CanAdd, Footprint, Index, footprint}
 use Rattle.paris_depends.specs.IndexInside.{IsRow}
+use Rattle.paris_depends.specs.Lists.{HasRoomFor}
+use Rattle.paris_depends.specs.Sides.{entries}
 use Rattle.paris_depends.specs.declared.sides.Side.TheVariants.{Writers, Readers}
+use Rattle.paris_depends.proofs.Edited.{added, only_there}
 use Rattle.paris_depends.proofs.Kept.{all-insert}
-use Rattle.paris_depends.proofs.KeysOnce.{reads-once, writes-once}
 use Rattle.paris_depends.proofs.NewRows.{new_among, within_others}
-use Rattle.paris_depends.proofs.RowsOnce.{footprint-sound}
+use Rattle.paris_depends.proofs.RowsOnce.{footprint-sound, once-on}
 use Rattle.paris_depends.proofs.index.Index.add.Goals as goal
 
+pub put-requires-clause-new : goal.put-requires-clause-new
+put-requires-clause-new g c =
+    let at = sym c.place_of.ensures.value ∙ c.unwrap-place.ensures in
+    new_among c.args.program.now.rows c.self.inside.table.rows c.args.self.now.rows c.args.id.0 c.unwrap-place.result at c.requires.others (ap (λ (i : Index). i.rows) c.self.view_is) c.place_of.ensures.sound.distinct
+
+pub put_all-requires-clause-within : goal.put_all-requires-clause-within
+put_all-requires-clause-within g c =
+    let rows : List (ℕ × Footprint) = c.self.inside.table.rows in
+    let place = c.unwrap-place.result in
+    let row : ℕ × Footprint = (c.args.id.0, footprint c.args.plan) in
+    let at = sym c.place_of.ensures.value ∙ c.unwrap-place.ensures in
+    let within = within_others c.args.program.now.rows rows c.args.self.now.rows c.args.id.0 place at c.requires.others (ap (λ (i : Index). i.rows) c.self.view_is) in
+    let facts = added rows c.put.new.self.rows place row within c.put.ensures in
+    facts.0
+
+pub put_all-requires-clause-lists : goal.put_all-requires-clause-lists
+put_all-requires-clause-lists g c = λ k.
+    let rows : List (ℕ × Footprint) = c.self.inside.table.rows in
+    let place = c.unwrap-place.result in
+    let row : ℕ × Footprint = (c.args.id.0, footprint c.args.plan) in
+    let at = sym c.place_of.ensures.value ∙ c.unwrap-place.ensures in
+    let within = within_others c.args.program.now.rows rows c.args.self.now.rows c.args.id.0 place at c.requires.others (ap (λ (i : Index). i.rows) c.self.view_is) in
+    let facts = added rows c.put.new.self.rows place row within c.put.ensures in
+    c.self.invariant.writers k ∙ ap (λ (l : List (ℕ × Footprint)). entries Writers l k) (sym facts.1)
+
+pub put_all-requires-clause-room : goal.put_all-requires-clause-room
+put_all-requires-clause-room g c =
+    let rows : List (ℕ × Footprint) = c.self.inside.table.rows in
+    let place = c.unwrap-place.result in
+    let row : ℕ × Footprint = (c.args.id.0, footprint c.args.plan) in
+    let at = sym c.place_of.ensures.value ∙ c.unwrap-place.ensures in
+    let within = within_others c.args.program.now.rows rows c.args.self.now.rows c.args.id.0 place at c.requires.others (ap (λ (i : Index). i.rows) c.self.view_is) in
+    let facts = added rows c.put.new.self.rows place row within c.put.ensures in
+    let can = subst (λ (i : Index). CanAdd i.room (place_in c.args.program.now.rows c.args.id.0) (footprint c.args.plan)) (sym c.self.view_is) c.requires.room in
+    only_there (λ (r : ℕ × Footprint). HasRoomFor c.self.inside.writers r.1.written) c.put.new.self.rows place row facts.2 can.lists.writers
+
 pub put_all-requires-clause-once : goal.put_all-requires-clause-once
-put_all-requires-clause-once g c = subst (λ (ks : List Key). IsDistinct key_eq ks) (sym c.writes.ensures) (writes-once c.get-2.result.now)
-
-pub put_all-requires-2-clause-once : goal.put_all-requires-2-clause-once
-put_all-requires-2-clause-once g c = subst (λ (ks : List Key). IsDistinct key_eq ks) (sym c.reads.ensures) (reads-once c.get-3.result.now)
-
-pub put_row-requires-clause-new : goal.put_row-requires-clause-new
-put_row-requires-clause-new g c =
-    let at = sym c.place_of.ensures.value ∙ c.unwrap-place.ensures in
-    let kept = ap (λ (i : Index). i.rows) c.self.view_is ∙ c.room.ensures.rows in
-    new_among c.args.program.now.rows c.self.inside.rows.entries c.args.self.now.rows c.args.id.0 c.unwrap-place.result at c.requires.others kept c.place_of.ensures.sound.distinct
-
-pub put_row-requires-clause-within : goal.put_row-requires-clause-within
-put_row-requires-clause-within g c =
-    let at = sym c.place_of.ensures.value ∙ c.unwrap-place.ensures in
-    let kept = ap (λ (i : Index). i.rows) c.self.view_is ∙ c.room.ensures.rows in
-    within_others c.args.program.now.rows c.self.inside.rows.entries c.args.self.now.rows c.args.id.0 c.unwrap-place.result at c.requires.others kept
+put_all-requires-clause-once g c =
+    let rows : List (ℕ × Footprint) = c.self.inside.table.rows in
+    let place = c.unwrap-place.result in
+    let row : ℕ × Footprint = (c.args.id.0, footprint c.args.plan) in
+    let sound = subst (λ (l : List (ℕ × Footprint)). AllByRecursion (λ (r : ℕ × Footprint). IsRow r.1) l) (sym c.put.ensures) (all-insert (λ (r : ℕ × Footprint). IsRow r.1) rows place row (footprint-sound c.args.plan) c.self.invariant.sound) in
+    once-on Writers c.put.new.self.rows sound
 
 pub put_all-requires-2-clause-within : goal.put_all-requires-2-clause-within
 put_all-requires-2-clause-within g c =
+    let rows : List (ℕ × Footprint) = c.self.inside.table.rows in
+    let place = c.unwrap-place.result in
+    let row : ℕ × Footprint = (c.args.id.0, footprint c.args.plan) in
     let at = sym c.place_of.ensures.value ∙ c.unwrap-place.ensures in
-    let kept = ap (λ (i : Index). i.rows) c.self.view_is ∙ c.room.ensures.rows in
-    within_others c.args.program.now.rows c.self.inside.rows.entries c.args.self.now.rows c.args.id.0 c.unwrap-place.result at c.requires.others kept
+    let within = within_others c.args.program.now.rows rows c.args.self.now.rows c.args.id.0 place at c.requires.others (ap (λ (i : Index). i.rows) c.self.view_is) in
+    let facts = added rows c.put.new.self.rows place row within c.put.ensures in
+    facts.0
+
+pub put_all-requires-2-clause-lists : goal.put_all-requires-2-clause-lists
+put_all-requires-2-clause-lists g c = λ k.
+    let rows : List (ℕ × Footprint) = c.self.inside.table.rows in
+    let place = c.unwrap-place.result in
+    let row : ℕ × Footprint = (c.args.id.0, footprint c.args.plan) in
+    let at = sym c.place_of.ensures.value ∙ c.unwrap-place.ensures in
+    let within = within_others c.args.program.now.rows rows c.args.self.now.rows c.args.id.0 place at c.requires.others (ap (λ (i : Index). i.rows) c.self.view_is) in
+    let facts = added rows c.put.new.self.rows place row within c.put.ensures in
+    c.self.invariant.readers k ∙ ap (λ (l : List (ℕ × Footprint)). entries Readers l k) (sym facts.1)
+
+pub put_all-requires-2-clause-room : goal.put_all-requires-2-clause-room
+put_all-requires-2-clause-room g c =
+    let rows : List (ℕ × Footprint) = c.self.inside.table.rows in
+    let place = c.unwrap-place.result in
+    let row : ℕ × Footprint = (c.args.id.0, footprint c.args.plan) in
+    let at = sym c.place_of.ensures.value ∙ c.unwrap-place.ensures in
+    let within = within_others c.args.program.now.rows rows c.args.self.now.rows c.args.id.0 place at c.requires.others (ap (λ (i : Index). i.rows) c.self.view_is) in
+    let facts = added rows c.put.new.self.rows place row within c.put.ensures in
+    let can = subst (λ (i : Index). CanAdd i.room (place_in c.args.program.now.rows c.args.id.0) (footprint c.args.plan)) (sym c.self.view_is) c.requires.room in
+    only_there (λ (r : ℕ × Footprint). HasRoomFor c.self.inside.readers r.1.read) c.put.new.self.rows place row facts.2 can.lists.readers
+
+pub put_all-requires-2-clause-once : goal.put_all-requires-2-clause-once
+put_all-requires-2-clause-once g c =
+    let rows : List (ℕ × Footprint) = c.self.inside.table.rows in
+    let place = c.unwrap-place.result in
+    let row : ℕ × Footprint = (c.args.id.0, footprint c.args.plan) in
+    let sound = subst (λ (l : List (ℕ × Footprint)). AllByRecursion (λ (r : ℕ × Footprint). IsRow r.1) l) (sym c.put.ensures) (all-insert (λ (r : ℕ × Footprint). IsRow r.1) rows place row (footprint-sound c.args.plan) c.self.invariant.sound) in
+    once-on Readers c.put.new.self.rows sound
 
 pub invariant_of-self : goal.invariant_of-self
 invariant_of-self g c =
-    let rows : List (ℕ × Footprint) = c.self.inside.rows.entries in
-    let f : Footprint = footprint c.args.plan in
-    let row = c.new.ensures in
-    let all = c.put_row.ensures ∙ ap (λ (x : Footprint). insert rows c.unwrap-place.result (c.args.id.0, x)) row in
-    record {
-      writers = λ k. c.put_all.ensures Writers f (sym (c.writes.ensures ∙ ap writes c.get-2.ensures)) c.self.invariant.writers k ∙ ap (λ (l : List (ℕ × Footprint)). writers l k) (sym all);
-      readers = λ k. c.put_all-2.ensures Readers f (sym (c.reads.ensures ∙ ap reads c.get-3.ensures)) c.self.invariant.readers k ∙ ap (λ (l : List (ℕ × Footprint)). readers l k) (sym all);
-      sound = subst (λ (l : List (ℕ × Footprint)). AllByRecursion (λ (r : ℕ × Footprint). IsRow r.1) l) (sym all)
-          (all-insert (λ (r : ℕ × Footprint). IsRow r.1) rows c.unwrap-place.result (c.args.id.0, f) (footprint-sound c.args.plan) c.self.invariant.sound);
-    }
-
-pub returns-clause-ok : goal.returns-clause-ok
-returns-clause-ok g c =
-    let rows : List (ℕ × Footprint) = c.self.inside.rows.entries in
-    let e : ℕ × Footprint = (c.args.id.0, footprint c.args.plan) in
-    let at = sym c.place_of.ensures.value ∙ c.unwrap-place.ensures in
-    let kept = ap (λ (i : Index). i.rows) c.self.view_is ∙ c.room.ensures.rows in
-    c.put_row.ensures
-    ∙ ap (λ (x : Footprint). insert rows c.unwrap-place.result (c.args.id.0, x)) c.new.ensures
-    ∙ ap (λ (l : List (ℕ × Footprint)). insert l c.unwrap-place.result e) kept
-    ∙ ap (λ (o : Option ℕ). insert c.args.self.now.rows (unwrap_or o 0) e) (sym at)
+    let rows : List (ℕ × Footprint) = c.self.inside.table.rows in
+    let place = c.unwrap-place.result in
+    let row : ℕ × Footprint = (c.args.id.0, footprint c.args.plan) in
+    let sound = subst (λ (l : List (ℕ × Footprint)). AllByRecursion (λ (r : ℕ × Footprint). IsRow r.1) l) (sym c.put.ensures) (all-insert (λ (r : ℕ × Footprint). IsRow r.1) rows place row (footprint-sound c.args.plan) c.self.invariant.sound) in
+    record { writers = c.put_all.ensures; readers = c.put_all-2.ensures; sound = sound }

@@ -5,6 +5,6 @@ use Rattle.paris_depends.proofs.index.Index.keys.Goals as goal
 
 pub returns-clause-few : goal.returns-clause-few
 returns-clause-few c =
-    let sound = holds_of_found IsRow c.self.inside.rows.entries c.args.id.0 c.in-Some.row.now c.self.invariant.sound (sym c.in-Some.ensures.value) in
+    let sound = holds_of_found IsRow c.self.inside.table.rows c.args.id.0 c.in-Some.row.now.1 c.self.invariant.sound (sym c.in-Some.ensures) in
     let same = ap length c.written.ensures in
     omega (arith, same, sound.few)

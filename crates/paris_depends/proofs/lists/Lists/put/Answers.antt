@@ -1,26 +1,29 @@
-use Rattle.std.proofs.Common.{ℕ, ◌<◌, List, [], map, arith, sym, ap, ◌∙◌, cond, nat_eq}
+use Rattle.std.proofs.Common.{ℕ, List, [], length, arith, sym, ap, ◌∙◌, cond, nat_eq}
 use Rattle.std.specs.Prelude.{insert}
-use Rattle.std.specs.Vec.{vec_len, vec_capacity}
-use Rattle.paris_names.specs.declared.ids.RowId.{RowId}
 use Rattle.paris_depends.specs.Lists.{Lists, room_at, list_at}
 use Rattle.paris_depends.specs.ListsInside.{ids_held, room_in}
-use Rattle.paris_depends.proofs.Slots.{get_or-mapped, get_or-mapped_other, held_within, map-insert, set-turned}
+use Rattle.paris_depends.proofs.Slots.{get_or-mapped, get_or-mapped_other, held_within, set-turned}
 use Rattle.paris_depends.proofs.lists.Lists.put.Goals as goal
+
+pub put-requires : goal.put-requires
+put-requires c =
+    let slot : ℕ = c.args.slot in
+    let seen = ap (λ (l : Lists). room_at l slot) c.self.view_is in
+    let long = ap (λ (l : Lists). length (list_at l slot)) c.self.view_is in
+    let within = held_within room_in 0 c.self.inside.lists.items slot (λ none. omega (arith, none, seen, c.requires.room)) in
+    let there = ap length (get_or-mapped ids_held c.self.inside.lists.items slot c.index_mut.result.now [] within c.index_mut.ensures.value) in
+    let room = get_or-mapped room_in c.self.inside.lists.items slot c.index_mut.result.now 0 within c.index_mut.ensures.value in
+    record { there = omega (arith, there, long, c.requires.there); room = omega (arith, room, seen, c.requires.room) }
 
 pub returns-clause-ids : goal.returns-clause-ids
 returns-clause-ids c = λ s.
     let slot : ℕ = c.args.slot in
-    let list : List RowId = c.index_mut.result.now.items in
-    let number = λ (id : RowId). id.0 in
     let seen = ap (λ (l : Lists). room_at l slot) c.self.view_is in
     let within = held_within room_in 0 c.self.inside.lists.items slot (λ none. omega (arith, none, seen, c.requires.room)) in
     let there = get_or-mapped ids_held c.self.inside.lists.items slot c.index_mut.result.now [] within c.index_mut.ensures.value in
-    let room = get_or-mapped room_in c.self.inside.lists.items slot c.index_mut.result.now 0 within c.index_mut.ensures.value in
-    let left : vec_len c.index_mut.result.now < vec_capacity c.index_mut.result.now = omega (arith, room, seen, c.requires.room) in
-    let put = c.insert.ensures.items ∙ ap (λ b. cond b (insert list c.args.i c.args.id) list) (c.insert.ensures.succeeds left) in
-    let made = ap (λ (l : List RowId). map number l) put ∙ map-insert number list c.args.i c.args.id ∙ ap (λ (l : List ℕ). insert l c.args.i c.args.id.0) (sym there) in
-    set-turned ids_held [] c.self.inside.lists.items slot c.insert.new.self (λ l. insert l c.args.i c.args.id.0) s within made
+    let made = c.put.ensures ∙ ap (λ (l : List ℕ). insert l c.args.i c.args.id.0) (sym there) in
+    set-turned ids_held [] c.self.inside.lists.items slot c.put.new.self (λ l. insert l c.args.i c.args.id.0) s within made
     ∙ ap (λ (l : Lists). cond (nat_eq s slot) (insert (list_at l s) c.args.i c.args.id.0) (list_at l s)) c.self.view_is
 
 pub returns-clause-rooms : goal.returns-clause-rooms
-returns-clause-rooms c = λ s other. get_or-mapped_other room_in c.self.inside.lists.items c.args.slot c.insert.new.self s 0 other ∙ ap (λ (l : Lists). room_at l s) c.self.view_is
+returns-clause-rooms c = λ s other. get_or-mapped_other room_in c.self.inside.lists.items c.args.slot c.put.new.self s 0 other ∙ ap (λ (l : Lists). room_at l s) c.self.view_is

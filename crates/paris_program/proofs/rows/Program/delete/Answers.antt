@@ -1,6 +1,5 @@
-use Rattle.std.proofs.Common.{◌≡◌, ℕ, List, ap, sym, ◌∙◌, subst, nat_eq, slice_get}
+use Rattle.std.proofs.Common.{◌≡◌, ℕ, List, ap, sym, ◌∙◌, slice_get}
 use Rattle.std.specs.Prelude.{remove}
-use Rattle.std.specs.List.{IsDistinct}
 use Rattle.paris_program.specs.Program.{Program, ids_of, place_of, row_of}
 use Rattle.paris_program.specs.SharedIds.{ids_held}
 use Rattle.paris_program.proofs.Edits.{ids_removed, keys-remove, row_at_place}
@@ -13,10 +12,10 @@ invariant_of-self-2 g c =
     let place = c.unwrap-place.result in
     let cut = c.remove-row.ensures.items ∙ ap (λ (l : List (ℕ × g.row.T.Denot)). remove l place) c.own.ensures.items in
     let left : ids_held c.remove.new.self ≡ ids_of c.remove-row.new.self.items =
-    c.remove.ensures.ids ∙ ap (λ l. remove l place) (c.own-2.ensures.ids ∙ c.self.invariant.same) ∙ sym (keys-remove rows place) ∙ sym (ap ids_of cut) in
+    c.remove.ensures ∙ ap (λ l. remove l place) (c.own-2.ensures.ids ∙ c.self.invariant.same) ∙ sym (keys-remove rows place) ∙ sym (ap ids_of cut) in
     record {
       same = c.share.ensures ∙ left;
-      sound = ids_removed c.self.inside.next_id place rows c.remove-row.new.self.items c.self.invariant.sound cut (subst (IsDistinct nat_eq) left c.remove.ensures.distinct);
+      sound = ids_removed c.self.inside.next_id place rows c.remove-row.new.self.items c.self.invariant.sound cut;
     }
 
 pub returns-clause-value : goal.returns-clause-value

@@ -43,7 +43,7 @@ returns-clause-joined c =
     ap (λ (l : List Bool). get_or l v false) (get_or-set_at sum t t top [] refl int)
     ∙ c.or_both.ensures.at v (omega (arith, below, ap length et ∙ c.requires.state t ino))
     ∙ ap (λ (l : List Bool). (get_or l v false || b) || get_or carry v false) et in
-    sums_joined L v x b xs ys old new carry count (length-set sum t top ∙ c.add_brought.auto.state ∙ count)
+    sums_joined L v x b xs ys old new (get_or carry v false) count (length-set sum t top ∙ c.add_brought.auto.state ∙ count)
     (subst (λ k. x < 2 ^ k) at added.1.1.0)
     (subst (λ k. x + 2 ^ k * bit_in c.bring.new.out v ≡ sum_shown L xs) at shown)
     ey

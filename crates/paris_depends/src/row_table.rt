@@ -1,0 +1,145 @@
+//! The rows of an index in program order, which copies share until one of them changes them.
+
+ghost use Rattle.std.specs.Prelude.{◌≡◌, ◌<◌, ◌≤◌, [], None, Some, IfOk, IfSome, OnOk, insert, length, nat_eq, remove, slice_get};
+ghost use Rattle.std.specs.List.{IsDistinct};
+ghost use Rattle.std.specs.Option.{option_copied, option_map};
+ghost use Rattle.paris_program.specs.Program.{ids_of, place_of, row_of, with_row};
+ghost use Rattle.paris_depends.specs.Index.{footprint};
+ghost use Rattle.paris_depends.specs.RowTable.{HasPlace, IsOwnAt};
+
+use crate::row_keys::RowKeys;
+use indexmap::IndexMap;
+use paris_blocks::Blocks;
+use paris_instr::SharedPlan;
+use paris_names::RowId;
+use std::alloc::{AllocError, Global};
+use std::marker::Model;
+
+/// Rows in program order, each with an id of its own and its keys. Some may be changed; the others may be shared with copies of the
+/// table. A clause sees the rows, which of them may be changed, where a row can be put in with no more memory, and how many more ids
+/// fit.
+#[derive(Drop)]
+pub(crate) struct RowTable {
+    ids: IndexMap<u64, ()>,
+    rows: Blocks<RowKeys>,
+}
+
+impl Model for RowTable {
+    ghost use Rattle.paris_depends.specs.RowTable.{RowTable as Tabled, tabled, IsTable};
+
+    ghost Value = { Tabled };
+
+    ghost view = { tabled };
+
+    ghost invariant = { IsTable };
+}
+
+impl RowTable {
+    /// No rows. It takes no memory until the first row.
+    pub(crate) fn new(alloc: Global) -> RowTable
+        ensures { result.rows ≡ [] }
+    {
+        RowTable {
+            ids: IndexMap::new(alloc),
+            rows: Blocks::new(alloc),
+        }
+    }
+
+    /// The place of the row with this id, counted from 0. `None` where no row has it.
+    pub(crate) fn place_of(&self, id: RowId) -> Option<usize>
+        ensures value { result ≡ place_of self.now.rows id.0 }
+        ensures within { IfSome result (λ place. place < length self.now.rows) }
+        ensures distinct { IsDistinct nat_eq (ids_of self.now.rows) }
+    {
+        self.ids.get_index_of(&id.0)
+    }
+
+    /// The row at a place, counted from 0.
+    pub(crate) fn at(&self, place: usize) -> &RowKeys
+        requires { place < length self.now.rows }
+        ensures { slice_get self.now.rows place ≡ Some result.now }
+    {
+        self.rows.at(place)
+    }
+
+    /// The row with this id. `None` where there is none.
+    pub(crate) fn row(&self, id: RowId) -> Option<&RowKeys>
+        ensures { option_map (λ r. r.1) (option_copied result) ≡ row_of self.now.rows id.0 }
+    {
+        match self.place_of(id) {
+            Some(place) => Some(self.at(place)),
+            None => None,
+        }
+    }
+
+    /// Makes room for one more row at a place. The rows stay, also where memory is refused.
+    pub(crate) fn room(&mut self, place: usize) -> Result<(), AllocError>
+        requires { place ≤ length self.old.rows }
+        ensures rows { self.new.rows ≡ self.old.rows }
+        ensures ok { OnOk result (HasPlace self.new place) }
+    {
+        self.ids.reserve(1)?;
+        self.rows.room(place)
+    }
+
+    /// Makes the row at a place one that may be changed. The rows stay, also where memory is refused.
+    pub(crate) fn own(&mut self, place: usize) -> Result<(), AllocError>
+        requires { place < length self.old.rows }
+        ensures rows { self.new.rows ≡ self.old.rows }
+        ensures ok { OnOk result (IsOwnAt self.new place) }
+    {
+        self.rows.own(place)
+    }
+
+    /// Puts a row with a new id in at a place, before those that stand there, where there is room for it.
+    pub(crate) fn put(&mut self, place: usize, id: RowId, plan: SharedPlan)
+        requires there { place ≤ length self.old.rows }
+        requires room { HasPlace self.old place }
+        requires new { place_of self.old.rows id.0 ≡ None }
+        ensures { self.new.rows ≡ insert self.old.rows place (id.0, footprint plan) }
+    {
+        // The number of ids is what says that one more row fits.
+        let _few = self.ids.len();
+        match self.ids.insert_before(place, id.0, ()) {
+            Ok(_) => {}
+            Err(_) => unreachable!(),
+        }
+        self.rows.insert(place, RowKeys::new(id, plan));
+    }
+
+    /// Takes the row at a place out, which may be changed. It takes no memory.
+    pub(crate) fn take_out(&mut self, place: usize)
+        requires there { place < length self.old.rows }
+        requires own { IsOwnAt self.old place }
+        ensures { self.new.rows ≡ remove self.old.rows place }
+    {
+        self.ids.shift_remove_index(place);
+        let _row = self.rows.remove(place);
+    }
+
+    /// Gives the row at a place, which may be changed, the keys of another plan. It takes no memory.
+    pub(crate) fn replace(&mut self, place: usize, plan: SharedPlan)
+        requires there { place < length self.old.rows }
+        requires own { IsOwnAt self.old place }
+        ensures { self.new.rows ≡ with_row self.old.rows place (footprint plan) }
+    {
+        let row = self.rows.at_mut(place);
+        row.set_plan(plan);
+    }
+
+    /// Makes the rows ones that copies share. Those for which memory is refused stay as they are.
+    pub(crate) fn share(&mut self)
+        ensures { self.new.rows ≡ self.old.rows }
+    {
+        self.rows.share(0, self.rows.len());
+    }
+
+    /// A table of the same rows. It has the shared rows in common with this one, and copies of the others.
+    pub(crate) fn copy(&self) -> Result<RowTable, AllocError>
+        ensures { IfOk result (λ copy. copy.rows ≡ self.now.rows) }
+    {
+        let ids = self.ids.clone()?;
+        let rows = self.rows.copy()?;
+        Ok(RowTable { ids, rows })
+    }
+}

@@ -1,0 +1,380 @@
+-- Ids in order, and the list that rises by which they are found.
+use Rattle.std.proofs.Common.{◌≡◌, ◌≢◌, rules, ℕ, zero, suc, ◌+◌, ◌-◌, ◌<◌, ◌≤◌, List, [], ◌∷◌, ◌++◌, length, take, drop, map, Bool, true, false, cond, ◌||◌, not, Some, None, get_or, nat_eq, nat_lt, insert, remove, All, AllPairs, Ok, Err, slice_get, refl, sym, ap, ap₂, ◌∙◌, subst, arith}
+use Rattle.std.specs.Prelude.{slice_range}
+use Rattle.std.specs.List.{AllByRecursion, IsDistinct, list_any, position, position_or_len}
+use Rattle.std.specs.Bool.{Decides}
+use Rattle.std.proofs.lemmas.Bool.Decides.{nat_tests}
+use Rattle.std.specs.List.Sorted.{IsBinarySearchResult}
+use Rattle.std.specs.Ordering.{nat_cmp}
+use Rattle.std.proofs.lemmas.List.{take-map, drop-map, map-append, get_or-take, get_or-drop, length-take, length-drop}
+use Rattle.std.proofs.lemmas.List.Sorted.{searched}
+use Rattle.std.proofs.lemmas.List.Elements.{All-map}
+use Rattle.std.proofs.lemmas.List.Folds.{list_any_at, list_any-append}
+use Rattle.std.proofs.lemmas.List.Quantifiers.{all_pairs_push, all_pairs_remove}
+use Rattle.std.proofs.lemmas.List.Sums.{passes_at_first}
+use Rattle.std.proofs.lemmas.Map.Made.{IsDistinct-from_AllPairs}
+use Rattle.std.proofs.lemmas.Simd.{map-map}
+use Rattle.std.proofs.lemmas.Option.{get_or_from_slice_get, slice_get_within}
+use Rattle.paris_program.specs.Ids.{IsIndex, after_insert, after_remove, place_among}
+
+same_number : (m n : ℕ) → nat_eq m n ≡ true → m ≡ n
+same_number m n e = grind (arith, nat_tests)
+
+-- numbers that rise are as far apart as their places at least
+far_apart : (xs : List ℕ) → AllPairs (λ x y. x < y) xs → (n i j : ℕ) → j ≡ i + n → j < length xs → get_or xs i 0 + n ≤ get_or xs j 0
+far_apart xs rises zero i j at within =
+    let same : i ≡ j = omega (arith, at) in
+    rw (← same) (omega arith)
+far_apart xs rises (suc n) i j at within =
+    let before = far_apart xs rises n i (i + n) refl (omega (arith, at, within)) in
+    let step : get_or xs (i + n) 0 < get_or xs j 0 = rises (i + n) j 0 (omega (arith, at)) within in
+    omega (arith, before, step)
+
+-- where a number can stand among numbers that rise
+pub stands_between : (xs : List ℕ) (x k : ℕ) → AllPairs (λ x y. x < y) xs → slice_get xs k ≡ Some x → (k < length xs) × (get_or xs 0 0 + k ≤ x) × (x + (length xs - 1 - k) ≤ get_or xs (length xs - 1) 0)
+stands_between xs x k rises at =
+    let within = slice_get_within xs k x at in
+    let is = get_or_from_slice_get xs k x 0 at in
+    let low = far_apart xs rises k 0 k (omega arith) within in
+    let high = far_apart xs rises (length xs - 1 - k) k (length xs - 1) (omega (arith, within)) (omega (arith, within)) in
+    (within, omega (arith, is, low), omega (arith, is, high))
+
+-- numbers that rise do not fall
+pub not_falling : (xs : List ℕ) → AllPairs (λ x y. x < y) xs → (i j : ℕ) → i ≤ j → j < length xs → get_or xs i 0 ≤ get_or xs j 0
+not_falling xs rises i j le within = omega (arith, far_apart xs rises (j - i) i j (omega (arith, le)) within)
+
+-- a number that stands nowhere is none of them
+pub nowhere : (x : ℕ) (xs : List ℕ) → ((k : ℕ) → slice_get xs k ≡ Some x → ⊥) → list_any (nat_eq x) xs ≡ false
+nowhere x [] never = refl
+nowhere x (y ∷ ys) never = by_test (nowhere x ys (λ k at. never (suc k) at)) (nat_eq x y) refl
+  where
+    by_test : list_any (nat_eq x) ys ≡ false → (b : Bool) → nat_eq x y ≡ b → (b || list_any (nat_eq x) ys) ≡ false
+    by_test later true e = absurd (never 0 (ap Some (sym (same_number x y e))))
+    by_test later false e = later
+
+module _ {X : Type 0} (p : X → Bool) where
+  -- where one passes, the first that does stands within
+  place_within : (xs : List X) → list_any p xs ≡ true → position_or_len p xs < length xs
+  place_within [] any = absurd (cc)
+  place_within (x ∷ xs) any = by_test (place_within xs) (p x) any
+    where
+      by_test : (list_any p xs ≡ true → position_or_len p xs < length xs) → (b : Bool) → (b || list_any p xs) ≡ true → cond (not b) (1 + position_or_len p xs) 0 < suc (length xs)
+      by_test later true e = omega arith
+      by_test later false e = omega (arith, later e)
+
+  place_at_most : (xs : List X) → position_or_len p xs ≤ length xs
+  place_at_most [] = omega arith
+  place_at_most (x ∷ xs) = by_test (place_at_most xs) (p x)
+    where
+      by_test : position_or_len p xs ≤ length xs → (b : Bool) → cond (not b) (1 + position_or_len p xs) 0 ≤ suc (length xs)
+      by_test later true = omega arith
+      by_test later false = omega (arith, later)
+
+  place_past : (xs : List X) → list_any p xs ≡ false → position_or_len p xs ≡ length xs
+  place_past [] none = refl
+  place_past (x ∷ xs) none = by_test (place_past xs) (p x) none
+    where
+      by_test : (list_any p xs ≡ false → position_or_len p xs ≡ length xs) → (b : Bool) → (b || list_any p xs) ≡ false → cond (not b) (1 + position_or_len p xs) 0 ≡ suc (length xs)
+      by_test later true e = absurd (cc)
+      by_test later false e = omega (arith, later e)
+
+  -- none of those that pass no test passes it
+  fails_at : (xs : List X) (k : ℕ) (d : X) → list_any p xs ≡ false → k < length xs → p (get_or xs k d) ≡ false
+  fails_at [] k d none within = absurd (omega (arith, within))
+  fails_at (x ∷ xs) k d none within = by_test (λ k none within. fails_at xs k d none within) (p x) refl none k within
+    where
+      by_test : ((k : ℕ) → list_any p xs ≡ false → k < length xs → p (get_or xs k d) ≡ false) → (b : Bool) → p x ≡ b → (b || list_any p xs) ≡ false → (k : ℕ) → k < suc (length xs) → p (get_or (x ∷ xs) k d) ≡ false
+      by_test later true e none k within = absurd (cc)
+      by_test later false e none zero within = e
+      by_test later false e none (suc k) within = later k none (omega (arith, within))
+
+  -- one that passes no test is put in
+  place_after_put : (xs : List X) (at : ℕ) (y : X) → p y ≡ false → at ≤ length xs → position_or_len p (insert xs at y) ≡ after_insert at (position_or_len p xs)
+  place_after_put xs zero y other within = ap (λ b. cond (not b) (1 + position_or_len p xs) 0) other ∙ up (position_or_len p xs)
+    where
+      up : (n : ℕ) → 1 + n ≡ after_insert 0 n
+      up n = grind (arith, nat_tests)
+  place_after_put [] (suc at) y other within = absurd (omega (arith, within))
+  place_after_put (x ∷ xs) (suc at) y other within = by_test (place_after_put xs at y other (omega (arith, within))) (p x)
+    where
+      further : (n : ℕ) → 1 + after_insert at n ≡ after_insert (suc at) (1 + n)
+      further n = grind (arith, nat_tests)
+
+      by_test : position_or_len p (insert xs at y) ≡ after_insert at (position_or_len p xs) → (b : Bool) → cond (not b) (1 + position_or_len p (insert xs at y)) 0 ≡ after_insert (suc at) (cond (not b) (1 + position_or_len p xs) 0)
+      by_test later true = grind (arith, nat_tests)
+      by_test later false = ap (λ n. 1 + n) later ∙ further (position_or_len p xs)
+
+  -- the only one that passes it is put in
+  place_put : (xs : List X) (at : ℕ) (y : X) → p y ≡ true → list_any p xs ≡ false → at ≤ length xs → position_or_len p (insert xs at y) ≡ at
+  place_put xs zero y one none within = ap (λ b. cond (not b) (1 + position_or_len p xs) 0) one
+  place_put [] (suc at) y one none within = absurd (omega (arith, within))
+  place_put (x ∷ xs) (suc at) y one none within = by_test (λ none. place_put xs at y one none (omega (arith, within))) (p x) none
+    where
+      by_test : (list_any p xs ≡ false → position_or_len p (insert xs at y) ≡ at) → (b : Bool) → (b || list_any p xs) ≡ false → cond (not b) (1 + position_or_len p (insert xs at y)) 0 ≡ suc at
+      by_test later true e = absurd (cc)
+      by_test later false e = omega (arith, later e)
+
+  -- one that passes no test is taken out
+  place_after_take : (xs : List X) (at : ℕ) (d : X) → p (get_or xs at d) ≡ false → at < length xs → position_or_len p (remove xs at) ≡ after_remove at (position_or_len p xs)
+  place_after_take [] at d other within = absurd (omega (arith, within))
+  place_after_take (x ∷ xs) zero d other within = down (position_or_len p xs) ∙ sym (ap (λ b. after_remove 0 (cond (not b) (1 + position_or_len p xs) 0)) other)
+    where
+      down : (n : ℕ) → n ≡ after_remove 0 (1 + n)
+      down n = grind (arith, nat_tests)
+  place_after_take (x ∷ xs) (suc at) d other within = by_test (place_after_take xs at d other (omega (arith, within))) (p x)
+    where
+      further : (n : ℕ) → 1 + after_remove at n ≡ after_remove (suc at) (1 + n)
+      further n = grind (arith, nat_tests)
+
+      by_test : position_or_len p (remove xs at) ≡ after_remove at (position_or_len p xs) → (b : Bool) → cond (not b) (1 + position_or_len p (remove xs at)) 0 ≡ after_remove (suc at) (cond (not b) (1 + position_or_len p xs) 0)
+      by_test later true = grind (arith, nat_tests)
+      by_test later false = ap (λ n. 1 + n) later ∙ further (position_or_len p xs)
+
+  any_put : (xs : List X) (at : ℕ) (y : X) → list_any p (insert xs at y) ≡ (list_any p xs || p y)
+  any_put xs zero y = swap (p y) (list_any p xs)
+    where
+      swap : (a b : Bool) → (a || b) ≡ (b || a)
+      swap true true = refl
+      swap true false = refl
+      swap false true = refl
+      swap false false = refl
+  any_put [] (suc at) y = last (p y)
+    where
+      last : (a : Bool) → (a || false) ≡ a
+      last true = refl
+      last false = refl
+  any_put (x ∷ xs) (suc at) y = by_test (any_put xs at y) (p x)
+    where
+      by_test : list_any p (insert xs at y) ≡ (list_any p xs || p y) → (b : Bool) → (b || list_any p (insert xs at y)) ≡ ((b || list_any p xs) || p y)
+      by_test later true = refl
+      by_test later false = later
+
+  any_left : (xs : List X) (at : ℕ) (d : X) → p (get_or xs at d) ≡ false → at < length xs → list_any p (remove xs at) ≡ list_any p xs
+  any_left [] at d other within = absurd (omega (arith, within))
+  any_left (x ∷ xs) zero d other within = sym (ap (λ b. b || list_any p xs) other)
+  any_left (x ∷ xs) (suc at) d other within = ap (λ b. p x || b) (any_left xs at d other (omega (arith, within)))
+
+same_both : (m n : ℕ) → nat_eq m n ≡ nat_eq n m
+same_both m n = grind (arith, nat_tests)
+
+-- each of two differs from the other
+pub none_of : (x : ℕ) (xs : List ℕ) → AllByRecursion (λ y. nat_eq x y ≡ false) xs → list_any (nat_eq x) xs ≡ false
+none_of x [] all = refl
+none_of x (y ∷ ys) all = ap (λ b. b || list_any (nat_eq x) ys) all.0 ∙ none_of x ys all.1
+
+differs_at : (x : ℕ) (xs : List ℕ) (k : ℕ) → AllByRecursion (λ y. nat_eq x y ≡ false) xs → k < length xs → nat_eq x (get_or xs k 0) ≡ false
+differs_at x [] k all within = absurd (omega (arith, within))
+differs_at x (y ∷ ys) zero all within = all.0
+differs_at x (y ∷ ys) (suc k) all within = differs_at x ys k all.1 (omega (arith, within))
+
+-- what is taken out of distinct ids is gone
+gone : (xs : List ℕ) (at : ℕ) → IsDistinct nat_eq xs → at < length xs → list_any (nat_eq (get_or xs at 0)) (remove xs at) ≡ false
+unfolding IsDistinct
+gone [] at distinct within = absurd (omega (arith, within))
+gone (x ∷ xs) zero distinct within = none_of x xs distinct.0
+gone (x ∷ xs) (suc at) distinct within =
+    let other = same_both (get_or xs at 0) x ∙ differs_at x xs at distinct.0 (omega (arith, within)) in
+    ap (λ b. b || list_any (nat_eq (get_or xs at 0)) (remove xs at)) other ∙ gone xs at distinct.1 (omega (arith, within))
+
+map_same : (f g : ℕ → ℕ) (xs : List ℕ) → ((k : ℕ) → k < length xs → f (get_or xs k 0) ≡ g (get_or xs k 0)) → map f xs ≡ map g xs
+map_same f g [] same = refl
+map_same f g (x ∷ xs) same = ap₂ (λ y ys. y ∷ ys) (same 0 (omega arith)) (map_same f g xs (λ k within. same (suc k) (omega (arith, within))))
+
+different : (x y : ℕ) → x < y → x ≢ y
+different x y lt = λ same. absurd (omega (arith, lt, same))
+
+decided : (x y : ℕ) → Decides (nat_eq x y) (x ≡ y)
+decided x y = search rules
+
+-- numbers that rise are distinct
+rising_distinct : (xs : List ℕ) → AllPairs (λ x y. x < y) xs → IsDistinct nat_eq xs
+rising_distinct xs rises = IsDistinct-from_AllPairs decided xs (λ i j d before within. different _ _ (rises i j d before within))
+
+same_self : (n : ℕ) → nat_eq n n ≡ true
+same_self n = grind (arith, nat_tests)
+
+apart_left : (x : ℕ) (xs : List ℕ) (at : ℕ) → AllByRecursion (λ y. nat_eq x y ≡ false) xs → AllByRecursion (λ y. nat_eq x y ≡ false) (remove xs at)
+apart_left x [] zero apart = tt
+apart_left x [] (suc at) apart = tt
+apart_left x (y ∷ ys) zero apart = apart.1
+apart_left x (y ∷ ys) (suc at) apart = (apart.0, apart_left x ys at apart.1)
+
+pub distinct_left : (xs : List ℕ) (at : ℕ) → IsDistinct nat_eq xs → IsDistinct nat_eq (remove xs at)
+unfolding IsDistinct
+distinct_left [] zero distinct = tt
+distinct_left [] (suc at) distinct = tt
+distinct_left (x ∷ xs) zero distinct = distinct.1
+distinct_left (x ∷ xs) (suc at) distinct = (apart_left x xs at distinct.0, distinct_left xs at distinct.1)
+
+or_left : (a b : Bool) → (a || b) ≡ false → a ≡ false
+or_left true b e = absurd (cc)
+or_left false b e = refl
+
+or_right : (a b : Bool) → (a || b) ≡ false → b ≡ false
+or_right true b e = absurd (cc)
+or_right false b e = e
+
+or_false : (a : Bool) → (a || false) ≡ a
+or_false true = refl
+or_false false = refl
+
+all_of : (x : ℕ) (xs : List ℕ) → list_any (nat_eq x) xs ≡ false → AllByRecursion (λ y. nat_eq x y ≡ false) xs
+all_of x [] none = tt
+all_of x (y ∷ ys) none = (or_left (nat_eq x y) (list_any (nat_eq x) ys) none, all_of x ys (or_right (nat_eq x y) (list_any (nat_eq x) ys) none))
+
+pub distinct_put : (xs : List ℕ) (at y : ℕ) → IsDistinct nat_eq xs → list_any (nat_eq y) xs ≡ false → IsDistinct nat_eq (insert xs at y)
+unfolding IsDistinct
+distinct_put xs zero y distinct none = (all_of y xs none, distinct)
+distinct_put [] (suc at) y distinct none = (tt, tt)
+distinct_put (x ∷ xs) (suc at) y distinct none =
+    let other = same_both x y ∙ or_left (nat_eq y x) (list_any (nat_eq y) xs) none in
+    let apart = any_put (nat_eq x) xs at y ∙ ap₂ (λ a b. a || b) (none_of x xs distinct.0) other in
+    (all_of x (insert xs at y) apart, distinct_put xs at y distinct.1 (or_right (nat_eq y x) (list_any (nat_eq y) xs) none))
+
+below_all : (id x : ℕ) (xs : List ℕ) → All (λ other. other < id) xs → list_any (nat_eq x) xs ≡ true → x < id
+below_all id x xs below any =
+    let first = position_or_len (nat_eq x) xs in
+    let inside = place_within (nat_eq x) xs any in
+    let same = same_number x (get_or xs first 0) (passes_at_first (nat_eq x) xs 0 inside) in
+    let less : get_or xs first 0 < id = below first 0 inside in
+    omega (arith, same, less)
+
+get_map : (f : ℕ → ℕ) (xs : List ℕ) (k d : ℕ) → k < length xs → get_or (map f xs) k d ≡ f (get_or xs k 0)
+get_map f [] k d within = absurd (omega (arith, within))
+get_map f (x ∷ xs) zero d within = refl
+get_map f (x ∷ xs) (suc k) d within = get_map f xs k d (omega (arith, within))
+
+map_push : (f : ℕ → ℕ) (xs : List ℕ) (y : ℕ) → map f (xs ++ y ∷ []) ≡ map f xs ++ f y ∷ []
+map_push f [] y = refl
+map_push f (x ∷ xs) y = ap (λ l. f x ∷ l) (map_push f xs y)
+
+map_remove : (f : ℕ → ℕ) (xs : List ℕ) (i : ℕ) → map f (remove xs i) ≡ remove (map f xs) i
+map_remove f xs i = rw (map-append, take-map, drop-map) refl
+
+test_less : (m n : ℕ) → m < n → nat_lt m n ≡ true
+test_less m n less = grind (arith, nat_tests)
+
+test_same : (n : ℕ) → nat_lt n n ≡ false
+test_same n = grind (arith, nat_tests)
+
+-- an id that is there is found by its index
+pub found_at : (sorted places order : List ℕ) (id k d : ℕ) → IsIndex sorted places order → slice_get sorted k ≡ Some id → Some (get_or places k d) ≡ position (nat_eq id) order
+found_at sorted places order id k d is here =
+    let within = slice_get_within sorted k id here in
+    let there = get_or_from_slice_get sorted k id 0 here in
+    let place = ap (λ l. get_or l k d) is.at ∙ get_map (place_among order) sorted k d within ∙ ap (place_among order) there in
+    let any = sym (is.same id) ∙ list_any_at (nat_eq id) sorted k 0 within (ap (nat_eq id) there ∙ same_self id) in
+    let inside = place_within (nat_eq id) order any in
+    ap Some place ∙ sym (ap (λ b. cond b (Some (place_among order id)) None) (test_less (place_among order id) (length order) inside))
+
+pub found_within : (sorted places order : List ℕ) (id k d : ℕ) → IsIndex sorted places order → slice_get sorted k ≡ Some id → get_or places k d < length order
+found_within sorted places order id k d is here =
+    let within = slice_get_within sorted k id here in
+    let there = get_or_from_slice_get sorted k id 0 here in
+    let place = ap (λ l. get_or l k d) is.at ∙ get_map (place_among order) sorted k d within ∙ ap (place_among order) there in
+    let any = sym (is.same id) ∙ list_any_at (nat_eq id) sorted k 0 within (ap (nat_eq id) there ∙ same_self id) in
+    let inside = place_within (nat_eq id) order any in
+    omega (arith, place, inside)
+
+-- one that is not there has no place
+pub not_found : (sorted places order : List ℕ) (id : ℕ) → IsIndex sorted places order → list_any (nat_eq id) sorted ≡ false → None ≡ position (nat_eq id) order
+not_found sorted places order id is none =
+    let past = place_past (nat_eq id) order (sym (is.same id) ∙ none) in
+    sym (ap (λ n. cond (nat_lt n (length order)) (Some n) None) past ∙ ap (λ b. cond b (Some (length order)) None) (test_same (length order)))
+
+-- places are no more than the ids
+pub places_fit : (sorted places order : List ℕ) (n : ℕ) → IsIndex sorted places order → length order < n → All (λ place. place < n) places
+places_fit sorted places order n is few = subst (All (λ place. place < n)) (sym is.at) (All-map (λ place. place < n) (place_among order) sorted (λ k d within. omega (arith, few, place_at_most (nat_eq (get_or sorted k d)) order)))
+
+-- of no ids
+pub no_index : (sorted places order : List ℕ) → sorted ≡ [] → places ≡ [] → order ≡ [] → IsIndex sorted places order
+unfolding IsDistinct
+no_index sorted places order s p o = rw (s, p, o) record { rises = λ i j d before within. absurd (omega (arith, within)); same = λ id. refl; at = refl; distinct = tt }
+
+-- a greater id is put in
+pub inserted : (sorted places order : List ℕ) (at id : ℕ) (more moved longer : List ℕ) → IsIndex sorted places order → All (λ other. other < id) order → at ≤ length order
+    → more ≡ sorted ++ id ∷ [] → moved ≡ map (after_insert at) places ++ at ∷ [] → longer ≡ insert order at id → IsIndex more moved longer
+inserted sorted places order at id more moved longer is below within s p o =
+    let none = nowhere id order (λ k here. (let less : get_or order k 0 < id = below k 0 (slice_get_within order k id here) in absurd (omega (arith, less, get_or_from_slice_get order k id 0 here)))) in
+    let apart = is.same id ∙ none in
+    let there : (k d : ℕ) → k < length sorted → list_any (nat_eq (get_or sorted k d)) order ≡ true = λ k d inside. sym (is.same (get_or sorted k d)) ∙ list_any_at (nat_eq (get_or sorted k d)) sorted k d inside (same_self (get_or sorted k d)) in
+    let others = map_same (λ x. after_insert at (place_among order x)) (place_among (insert order at id)) sorted
+    (λ k inside. sym (place_after_put (nat_eq (get_or sorted k 0)) order at id (same_both (get_or sorted k 0) id ∙ fails_at (nat_eq id) sorted k 0 apart inside) within)) in
+    let put = place_put (nat_eq id) order at id (same_self id) none within in
+    rw (s, o) record {
+      rises = all_pairs_push (λ x y. x < y) sorted id is.rises (λ k d inside. below_all id (get_or sorted k d) order below (there k d inside));
+      same = λ x. list_any-append (nat_eq x) sorted (id ∷ []) ∙ ap₂ (λ a b. a || b) (is.same x) (or_false (nat_eq x id)) ∙ sym (any_put (nat_eq x) order at id);
+      at = p ∙ ap₂ (λ l n. l ++ n ∷ []) (ap (map (after_insert at)) is.at ∙ map-map (after_insert at) (place_among order) sorted ∙ others) (sym put) ∙ sym (map_push (place_among (insert order at id)) sorted id);
+      distinct = distinct_put order at id is.distinct none;
+    }
+
+same_left : (sorted order : List ℕ) (index at x id : ℕ) → IsDistinct nat_eq sorted → IsDistinct nat_eq order → index < length sorted → at < length order → get_or sorted index 0 ≡ id → get_or order at 0 ≡ id
+    → list_any (nat_eq x) sorted ≡ list_any (nat_eq x) order → list_any (nat_eq x) (remove sorted index) ≡ list_any (nat_eq x) (remove order at)
+same_left sorted order index at x id rises distinct inside within is here same = by_test (nat_eq x id) refl
+  where
+    by_test : (b : Bool) → nat_eq x id ≡ b → list_any (nat_eq x) (remove sorted index) ≡ list_any (nat_eq x) (remove order at)
+    by_test true e =
+        let one = same_number x id e in
+        (ap (λ y. list_any (nat_eq y) (remove sorted index)) (one ∙ sym is) ∙ gone sorted index rises inside) ∙ sym (ap (λ y. list_any (nat_eq y) (remove order at)) (one ∙ sym here) ∙ gone order at distinct within)
+    by_test false e = any_left (nat_eq x) sorted index 0 (ap (nat_eq x) is ∙ e) inside ∙ same ∙ sym (any_left (nat_eq x) order at 0 (ap (nat_eq x) here ∙ e) within)
+
+-- one is taken out
+pub removed : (sorted places order : List ℕ) (index at id : ℕ) (fewer moved shorter : List ℕ) → IsIndex sorted places order → slice_get sorted index ≡ Some id → get_or order at 0 ≡ id → at < length order
+    → fewer ≡ remove sorted index → moved ≡ map (after_remove at) (remove places index) → shorter ≡ remove order at → IsIndex fewer moved shorter
+removed sorted places order index at id fewer moved shorter is found here within s p o =
+    let inside = slice_get_within sorted index id found in
+    let there = get_or_from_slice_get sorted index id 0 found in
+    let rising = rising_distinct sorted is.rises in
+    let left = remove sorted index in
+    let apart : list_any (nat_eq id) left ≡ false = ap (λ y. list_any (nat_eq y) left) (sym there) ∙ gone sorted index rising inside in
+    let others = map_same (λ x. after_remove at (place_among order x)) (place_among (remove order at)) left
+    (λ k inner. sym (place_after_take (nat_eq (get_or left k 0)) order at 0 (ap (nat_eq (get_or left k 0)) here ∙ same_both (get_or left k 0) id ∙ fails_at (nat_eq id) left k 0 apart inner) within)) in
+    rw (s, o) record {
+      rises = all_pairs_remove (λ x y. x < y) sorted index inside is.rises;
+      same = λ x. same_left sorted order index at x id rising is.distinct inside within there here (is.same x);
+      at = p ∙ ap (map (after_remove at)) (ap (λ l. remove l index) is.at ∙ sym (map_remove (place_among order) sorted index)) ∙ map-map (after_remove at) (place_among order) left ∙ others;
+      distinct = distinct_left order at is.distinct;
+    }
+
+-- what is written back over the front of a list
+take_front : (front rest : List ℕ) → take (length front) (front ++ rest) ≡ front
+take_front [] rest = refl
+take_front (x ∷ front) rest = ap (λ l. x ∷ l) (take_front front rest)
+
+pub written_over : (front rest : List ℕ) (n : ℕ) → length front ≡ n → take n (front ++ rest) ≡ front
+written_over front rest n long = ap (λ m. take m (front ++ rest)) (sym long) ∙ take_front front rest
+
+get_part : (xs : List ℕ) (a b i d : ℕ) → i < b - a → get_or (slice_range xs a b) i d ≡ get_or xs (a + i) d
+get_part xs a b i d less = get_or-take (b - a) (drop a xs) i d less ∙ get_or-drop a xs i d
+
+less_from : (m n : ℕ) → nat_lt m n ≡ true → m < n
+less_from m n e = grind (arith, nat_tests)
+
+most_from : (m n : ℕ) → nat_lt m n ≡ false → n ≤ m
+most_from m n e = grind (arith, nat_tests)
+
+no_place : (i k v x : ℕ) → (k < i → v < x) → (i ≤ k → x < v) → v ≡ x → ⊥
+no_place i k v x low high same = by_test (nat_lt k i) refl
+  where
+    by_test : (b : Bool) → nat_lt k i ≡ b → ⊥
+    by_test true e = (let less = low (less_from k i e) in absurd (omega (arith, same, less)))
+    by_test false e = (let more = high (most_from k i e) in absurd (omega (arith, same, more)))
+
+-- a number that a search does not find in the part where it can stand is none of them
+pub not_in_part : (xs : List ℕ) (x a b i : ℕ) → AllPairs (λ x y. x < y) xs → b ≤ length xs → IsBinarySearchResult (λ y. nat_cmp y x) (slice_range xs a b) (Err i)
+    → ((k : ℕ) → slice_get xs k ≡ Some x → (a ≤ k) × (k < b)) → list_any (nat_eq x) xs ≡ false
+not_in_part xs x a b i rises within missed outside =
+    let part = slice_range xs a b in
+    let cut = length-take (b - a) (drop a xs) in
+    let kept = length-drop a xs in
+    let up : (m n : ℕ) → m ≤ n → n < length part → get_or part m 0 ≤ get_or part n 0 =
+    λ m n le inner. omega (arith, get_part xs a b m 0 (omega (arith, le, inner, cut)), get_part xs a b n 0 (omega (arith, inner, cut)), not_falling xs rises (a + m) (a + n) (omega (arith, le)) (omega (arith, inner, cut, kept, within))) in
+    let split = searched part x (Err i) missed up in
+    nowhere x xs (λ k here.
+    let span = outside k here in
+    let from = span.0 in
+    let to = span.1 in
+    let inner : k - a < length part = omega (arith, cut, kept, from, to, within) in
+    let there : a + (k - a) ≡ k = omega (arith, from) in
+    let is = get_part xs a b (k - a) 0 (omega (arith, from, to)) ∙ ap (λ j. get_or xs j 0) there ∙ get_or_from_slice_get xs k x 0 here in
+    no_place i (k - a) (get_or part (k - a) 0) x (λ less. split.1 (k - a) less) (λ most. split.2 (k - a) most inner) is)

@@ -1,0 +1,14 @@
+use Rattle.std.proofs.Common.{◌≡◌, ℕ, ◌+◌, ◌*◌, ◌^◌, ◌<◌, drop, take}
+use Rattle.paris_model.specs.Store.{bit}
+use Rattle.paris_plane.specs.Bits.{word_bit}
+use Rattle.paris_field.specs.Numbers.{number_at}
+use Rattle.paris_scan.specs.Columns.{LengthsStay, OthersStay}
+use Rattle.paris_scan.proofs.blocks.add_block.Given as goal
+
+abbrev pub invariant-loop-k : goal.invariant-loop-k
+invariant-loop-k l = record {
+  long : LengthsStay l.fn.totals l.totals;
+  others : OthersStay (64 * l.to) 64 l.fn.totals l.totals;
+  exact : (i : ℕ) → i < 64 → number_at (take l.k l.totals) (64 * l.to + i) + 2 ^ l.k * bit (word_bit l.carry i) ≡ number_at (take l.k l.state) (64 * l.from + i) + number_at (take l.k l.fn.totals) (64 * l.to + i);
+  high : drop l.k l.totals ≡ drop l.k l.fn.totals;
+}
