@@ -1,30 +1,15 @@
 -- A row whose id is new stands among the others.
-use Rattle.std.proofs.Common.{◌≡◌, ℕ, zero, suc, ◌+◌, ◌≤◌, List, [], ◌∷◌, ◌++◌, length, take, false, cond, Option, Some, None, nat_eq, refl, sym, ap, ◌∙◌, arith, slice_get, subst}
-use Rattle.std.proofs.lemmas.Bool.Decides.{nat_tests}
-use Rattle.std.proofs.lemmas.List.{take_more}
+use Rattle.std.proofs.Common.{◌≡◌, ℕ, zero, suc, ◌≤◌, List, [], ◌∷◌, length, false, cond, Option, Some, None, nat_eq, refl, sym, ap, ◌∙◌, arith, slice_get, subst}
 use Rattle.std.proofs.lemmas.List.Edits.{length-remove}
-use Rattle.std.proofs.lemmas.Option.{get_or_from_slice_get, slice_get_within}
+use Rattle.std.proofs.lemmas.Option.{slice_get_within}
 use Rattle.std.specs.List.{AllByRecursion, IsDistinct}
 use Rattle.std.specs.Option.{option_map, unwrap_or}
-use Rattle.std.specs.Prelude.{insert, remove}
-use Rattle.indexmap.specs.IndexMap.{IndexMap, insert_entry, insert_index, index_before, move_index}
-use Rattle.indexmap.proofs.MapLemmas.{insert_entry-absent, or_len-absent}
-use Rattle.indexmap.proofs.MoveLemmas.{push_moved}
+use Rattle.std.specs.Prelude.{remove}
 use Rattle.paris_program.specs.Program.{ids_of, place_in, place_of}
-use Rattle.paris_program.proofs.CallerLemmas.{apart_there, place_of-first, row_there}
+use Rattle.paris_program.proofs.CallerLemmas.{place_of-first, row_there}
 use Rattle.paris_depends.proofs.Places.{apart_from, length-ids}
 
 module _ {T : Type 0} where
-  -- the map that takes in a row under a new id holds it at its place
-  pub inserted : {S : Type 0} (m : IndexMap ℕ T S) (id i at : ℕ) (row : T) → place_of m.entries id ≡ None → i ≤ length m.entries → at ≡ index_before (insert_index nat_eq m id) i
-      → move_index (insert_entry nat_eq m.entries id row) (insert_index nat_eq m id) at ≡ insert m.entries i (id, row)
-  inserted m id i at row new within lands =
-      let apart = apart_there m.entries id new in
-      let last : insert_index nat_eq m id ≡ length m.entries = or_len-absent (nat_eq id) m.entries apart in
-      let there : index_before (length m.entries) i ≡ i = grind (arith, nat_tests) in
-      let stays : at ≡ i = lands ∙ ap (λ (k : ℕ). index_before k i) last ∙ there in
-      rw (last, stays, insert_entry-absent nat_eq id row m.entries apart) (push_moved m.entries (id, row) i within)
-
   -- an id that is none of the ids has no place
   pub no_place : (rows : List (ℕ × T)) (id : ℕ) → AllByRecursion (λ i. nat_eq id i ≡ false) (ids_of rows) → place_of rows id ≡ None
   no_place [] id apart = refl
@@ -32,21 +17,6 @@ module _ {T : Type 0} where
       place_of-first r rows id
       ∙ ap (λ b. cond b (Some 0) (option_map suc (place_of rows id))) apart.0
       ∙ ap (option_map suc) (no_place rows id apart.1)
-
-  -- the ids of the rows before one are others
-  taken-apart : (rows : List (ℕ × T)) (i id : ℕ) (row : T) → IsDistinct nat_eq (ids_of rows) → slice_get rows i ≡ Some (id, row) → AllByRecursion (λ j. nat_eq id j ≡ false) (ids_of (take i rows))
-  unfolding IsDistinct
-  taken-apart rows zero id row distinct at = tt
-  taken-apart [] (suc i) id row distinct at = absurd (cc)
-  taken-apart (r ∷ rows) (suc i) id row distinct at = (apart_from r.0 rows i (id, row) distinct.0 at, taken-apart rows i id row distinct.1 at)
-
-  -- the first rows, and one more
-  pub taken-more : (rows first : List (ℕ × T)) (i id : ℕ) (row : T) → IsDistinct nat_eq (ids_of rows) → slice_get rows i ≡ Some (id, row) → first ≡ take i rows → insert_entry nat_eq first id row ≡ take (i + 1) rows
-  taken-more rows first i id row distinct at e =
-      ap (λ (l : List (ℕ × T)). insert_entry nat_eq l id row) e
-      ∙ insert_entry-absent nat_eq id row (take i rows) (taken-apart rows i id row distinct at)
-      ∙ ap (λ (r : ℕ × T). take i rows ++ r ∷ []) (sym (get_or_from_slice_get rows i (id, row) (id, row) at))
-      ∙ sym (take_more rows i (id, row) (slice_get_within rows i (id, row) at))
 
   -- the ids of the other rows are others
   removed-apart : (rows : List (ℕ × T)) (place id : ℕ) (row : T) → IsDistinct nat_eq (ids_of rows) → slice_get rows place ≡ Some (id, row) → AllByRecursion (λ i. nat_eq id i ≡ false) (remove (ids_of rows) place)

@@ -1,6 +1,5 @@
 -- The rows of an index with their ids, which copies may share.
 use Rattle.std.specs.Prelude.{◌≡◌, ℕ, ◌<◌, List, Bool, true, Some, slice_get}
-use Rattle.indexmap.specs.IndexMap.{keys, spare}
 use Rattle.paris_program.specs.Program.{ids_of}
 use Rattle.paris_depends.specs.Index.{Footprint}
 use Rattle.paris_depends.specs.declared.row_table.RowTable.TheInside.{Inside}
@@ -14,11 +13,11 @@ pub record RowTable : Type 0 where
   pub spare : ℕ
 
 abbrev pub tabled : Inside → RowTable
-tabled t = record { rows = t.rows.items; own = t.rows.own; room = t.rows.room; spare = spare t.ids }
+tabled t = record { rows = t.rows.items; own = t.rows.own; room = t.rows.room; spare = t.ids.spare }
 
 -- the ids are those of the rows
 abbrev pub IsTable : Inside → Type 0
-IsTable t = keys t.ids ≡ ids_of t.rows.items
+IsTable t = t.ids.ids ≡ ids_of t.rows.items
 
 -- the row at a place may be changed
 abbrev pub IsOwnAt : RowTable → ℕ → Type 0

@@ -8,10 +8,10 @@ ghost use Rattle.paris_depends.specs.Index.{footprint};
 ghost use Rattle.paris_depends.specs.RowTable.{HasPlace, IsOwnAt};
 
 use crate::row_keys::RowKeys;
-use indexmap::IndexMap;
 use paris_blocks::Blocks;
 use paris_instr::SharedPlan;
 use paris_names::RowId;
+use paris_program::Ids;
 use std::alloc::{AllocError, Global};
 use std::marker::Model;
 
@@ -20,7 +20,8 @@ use std::marker::Model;
 /// fit.
 #[derive(Drop)]
 pub(crate) struct RowTable {
-    ids: IndexMap<u64, ()>,
+    alloc: Global,
+    ids: Ids,
     rows: Blocks<RowKeys>,
 }
 
@@ -40,7 +41,8 @@ impl RowTable {
         ensures { result.rows ≡ [] }
     {
         RowTable {
-            ids: IndexMap::new(alloc),
+            alloc,
+            ids: Ids::new(alloc),
             rows: Blocks::new(alloc),
         }
     }
@@ -51,7 +53,7 @@ impl RowTable {
         ensures within { IfSome result (λ place. place < length self.now.rows) }
         ensures distinct { IsDistinct nat_eq (ids_of self.now.rows) }
     {
-        self.ids.get_index_of(&id.0)
+        self.ids.place_of(id.0)
     }
 
     /// The row at a place, counted from 0.
@@ -78,7 +80,7 @@ impl RowTable {
         ensures rows { self.new.rows ≡ self.old.rows }
         ensures ok { OnOk result (HasPlace self.new place) }
     {
-        self.ids.reserve(1)?;
+        self.ids.room()?;
         self.rows.room(place)
     }
 
@@ -100,10 +102,7 @@ impl RowTable {
     {
         // The number of ids is what says that one more row fits.
         let _few = self.ids.len();
-        match self.ids.insert_before(place, id.0, ()) {
-            Ok(_) => {}
-            Err(_) => unreachable!(),
-        }
+        self.ids.insert(place, id.0);
         self.rows.insert(place, RowKeys::new(id, plan));
     }
 
@@ -113,7 +112,7 @@ impl RowTable {
         requires own { IsOwnAt self.old place }
         ensures { self.new.rows ≡ remove self.old.rows place }
     {
-        self.ids.shift_remove_index(place);
+        self.ids.remove(place);
         let _row = self.rows.remove(place);
     }
 
@@ -138,8 +137,12 @@ impl RowTable {
     pub(crate) fn copy(&self) -> Result<RowTable, AllocError>
         ensures { IfOk result (λ copy. copy.rows ≡ self.now.rows) }
     {
-        let ids = self.ids.clone()?;
+        let ids = self.ids.copy(self.alloc)?;
         let rows = self.rows.copy()?;
-        Ok(RowTable { ids, rows })
+        Ok(RowTable {
+            alloc: self.alloc,
+            ids,
+            rows,
+        })
     }
 }

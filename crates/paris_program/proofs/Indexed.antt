@@ -1,17 +1,18 @@
 -- Ids in order, and the list that rises by which they are found.
-use Rattle.std.proofs.Common.{◌≡◌, ◌≢◌, rules, ℕ, zero, suc, ◌+◌, ◌-◌, ◌<◌, ◌≤◌, List, [], ◌∷◌, ◌++◌, length, take, drop, map, Bool, true, false, cond, ◌||◌, not, Some, None, get_or, nat_eq, nat_lt, insert, remove, All, AllPairs, Ok, Err, slice_get, refl, sym, ap, ap₂, ◌∙◌, subst, arith}
+use Rattle.std.proofs.Common.{◌≡◌, ◌≢◌, rules, ℕ, zero, suc, ◌+◌, ◌-◌, ◌<◌, ◌≤◌, List, [], ◌∷◌, ◌++◌, length, take, drop, map, Bool, true, false, cond, ◌||◌, not, Some, None, get_or, nat_eq, nat_lt, insert, remove, All, AllPairs, Err, slice_get, refl, sym, ap, ap₂, ◌∙◌, subst, ⊎_elim, arith}
 use Rattle.std.specs.Prelude.{slice_range}
 use Rattle.std.specs.List.{AllByRecursion, IsDistinct, list_any, position, position_or_len}
 use Rattle.std.specs.Bool.{Decides}
 use Rattle.std.proofs.lemmas.Bool.Decides.{nat_tests}
 use Rattle.std.specs.List.Sorted.{IsBinarySearchResult}
 use Rattle.std.specs.Ordering.{nat_cmp}
-use Rattle.std.proofs.lemmas.List.{take-map, drop-map, map-append, get_or-take, get_or-drop, length-take, length-drop}
+use Rattle.std.proofs.lemmas.List.{take-map, drop-map, map-append, get_or-take, get_or-drop, get_or_default, length-take, length-drop}
+use Rattle.std.proofs.lemmas.Bool.{cases_lt}
+use Rattle.std.proofs.lemmas.List.Edits.{get_or-insert_above, get_or-insert_at, get_or-insert_below, length-insert}
 use Rattle.std.proofs.lemmas.List.Sorted.{searched}
 use Rattle.std.proofs.lemmas.List.Elements.{All-map}
-use Rattle.std.proofs.lemmas.List.Folds.{list_any_at, list_any-append}
-use Rattle.std.proofs.lemmas.List.Quantifiers.{all_pairs_push, all_pairs_remove}
-use Rattle.std.proofs.lemmas.List.Sums.{passes_at_first}
+use Rattle.std.proofs.lemmas.List.Folds.{list_any_at}
+use Rattle.std.proofs.lemmas.List.Quantifiers.{all_pairs_remove}
 use Rattle.std.proofs.lemmas.Map.Made.{IsDistinct-from_AllPairs}
 use Rattle.std.proofs.lemmas.Simd.{map-map}
 use Rattle.std.proofs.lemmas.Option.{get_or_from_slice_get, slice_get_within}
@@ -231,22 +232,13 @@ distinct_put (x ∷ xs) (suc at) y distinct none =
     let apart = any_put (nat_eq x) xs at y ∙ ap₂ (λ a b. a || b) (none_of x xs distinct.0) other in
     (all_of x (insert xs at y) apart, distinct_put xs at y distinct.1 (or_right (nat_eq y x) (list_any (nat_eq y) xs) none))
 
-below_all : (id x : ℕ) (xs : List ℕ) → All (λ other. other < id) xs → list_any (nat_eq x) xs ≡ true → x < id
-below_all id x xs below any =
-    let first = position_or_len (nat_eq x) xs in
-    let inside = place_within (nat_eq x) xs any in
-    let same = same_number x (get_or xs first 0) (passes_at_first (nat_eq x) xs 0 inside) in
-    let less : get_or xs first 0 < id = below first 0 inside in
-    omega (arith, same, less)
-
 get_map : (f : ℕ → ℕ) (xs : List ℕ) (k d : ℕ) → k < length xs → get_or (map f xs) k d ≡ f (get_or xs k 0)
 get_map f [] k d within = absurd (omega (arith, within))
 get_map f (x ∷ xs) zero d within = refl
 get_map f (x ∷ xs) (suc k) d within = get_map f xs k d (omega (arith, within))
 
-map_push : (f : ℕ → ℕ) (xs : List ℕ) (y : ℕ) → map f (xs ++ y ∷ []) ≡ map f xs ++ f y ∷ []
-map_push f [] y = refl
-map_push f (x ∷ xs) y = ap (λ l. f x ∷ l) (map_push f xs y)
+map_insert : (f : ℕ → ℕ) (xs : List ℕ) (i y : ℕ) → map f (insert xs i y) ≡ insert (map f xs) i (f y)
+map_insert f xs i y = rw (map-append, take-map, drop-map) refl
 
 map_remove : (f : ℕ → ℕ) (xs : List ℕ) (i : ℕ) → map f (remove xs i) ≡ remove (map f xs) i
 map_remove f xs i = rw (map-append, take-map, drop-map) refl
@@ -276,11 +268,28 @@ found_within sorted places order id k d is here =
     let inside = place_within (nat_eq id) order any in
     omega (arith, place, inside)
 
+-- an id has no place just where it is none of them
+pub unplaced : (ids : List ℕ) (id : ℕ) → list_any (nat_eq id) ids ≡ false → position (nat_eq id) ids ≡ None
+unplaced ids id none =
+    ap (λ n. cond (nat_lt n (length ids)) (Some n) None) (place_past (nat_eq id) ids none) ∙ ap (λ b. cond b (Some (length ids)) None) (test_same (length ids))
+
+pub none_placed : (ids : List ℕ) (id : ℕ) → position (nat_eq id) ids ≡ None → list_any (nat_eq id) ids ≡ false
+none_placed ids id none = by_test (list_any (nat_eq id) ids) refl
+  where
+    by_test : (b : Bool) → list_any (nat_eq id) ids ≡ b → b ≡ false
+    by_test true any =
+        let place = place_among ids id in
+        let found : position (nat_eq id) ids ≡ Some place = ap (λ b. cond b (Some place) None) (test_less place (length ids) (place_within (nat_eq id) ids any)) in
+        absurd (cc)
+    by_test false any = refl
+
 -- one that is not there has no place
 pub not_found : (sorted places order : List ℕ) (id : ℕ) → IsIndex sorted places order → list_any (nat_eq id) sorted ≡ false → None ≡ position (nat_eq id) order
-not_found sorted places order id is none =
-    let past = place_past (nat_eq id) order (sym (is.same id) ∙ none) in
-    sym (ap (λ n. cond (nat_lt n (length order)) (Some n) None) past ∙ ap (λ b. cond b (Some (length order)) None) (test_same (length order)))
+not_found sorted places order id is none = sym (unplaced order id (sym (is.same id) ∙ none))
+
+-- one that has no place is not there
+pub none_among : (sorted places order : List ℕ) (id : ℕ) → IsIndex sorted places order → position (nat_eq id) order ≡ None → list_any (nat_eq id) sorted ≡ false
+none_among sorted places order id is none = is.same id ∙ none_placed order id none
 
 -- places are no more than the ids
 pub places_fit : (sorted places order : List ℕ) (n : ℕ) → IsIndex sorted places order → length order < n → All (λ place. place < n) places
@@ -291,20 +300,21 @@ pub no_index : (sorted places order : List ℕ) → sorted ≡ [] → places ≡
 unfolding IsDistinct
 no_index sorted places order s p o = rw (s, p, o) record { rises = λ i j d before within. absurd (omega (arith, within)); same = λ id. refl; at = refl; distinct = tt }
 
--- a greater id is put in
-pub inserted : (sorted places order : List ℕ) (at id : ℕ) (more moved longer : List ℕ) → IsIndex sorted places order → All (λ other. other < id) order → at ≤ length order
-    → more ≡ sorted ++ id ∷ [] → moved ≡ map (after_insert at) places ++ at ∷ [] → longer ≡ insert order at id → IsIndex more moved longer
-inserted sorted places order at id more moved longer is below within s p o =
-    let none = nowhere id order (λ k here. (let less : get_or order k 0 < id = below k 0 (slice_get_within order k id here) in absurd (omega (arith, less, get_or_from_slice_get order k id 0 here)))) in
+-- one that is none of them is put in
+pub inserted : (sorted places order : List ℕ) (index at id : ℕ) (more moved longer : List ℕ) → IsIndex sorted places order → position (nat_eq id) order ≡ None → at ≤ length order → AllPairs (λ x y. x < y) (insert sorted index id)
+    → more ≡ insert sorted index id → moved ≡ insert (map (after_insert at) places) index at → longer ≡ insert order at id → IsIndex more moved longer
+inserted sorted places order index at id more moved longer is new within rises s p o =
+    let none = none_placed order id new in
     let apart = is.same id ∙ none in
-    let there : (k d : ℕ) → k < length sorted → list_any (nat_eq (get_or sorted k d)) order ≡ true = λ k d inside. sym (is.same (get_or sorted k d)) ∙ list_any_at (nat_eq (get_or sorted k d)) sorted k d inside (same_self (get_or sorted k d)) in
     let others = map_same (λ x. after_insert at (place_among order x)) (place_among (insert order at id)) sorted
     (λ k inside. sym (place_after_put (nat_eq (get_or sorted k 0)) order at id (same_both (get_or sorted k 0) id ∙ fails_at (nat_eq id) sorted k 0 apart inside) within)) in
     let put = place_put (nat_eq id) order at id (same_self id) none within in
     rw (s, o) record {
-      rises = all_pairs_push (λ x y. x < y) sorted id is.rises (λ k d inside. below_all id (get_or sorted k d) order below (there k d inside));
-      same = λ x. list_any-append (nat_eq x) sorted (id ∷ []) ∙ ap₂ (λ a b. a || b) (is.same x) (or_false (nat_eq x id)) ∙ sym (any_put (nat_eq x) order at id);
-      at = p ∙ ap₂ (λ l n. l ++ n ∷ []) (ap (map (after_insert at)) is.at ∙ map-map (after_insert at) (place_among order) sorted ∙ others) (sym put) ∙ sym (map_push (place_among (insert order at id)) sorted id);
+      rises = rises;
+      same = λ x. any_put (nat_eq x) sorted index id ∙ ap (λ b. b || nat_eq x id) (is.same x) ∙ sym (any_put (nat_eq x) order at id);
+      at = p
+          ∙ ap₂ (λ l n. insert l index n) (ap (map (after_insert at)) is.at ∙ map-map (after_insert at) (place_among order) sorted ∙ others) (sym put)
+          ∙ sym (map_insert (place_among (insert order at id)) sorted index id);
       distinct = distinct_put order at id is.distinct none;
     }
 
@@ -378,3 +388,45 @@ not_in_part xs x a b i rises within missed outside =
     let there : a + (k - a) ≡ k = omega (arith, from) in
     let is = get_part xs a b (k - a) 0 (omega (arith, from, to)) ∙ ap (λ j. get_or xs j 0) there ∙ get_or_from_slice_get xs k x 0 here in
     no_place i (k - a) (get_or part (k - a) 0) x (λ less. split.1 (k - a) less) (λ most. split.2 (k - a) most inner) is)
+
+-- where an item that is put in stands between what it has to
+module _ {X : Type 0} (R : X → X → Type 0) (xs : List X) (i : ℕ) (y : X) (within : i ≤ length xs) where
+  put_there : (k : ℕ) (d : X) → k ≡ i → get_or (insert xs i y) k d ≡ y
+  put_there k d same = ap (λ n. get_or (insert xs i y) n d) same ∙ get_or-insert_at xs i y d within
+
+  put_before : (k : ℕ) (d : X) → i < k → get_or (insert xs i y) k d ≡ get_or xs (k - 1) d
+  put_before k d behind =
+      let there : k ≡ (k - 1) + 1 = omega arith in
+      ap (λ n. get_or (insert xs i y) n d) there ∙ get_or-insert_above xs i y d (k - 1) (omega arith) within
+
+  all_pairs_insert : AllPairs R xs → ((k : ℕ) (d : X) → k < i → R (get_or xs k d) y) → ((k : ℕ) (d : X) → i ≤ k → k < length xs → R y (get_or xs k d)) → AllPairs R (insert xs i y)
+  all_pairs_insert all low high j k d lt inside =
+      ⊎_elim both_before (λ from. ⊎_elim (λ behind. ⊎_elim (around behind) (λ later. ⊎_elim (both_behind behind) (first behind later) (cases_lt i j)) (cases_lt j i)) (last from) (cases_lt i k)) (cases_lt k i)
+    where
+      longer : k < length xs + 1
+      longer = omega (arith, inside, length-insert xs i y within)
+
+      both_before : k < i → R (get_or (insert xs i y) j d) (get_or (insert xs i y) k d)
+      both_before before = rw (get_or-insert_below xs i y d j (omega (arith, before, lt)) within, get_or-insert_below xs i y d k before within) (all j k d lt (omega (arith, before, within)))
+
+      last : i ≤ k → k ≤ i → R (get_or (insert xs i y) j d) (get_or (insert xs i y) k d)
+      last from to = rw (get_or-insert_below xs i y d j (omega (arith, to, lt)) within, put_there k d (omega (arith, from, to))) (low j d (omega (arith, to, lt)))
+
+      around : i < k → j < i → R (get_or (insert xs i y) j d) (get_or (insert xs i y) k d)
+      around behind before = rw (get_or-insert_below xs i y d j before within, put_before k d behind) (all j (k - 1) d (omega (arith, before, behind)) (omega (arith, behind, longer)))
+
+      both_behind : i < k → i < j → R (get_or (insert xs i y) j d) (get_or (insert xs i y) k d)
+      both_behind behind past = rw (put_before j d past, put_before k d behind) (all (j - 1) (k - 1) d (omega (arith, past, lt)) (omega (arith, behind, longer)))
+
+      first : i < k → i ≤ j → j ≤ i → R (get_or (insert xs i y) j d) (get_or (insert xs i y) k d)
+      first behind from to = rw (put_there j d (omega (arith, from, to)), put_before k d behind) (high (k - 1) d (omega (arith, behind)) (omega (arith, behind, longer)))
+
+-- a number that a search does not find goes in where it ended
+pub rises_put : (xs : List ℕ) (x i : ℕ) → AllPairs (λ x y. x < y) xs → IsBinarySearchResult (λ y. nat_cmp y x) xs (Err i) → (i ≤ length xs) × AllPairs (λ x y. x < y) (insert xs i x)
+rises_put xs x i rises missed =
+    let split = searched xs x (Err i) missed (not_falling xs rises) in (
+      split.0,
+      all_pairs_insert (λ x y. x < y) xs i x split.0 rises
+          (λ k d before. omega (arith, split.1 k before, get_or_default xs k d 0 (omega (arith, before, split.0))))
+          (λ k d from inside. omega (arith, split.2 k from inside, get_or_default xs k d 0 inside)),
+    )

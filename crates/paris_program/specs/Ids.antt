@@ -1,5 +1,5 @@
 -- Distinct ids in an order, and a list by which the place of each is found.
-use Rattle.std.specs.Prelude.{◌≡◌, ℕ, ◌+◌, ◌-◌, ◌<◌, List, cond, min, nat_eq, nat_lt, map, AllPairs, vec_capacity, vec_len}
+use Rattle.std.specs.Prelude.{◌≡◌, ℕ, ◌+◌, ◌-◌, ◌<◌, List, cond, nat_eq, nat_lt, map, AllPairs, vec_capacity, vec_len}
 use Rattle.std.specs.List.{IsDistinct, list_any, position_or_len}
 use Rattle.std.specs.Global.{Vec}
 

@@ -1,7 +1,7 @@
 //! Distinct ids in an order, each found by a list of them that rises.
 
-ghost use Rattle.std.specs.Prelude.{◌≡◌, ℕ, ◌++◌, ◌∷◌, [], ◌^◌, ◌<◌, ◌≤◌, All, AllPairs, false, insert, length, map, nat_eq, position, remove, slice_get, vec_len, vec_capacity, IfOk, IfSome, MatchOption, OnOk, Some};
-ghost use Rattle.std.specs.List.{list_any};
+ghost use Rattle.std.specs.Prelude.{◌≡◌, ℕ, ◌^◌, ◌<◌, ◌≤◌, All, AllPairs, [], false, insert, length, map, nat_eq, position, remove, slice_get, vec_len, vec_capacity, IfOk, IfSome, MatchOption, None, OnOk, Some};
+ghost use Rattle.std.specs.List.{IsDistinct, list_any};
 ghost use Rattle.paris_program.specs.Ids.{after_insert, after_remove};
 
 use std::alloc::{AllocError, Global};
@@ -10,8 +10,7 @@ use std::marker::Model;
 /// How many more ids a copy has room for.
 const MORE: usize = 64;
 
-/// Distinct ids in an order, each found fast. A new id is greater than those that are there. A clause sees the ids in their order, and
-/// how many more fit with no more memory.
+/// Distinct ids in an order, each found fast. A clause sees the ids in their order, and how many more fit with no more memory.
 #[derive(Drop)]
 pub struct Ids {
     order: Vec<u64>,
@@ -62,6 +61,19 @@ fn index_of(sorted: &[u64], id: u64) -> Option<usize>
     }
 }
 
+/// The index at which an id goes that is none of those that rise, so that they rise with it.
+fn index_for(sorted: &[u64], id: u64) -> usize
+    requires rises { AllPairs (λ x y. x < y) sorted.now }
+    requires new { list_any (nat_eq id) sorted.now ≡ false }
+    ensures within { result ≤ length sorted.now }
+    ensures rises { AllPairs (λ x y. x < y) (insert sorted.now result id) }
+{
+    match sorted.binary_search(&id) {
+        Ok(_) => unreachable!(),
+        Err(index) => index,
+    }
+}
+
 /// Where that stands which stood at a place, once something is put in at another.
 fn place_after_insert(at: usize, place: usize) -> usize
     requires { place < 2 ^ 63 }
@@ -96,12 +108,13 @@ fn move_back(places: &mut [usize], at: usize)
     }
 }
 
-/// Adds a number at the end, where there is room for it.
-fn add<T: Drop>(list: &mut Vec<T>, item: T)
-    requires { vec_len list.old < vec_capacity list.old }
-    ensures { list.new.items ≡ list.old.items ++ item ∷ [] }
+/// Puts an item in at an index, where there is room for it.
+fn put<T: Drop>(list: &mut Vec<T>, index: usize, item: T)
+    requires there { index ≤ vec_len list.old }
+    requires room { vec_len list.old < vec_capacity list.old }
+    ensures { list.new.items ≡ insert list.old.items index item }
 {
-    match list.push(item) {
+    match list.insert(index, item) {
         Ok(()) => {}
         Err(_) => unreachable!(),
     }
@@ -142,6 +155,7 @@ impl Ids {
     pub fn place_of(&self, id: u64) -> Option<usize>
         ensures value { result ≡ position (nat_eq id) self.now.ids }
         ensures within { IfSome result (λ place. place < length self.now.ids) }
+        ensures distinct { IsDistinct nat_eq self.now.ids }
     {
         match index_of(self.sorted.as_slice(), id) {
             Some(index) => Some(self.places[index]),
@@ -159,22 +173,20 @@ impl Ids {
         self.places.reserve(1)
     }
 
-    /// Puts an id that is greater than all others in at a place, before those that stand there, where there is room for it.
+    /// Puts an id that is none of them in at a place, before those that stand there, where there is room for it.
     pub fn insert(&mut self, place: usize, id: u64)
         requires room { 0 < self.old.spare }
         requires there { place ≤ length self.old.ids }
-        requires next { All (λ other. other < id) self.old.ids }
+        requires new { position (nat_eq id) self.old.ids ≡ None }
         ensures { self.new.ids ≡ insert self.old.ids place id }
     {
         // The length is what says that a place more fits.
         let _len = self.len();
+        let index = index_for(self.sorted.as_slice(), id);
         move_on(self.places.as_mut_slice(), place);
-        add(&mut self.places, place);
-        add(&mut self.sorted, id);
-        match self.order.insert(place, id) {
-            Ok(()) => {}
-            Err(_) => unreachable!(),
-        }
+        put(&mut self.places, index, place);
+        put(&mut self.sorted, index, id);
+        put(&mut self.order, place, id);
     }
 
     /// Takes the id at a place out. It takes no memory.

@@ -1,8 +1,7 @@
 //! The ids of a program's rows in order, which its copies share until one of them changes them.
 
-ghost use Rattle.std.specs.Prelude.{◌≡◌, ◌^◌, ◌<◌, ◌≤◌, [], nat_eq, length, position, insert, remove, IfErr, IfOk, IfSome, OnOk};
+ghost use Rattle.std.specs.Prelude.{◌≡◌, ◌^◌, ◌<◌, ◌≤◌, [], nat_eq, length, position, insert, remove, IfErr, IfOk, IfSome, None, OnOk};
 ghost use Rattle.std.specs.Arc.{arc_value};
-ghost use Rattle.paris_program.specs.Program.{AreIds};
 ghost use Rattle.paris_program.specs.SharedIds.{ids_held, own_spare, AreOwnIds};
 
 use crate::ids::Ids;
@@ -107,11 +106,11 @@ impl SharedIds {
         }
     }
 
-    /// Puts the next id in at a place, before those that stand there, where there is room for it.
+    /// Puts an id that is none of them in at a place, before those that stand there, where there is room for it.
     pub(crate) fn insert(&mut self, place: usize, id: u64)
         requires room { 0 < own_spare self.old }
         requires there { place ≤ length (ids_held self.old) }
-        requires next { AreIds id (ids_held self.old) }
+        requires new { position (nat_eq id) (ids_held self.old) ≡ None }
         ensures { ids_held self.new ≡ insert (ids_held self.old) place id }
     {
         match self {

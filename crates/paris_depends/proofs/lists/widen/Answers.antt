@@ -1,4 +1,4 @@
-use Rattle.std.proofs.Common.{List, [], ap, ◌∙◌, arith, length, map, get_or}
+use Rattle.std.proofs.Common.{List, [], ap, ◌∙◌, arith, map, get_or}
 use Rattle.paris_depends.specs.ListsInside.{ids_held, room_in}
 use Rattle.paris_depends.specs.declared.id_list.IdList.{IdList}
 use Rattle.paris_depends.proofs.Slots.{get_or-push_default, pushed_more}

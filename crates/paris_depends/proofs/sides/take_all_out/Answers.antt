@@ -1,4 +1,4 @@
-use Rattle.std.proofs.Common.{◌<◌, ℕ, List, inl, sym, ap, ◌∙◌, cond, arith, subst}
+use Rattle.std.proofs.Common.{ℕ, List, inl, sym, ap, ◌∙◌, cond, arith, subst}
 use Rattle.std.proofs.lemmas.List.{take_all}
 use Rattle.std.specs.List.{IsDistinct}
 use Rattle.std.specs.Prelude.{remove}

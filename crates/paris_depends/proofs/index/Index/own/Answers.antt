@@ -2,7 +2,7 @@ use Rattle.std.proofs.Common.{◌≡◌, ℕ, List, Some, sym, ap, ◌∙◌, su
 use Rattle.paris_names.specs.declared.keys.Key.{Key}
 use Rattle.paris_program.specs.Program.{place_of}
 use Rattle.paris_program.proofs.CallerLemmas.{row_there}
-use Rattle.paris_depends.specs.Index.{CanChange, Footprint}
+use Rattle.paris_depends.specs.Index.{Footprint}
 use Rattle.paris_depends.specs.Lists.{HasRoomFor}
 use Rattle.paris_depends.proofs.CallerLemmas.{place_at}
 use Rattle.paris_depends.proofs.Slots.{on_ok}

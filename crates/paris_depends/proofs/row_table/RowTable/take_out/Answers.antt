@@ -1,6 +1,5 @@
 use Rattle.std.proofs.Common.{ℕ, List, sym, ap, ◌∙◌}
 use Rattle.std.specs.Prelude.{remove}
-use Rattle.std.specs.Map.{keys_of}
 use Rattle.paris_program.specs.Program.{ids_of}
 use Rattle.paris_depends.specs.Index.{Footprint}
 use Rattle.paris_depends.proofs.Kept.{ids-remove}
@@ -8,11 +7,9 @@ use Rattle.paris_depends.proofs.row_table.RowTable.take_out.Goals as goal
 
 pub invariant_of-self : goal.invariant_of-self
 invariant_of-self c =
-    let ids = c.self.inside.ids in
     let rows : List (ℕ × Footprint) = c.self.inside.rows.items in
     let place = c.args.place in
-    ap (λ (l : List (ℕ × Unit {0})). keys_of l) c.shift_remove_index.ensures.entries
-    ∙ ids-remove ids.entries place
+    c.remove.ensures.ids
     ∙ ap (λ l. remove l place) c.self.invariant
     ∙ sym (ids-remove rows place)
     ∙ ap (λ (l : List (ℕ × Footprint)). ids_of l) (sym c.remove-row.ensures.items)

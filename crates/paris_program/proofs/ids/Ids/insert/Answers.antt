@@ -1,7 +1,14 @@
-use Rattle.std.proofs.Common.{◌++◌, ◌∷◌, [], List, ℕ, All, length, map, ap, subst, sym, ◌∙◌, ◌<◌, ◌≤◌, ◌^◌}
+use Rattle.std.proofs.Common.{◌<◌, ◌≤◌, ◌^◌, List, ℕ, All, AllPairs, insert, length, map, ap, nat_eq, position, subst, sym, ◌∙◌}
+use Rattle.std.specs.List.{list_any}
 use Rattle.paris_program.specs.Ids.{Ids, after_insert}
-use Rattle.paris_program.proofs.Indexed.{inserted, places_fit, written_over}
+use Rattle.paris_program.proofs.Indexed.{inserted, none_among, places_fit, written_over}
 use Rattle.paris_program.proofs.ids.Ids.insert.Goals as goal
+
+pub index_for-index-requires-clause-new : goal.index_for-index-requires-clause-new
+index_for-index-requires-clause-new c =
+    let i = c.self.inside in
+    let new = ap (λ (v : Ids). position (nat_eq c.args.id) v.ids) c.self.view_is ∙ c.requires.new in
+    ap (list_any (nat_eq c.args.id)) c.as_slice.ensures.value ∙ none_among i.sorted.items i.places.items i.order.items c.args.id c.self.invariant new
 
 pub move_on-requires : goal.move_on-requires
 move_on-requires c =
@@ -12,8 +19,12 @@ move_on-requires c =
 pub invariant_of-self : goal.invariant_of-self
 invariant_of-self c =
     let i = c.self.inside in
-    let below = subst (λ (v : Ids). All (λ (other : ℕ). other < c.args.id) v.ids) (sym c.self.view_is) c.requires.next in
-    let within = subst (λ (v : Ids). c.args.place ≤ length v.ids) (sym c.self.view_is) c.requires.there in
-    let moved = written_over c.move_on.new.places _ _ (c.move_on.auto.places ∙ c.as_mut_slice.ensures.len) ∙ c.move_on.ensures ∙ ap (map (after_insert c.args.place)) c.as_mut_slice.ensures.value in
-    inserted i.sorted.items i.places.items i.order.items c.args.place c.args.id _ _ _ c.self.invariant below within c.add-2.ensures
-    (c.add.ensures ∙ ap (λ (l : List ℕ). l ++ c.args.place ∷ []) moved) c.in-Ok.ensures.items
+    let place = c.args.place in
+    let id = c.args.id in
+    let index = c.index_for-index.result in
+    let new = ap (λ (v : Ids). position (nat_eq id) v.ids) c.self.view_is ∙ c.requires.new in
+    let within = subst (λ (v : Ids). place ≤ length v.ids) (sym c.self.view_is) c.requires.there in
+    let rises = subst (λ (l : List ℕ). AllPairs (λ (x y : ℕ). x < y) (insert l index id)) c.as_slice.ensures.value c.index_for-index.ensures.rises in
+    let moved = written_over c.move_on.new.places _ _ (c.move_on.auto.places ∙ c.as_mut_slice.ensures.len) ∙ c.move_on.ensures ∙ ap (map (after_insert place)) c.as_mut_slice.ensures.value in
+    inserted i.sorted.items i.places.items i.order.items index place id _ _ _ c.self.invariant new within rises c.put-2.ensures
+    (c.put.ensures ∙ ap (λ (l : List ℕ). insert l index place) moved) c.put-3.ensures
