@@ -6,9 +6,9 @@ use Rattle.std.specs.Bool.{Decides}
 use Rattle.std.proofs.lemmas.Bool.Decides.{nat_tests}
 use Rattle.std.specs.List.Sorted.{IsBinarySearchResult}
 use Rattle.std.specs.Ordering.{nat_cmp}
-use Rattle.std.proofs.lemmas.List.{take-map, drop-map, map-append, get_or-take, get_or-drop, get_or_default, length-take, length-drop}
+use Rattle.std.proofs.lemmas.List.{take-map, drop-map, map-append, get_or-take, get_or-drop, get_or_default, length-map, length-take, length-drop}
 use Rattle.std.proofs.lemmas.Bool.{cases_lt}
-use Rattle.std.proofs.lemmas.List.Edits.{get_or-insert_above, get_or-insert_at, get_or-insert_below, length-insert}
+use Rattle.std.proofs.lemmas.List.Edits.{get_or-insert_above, get_or-insert_at, get_or-insert_below, get_or-remove_above, get_or-remove_below, length-insert, length-remove}
 use Rattle.std.proofs.lemmas.List.Sorted.{searched}
 use Rattle.std.proofs.lemmas.List.Elements.{All-map}
 use Rattle.std.proofs.lemmas.List.Folds.{list_any_at}
@@ -62,14 +62,6 @@ module _ {X : Type 0} (p : X → Bool) where
       by_test : (list_any p xs ≡ true → position_or_len p xs < length xs) → (b : Bool) → (b || list_any p xs) ≡ true → cond (not b) (1 + position_or_len p xs) 0 < suc (length xs)
       by_test later true e = omega arith
       by_test later false e = omega (arith, later e)
-
-  place_at_most : (xs : List X) → position_or_len p xs ≤ length xs
-  place_at_most [] = omega arith
-  place_at_most (x ∷ xs) = by_test (place_at_most xs) (p x)
-    where
-      by_test : position_or_len p xs ≤ length xs → (b : Bool) → cond (not b) (1 + position_or_len p xs) 0 ≤ suc (length xs)
-      by_test later true = omega arith
-      by_test later false = omega (arith, later)
 
   place_past : (xs : List X) → list_any p xs ≡ false → position_or_len p xs ≡ length xs
   place_past [] none = refl
@@ -291,9 +283,33 @@ not_found sorted places order id is none = sym (unplaced order id (sym (is.same 
 pub none_among : (sorted places order : List ℕ) (id : ℕ) → IsIndex sorted places order → position (nat_eq id) order ≡ None → list_any (nat_eq id) sorted ≡ false
 none_among sorted places order id is none = is.same id ∙ none_placed order id none
 
--- places are no more than the ids
-pub places_fit : (sorted places order : List ℕ) (n : ℕ) → IsIndex sorted places order → length order < n → All (λ place. place < n) places
-places_fit sorted places order n is few = subst (All (λ place. place < n)) (sym is.at) (All-map (λ place. place < n) (place_among order) sorted (λ k d within. omega (arith, few, place_at_most (nat_eq (get_or sorted k d)) order)))
+-- each place is before the end
+placed_within : (sorted places order : List ℕ) → IsIndex sorted places order → (k d : ℕ) → k < length sorted → place_among order (get_or sorted k d) < length order
+placed_within sorted places order is k d within =
+    let id = get_or sorted k d in
+    place_within (nat_eq id) order (sym (is.same id) ∙ list_any_at (nat_eq id) sorted k d within (same_self id))
+
+pub places_within : (sorted places order : List ℕ) (end : ℕ) → IsIndex sorted places order → end ≡ length order → All (λ place. place < end) places
+places_within sorted places order end is same =
+    subst (All (λ place. place < end)) (sym is.at) (All-map (λ place. place < end) (place_among order) sorted (λ k d within. omega (arith, same, placed_within sorted places order is k d within)))
+
+all_left : (P : ℕ → Type 0) (xs : List ℕ) (i : ℕ) → i < length xs → All P xs → All P (remove xs i)
+all_left P xs i inside all k d within =
+    let long = length-remove xs i inside in
+    ⊎_elim
+    (λ before. rw (get_or-remove_below xs i d k before inside) (all k d (omega arith)))
+    (λ behind. rw (get_or-remove_above xs i d k behind inside) (all (k + 1) d (omega arith)))
+    (cases_lt k i)
+
+-- and once one of them is gone, none is behind the last
+pub places_left : (sorted places order left : List ℕ) (index at id last : ℕ) → IsIndex sorted places order → slice_get sorted index ≡ Some id → at < length order → left ≡ remove places index → last ≡ length (remove order at) → All (λ place. place ≤ last) left
+places_left sorted places order left index at id last is found within cut same =
+    let many = ap length is.at ∙ length-map sorted (place_among order) in
+    let inside : index < length places = omega (arith, many, slice_get_within sorted index id found) in
+    let long = length-remove order at within in
+    subst (All (λ place. place ≤ last)) (sym cut) (λ k d inner.
+    let before : get_or (remove places index) k d < length order = all_left (λ place. place < length order) places index inside (places_within sorted places order (length order) is refl) k d inner in
+    omega (arith, before, same, long))
 
 -- of no ids
 pub no_index : (sorted places order : List ℕ) → sorted ≡ [] → places ≡ [] → order ≡ [] → IsIndex sorted places order

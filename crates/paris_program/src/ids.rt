@@ -89,20 +89,28 @@ fn place_after_remove(at: usize, place: usize) -> usize
     if at < place { place - 1 } else { place }
 }
 
-/// Moves what stands at a place or after it one place on.
-fn move_on(places: &mut [usize], at: usize)
-    requires { All (λ place. place < 2 ^ 63) places.old }
+/// Moves what stands at a place or after it one place on. All stand before an end, so nothing moves where the place is there.
+fn move_on(places: &mut [usize], at: usize, end: usize)
+    requires before { All (λ place. place < end) places.old }
+    requires few { end < 2 ^ 63 }
     ensures { places.new ≡ map (after_insert at) places.old }
 {
+    if end <= at {
+        return;
+    }
     for place in places.iter_mut() {
         *place = place_after_insert(at, *place);
     }
 }
 
-/// Moves what stands after a place one place back.
-fn move_back(places: &mut [usize], at: usize)
+/// Moves what stands after a place one place back. None stands after a last place, so nothing moves where the place is there.
+fn move_back(places: &mut [usize], at: usize, last: usize)
+    requires { All (λ place. place ≤ last) places.old }
     ensures { places.new ≡ map (after_remove at) places.old }
 {
+    if last <= at {
+        return;
+    }
     for place in places.iter_mut() {
         *place = place_after_remove(at, *place);
     }
@@ -180,10 +188,9 @@ impl Ids {
         requires new { position (nat_eq id) self.old.ids ≡ None }
         ensures { self.new.ids ≡ insert self.old.ids place id }
     {
-        // The length is what says that a place more fits.
-        let _len = self.len();
+        let len = self.len();
         let index = index_for(self.sorted.as_slice(), id);
-        move_on(self.places.as_mut_slice(), place);
+        move_on(self.places.as_mut_slice(), place, len);
         put(&mut self.places, index, place);
         put(&mut self.sorted, index, id);
         put(&mut self.order, place, id);
@@ -199,7 +206,7 @@ impl Ids {
         let index = index_of(self.sorted.as_slice(), id).unwrap();
         self.sorted.remove(index);
         self.places.remove(index);
-        move_back(self.places.as_mut_slice(), place);
+        move_back(self.places.as_mut_slice(), place, self.order.len());
     }
 
     /// The ids once more, with room for some more.

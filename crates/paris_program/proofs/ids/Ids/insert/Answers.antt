@@ -1,7 +1,7 @@
-use Rattle.std.proofs.Common.{◌<◌, ◌≤◌, ◌^◌, List, ℕ, All, AllPairs, insert, length, map, ap, nat_eq, position, subst, sym, ◌∙◌}
+use Rattle.std.proofs.Common.{◌<◌, ◌≤◌, List, ℕ, All, AllPairs, insert, length, map, ap, nat_eq, position, subst, sym, ◌∙◌}
 use Rattle.std.specs.List.{list_any}
 use Rattle.paris_program.specs.Ids.{Ids, after_insert}
-use Rattle.paris_program.proofs.Indexed.{inserted, none_among, places_fit, written_over}
+use Rattle.paris_program.proofs.Indexed.{inserted, none_among, places_within, written_over}
 use Rattle.paris_program.proofs.ids.Ids.insert.Goals as goal
 
 pub index_for-index-requires-clause-new : goal.index_for-index-requires-clause-new
@@ -10,11 +10,11 @@ index_for-index-requires-clause-new c =
     let new = ap (λ (v : Ids). position (nat_eq c.args.id) v.ids) c.self.view_is ∙ c.requires.new in
     ap (list_any (nat_eq c.args.id)) c.as_slice.ensures.value ∙ none_among i.sorted.items i.places.items i.order.items c.args.id c.self.invariant new
 
-pub move_on-requires : goal.move_on-requires
-move_on-requires c =
+pub move_on-requires-clause-before : goal.move_on-requires-clause-before
+move_on-requires-clause-before c =
     let i = c.self.inside in
-    let few = subst (λ (n : ℕ). n < 2 ^ 63) (c.len-len.ensures.value ∙ sym (ap (λ (v : Ids). length v.ids) c.self.view_is)) c.len-len.ensures.small in
-    subst (All (λ (place : ℕ). place < 2 ^ 63)) (sym c.as_mut_slice.ensures.value) (places_fit i.sorted.items i.places.items i.order.items (2 ^ 63) c.self.invariant few)
+    let long = c.len-len.ensures.value ∙ sym (ap (λ (v : Ids). length v.ids) c.self.view_is) in
+    subst (All (λ (place : ℕ). place < c.len-len.result)) (sym c.as_mut_slice.ensures.value) (places_within i.sorted.items i.places.items i.order.items c.len-len.result c.self.invariant long)
 
 pub invariant_of-self : goal.invariant_of-self
 invariant_of-self c =
