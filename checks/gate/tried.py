@@ -2,26 +2,43 @@
 
 A crate of tests has no code but tests, and what its proof says is that they end and that they call as contracts ask. So a record has a line
 for each such crate whose tests were seen proved, with a key: the checksum of the toolchain's logic, HANDLES, the crate's line and all its
-sources, and of what they cite of that which the crates below state (stated.py). While the line holds, a proof would say the same again, whatever bodies below have
-changed, and `rt try --test` runs the tests: it compiles them with what they call from the sources, proves nothing, and stops at an index
-out of bounds, an overflow and a wrong access of memory.
+sources, and of what they cite of that which the crates below state (stated.py). While the line holds, a proof would say the same again,
+whatever bodies below have changed, and `rt try --test` runs the tests: it compiles them with what they call from the sources, proves
+nothing, and stops at an index out of bounds and an overflow. Most of what that costs is to compile what they call, so the tests of all
+crates are one crate there, in which each is a module.
 """
 
-import shutil
+import re
 import subprocess
+import sys
 import tempfile
+from dataclasses import dataclass
 from pathlib import Path
 from typing import Any
 
 from keys import Keys, sum_of
 from kit import ROOT
 
+sys.path.insert(0, str(ROOT / "checks" / "unproved"))
+from compiled import crate_line, make_kit, put_crates  # noqa: E402
+
 RECORD = ROOT / "checks" / "gate" / "proved.txt"
 HEAD = "# Each crate of tests, and the checksum of all that decides the proof of its tests, which was seen. checks/gate/changed writes it.\n"
-# Crates whose tests run longer under the checks of a try than their proof takes: each run proves them.
-LONG = {"paris_plane_tests", "paris_desk_run_tests"}
-# Seconds that one test may take in a try.
-LIMIT = 300
+# Crates whose tests run for an hour where each access of memory is looked at.
+LONG = {"paris_plane_tests", "paris_desk_run_tests", "paris_scan_tests", "paris_mail_tests"}
+# The crate that has the tests of others as its modules.
+TRIED = "tried_tests"
+# Seconds that the tests may take in a try.
+LIMIT = 1800
+
+
+@dataclass(frozen=True)
+class Ran:
+    """How tests ran: what was said, how many there were, and how many of them failed. One failed where they came to no end."""
+
+    said: str
+    count: int
+    failed: int
 
 
 def key_of(keys: Keys, crate: Any) -> str:
@@ -59,7 +76,7 @@ def add(keys: Keys, crates: list[Any]) -> None:
 
 def to_try(keys: Keys, crates: list[Any], commit: str) -> list[Any]:
     """Those whose tests a run of the gate only runs: their lines hold, but for one of them that the commit's hash picks."""
-    held = [crate for crate in with_tests(crates) if crate.name not in LONG and holds(keys, crate)]
+    held = [crate for crate in with_tests(crates) if holds(keys, crate)]
     return sorted(held, key=lambda crate: sum_of(commit, crate.name))[1:]
 
 
@@ -67,13 +84,34 @@ def commit_here() -> str:
     return subprocess.run(["git", "rev-parse", "HEAD"], stdout=subprocess.PIPE, text=True, check=True, cwd=ROOT).stdout.strip()
 
 
-def run_by_try(crate: Any) -> tuple[int, str]:
-    """Runs a crate's tests by rt try, over a copy of the sources, and returns its status and what it said."""
-    with tempfile.TemporaryDirectory(prefix="tried-") as room:
-        shutil.copytree(ROOT / "crates", Path(room, "crates"), ignore=shutil.ignore_patterns("out"))
-        for name in ("crates.txt", "HANDLES"):
-            shutil.copy(ROOT / name, room)
+def put_tests(room: Path, crates: list[Any]) -> Path:
+    """Puts the sources of all crates into a folder, and one crate more, whose modules are crates of tests. Returns that one's folder."""
+    folder = put_crates(room) / TRIED
+    (folder / "src").mkdir(parents=True)
+    root = "//! The tests of several crates.\n#![tactic(auto)]\n"
+    for crate in crates:
+        root += f"\n#[cfg(test)]\nmod {crate.name};\n"
+        for file in sorted((ROOT / "crates" / crate.name / "src").glob("*.rt")):
+            place = folder / "src" / (f"{crate.name}.rt" if file.name == "lib.rt" else f"{crate.name}/{file.name}")
+            place.parent.mkdir(exist_ok=True)
+            text = re.sub(r"^#!\[.*\]\n", "", file.read_text(), flags=re.M)
+            place.write_text(re.sub(r"\bcrate::", f"crate::{crate.name}::", text))
+    (folder / "src" / "lib.rt").write_text(root)
+    cited = {it.name for crate in crates for it in crate.deps}
+    line = crate_line(f"{TRIED} tests_may=Threads+Wait", *cited)
+    (room / "crates.txt").write_text(f"{(ROOT / 'crates.txt').read_text()}{line}\n")
+    return folder
+
+
+def run_by_try(crates: list[Any], looks_at_memory: bool = False) -> Ran:
+    """Runs the tests of some crates by one rt try, over a copy of the sources. It may stop at an access of memory that isn't one's own too,
+    which takes many times as long."""
+    with tempfile.TemporaryDirectory(prefix="tried-") as name:
+        room = Path(name).resolve()
+        folder = put_tests(room, crates)
+        rt, steps = ("rt", list[str]()) if looks_at_memory else (str(make_kit(room / "kit", "-O1")), ["--steps", "1"])
         how = {"stdin": subprocess.DEVNULL, "stdout": subprocess.PIPE, "stderr": subprocess.STDOUT, "errors": "replace"}
-        words = ["rt", "try", "--test", "--seconds", str(LIMIT)]
-        ran = subprocess.run(words, cwd=f"{room}/crates/{crate.name}", check=False, **how)
-        return ran.returncode, ran.stdout
+        ran = subprocess.run([rt, "try", "--test", *steps, "--seconds", str(LIMIT)], cwd=folder, check=False, **how)
+    passed, failed = (sum(map(int, re.findall(rf"^test result: .*\b(\d+) {word};", ran.stdout, re.M))) for word in ("passed", "failed"))
+    went_well = not ran.returncode and passed
+    return Ran(ran.stdout, passed + failed, failed if went_well else max(failed, 1))

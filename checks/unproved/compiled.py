@@ -1,4 +1,5 @@
 """Compiles the program that makes calls of the crates for checks, or the library for C, without a proof, and keeps what is compiled.
+Also makes the kit that runs long tests without a proof.
 
 The program's texts are those in src/ beside this file and in the src/ of the checks that use it. It is one program for all of them, since
 most of what it costs to compile is the crates.
@@ -50,7 +51,7 @@ for word do
         *) test -n "$whole" || set -- "$@" "$word" ;;
     esac
 done
-{linker} "$@" && cp {made} {kept}
+{linker} "$@"{after}
 """
 
 
@@ -86,8 +87,8 @@ def kit_folder() -> Path:
     return Path(found).resolve().parent.parent
 
 
-def make_kit(folder: Path, made: Made, kept: Path) -> Path:
-    """A kit whose try keeps what it has made. Returns its rt."""
+def make_kit(folder: Path, effort: str, after: str = "") -> Path:
+    """A kit whose try compiles with some effort and no sanitizer, and does more after it has linked. Returns its rt."""
     kit = kit_folder()
     link_all(kit, folder)
     for name in ("bin", "toolchain"):
@@ -103,8 +104,8 @@ def make_kit(folder: Path, made: Made, kept: Path) -> Path:
     tools = folder / "toolchain" / "bin"
     tools.unlink()
     link_all(kit / "toolchain" / "bin", tools)
-    write_program(tools / "clang", COMPILER.format(clang=kit / "toolchain/bin/clang", effort=made.effort))
-    write_program(tools / "ld.lld", LINKER.format(linker=kit / "toolchain/bin/ld.lld", made=made.file, kept=kept))
+    write_program(tools / "clang", COMPILER.format(clang=kit / "toolchain/bin/clang", effort=effort))
+    write_program(tools / "ld.lld", LINKER.format(linker=kit / "toolchain/bin/ld.lld", after=after))
     return folder / "bin" / "rt"
 
 
@@ -180,7 +181,7 @@ def plant(room: Path, edits: Sequence[Edit]) -> None:
 def make(room: Path, folder: Path, made: Made, edits: Sequence[Edit]) -> Path:
     """Compiles the program of a folder of a room, whose crates get some edits, and returns what of it is kept."""
     kept = room / "kept"
-    rt = make_kit(room / "kit", made, kept)
+    rt = make_kit(room / "kit", made.effort, f" && cp {made.file} {kept}")
     plant(room, edits)
     environment = {word: value for word, value in os.environ.items() if word != "RT_BACKEND"}
     ran = subprocess.run(
