@@ -1,7 +1,9 @@
 //! The operators on numbers.
 
-ghost use Rattle.std.specs.Prelude.{◌≡◌, ◌<◌, ◌≤◌, ◌^◌};
+ghost use Rattle.std.specs.Prelude.{◌≡◌, ℕ, ◌-◌, ◌<◌, ◌≤◌, ◌^◌};
 ghost use Rattle.paris_model.specs.Combine.{combine};
+ghost use Rattle.paris_model.specs.declared.operators.Combiner.{Combiner};
+ghost use Rattle.paris_model.specs.declared.operators.Combiner.TheVariants.{BitAnd, BitOr, BitXor, Maximum, Minimum, Sum};
 
 use paris_model::Combiner;
 use paris_router::low_mask;
@@ -24,20 +26,77 @@ pub fn apply(operator: Combiner, bits: u64, x: u128, y: u128) -> u128
     }
 }
 
-/// Two numbers of `bits` bits, up to 64, combined.
-pub(crate) fn apply_word(operator: Combiner, bits: u64, held: u64, sent: u64) -> u64
-    requires narrow { bits ≤ 64 }
-    requires held_fits { held < 2 ^ bits }
-    requires sent_fits { sent < 2 ^ bits }
-    ensures value { result ≡ combine operator bits held sent }
-    ensures fits { result < 2 ^ bits }
-{
-    match operator {
-        Combiner::Sum => held.wrapping_add(sent) & low_mask(bits) as u64,
-        Combiner::BitOr => held | sent,
-        Combiner::BitAnd => held & sent,
-        Combiner::BitXor => held ^ sent,
-        Combiner::Maximum => held.max(sent),
-        Combiner::Minimum => held.min(sent),
+/// An operator on words.
+pub(crate) trait Join {
+    ghost operator: { Combiner };
+
+    /// Two words combined, where `mask` has a 1 for each of their bits.
+    fn join(mask: u64, held: u64, sent: u64) -> u64
+        ensures { (L : ℕ) → L ≤ 64 → mask ≡ 2 ^ L - 1 → result ≡ combine operator L held sent };
+}
+
+/// The sum.
+pub(crate) struct Sums;
+
+impl Join for Sums {
+    ghost operator = { Sum };
+
+    fn join(mask: u64, held: u64, sent: u64) -> u64 {
+        held.wrapping_add(sent) & mask
+    }
+}
+
+/// 1 where one of the two is, or both.
+pub(crate) struct BitOrs;
+
+impl Join for BitOrs {
+    ghost operator = { BitOr };
+
+    fn join(_mask: u64, held: u64, sent: u64) -> u64 {
+        held | sent
+    }
+}
+
+/// 1 where both are.
+pub(crate) struct BitAnds;
+
+impl Join for BitAnds {
+    ghost operator = { BitAnd };
+
+    fn join(_mask: u64, held: u64, sent: u64) -> u64 {
+        held & sent
+    }
+}
+
+/// 1 where the two differ.
+pub(crate) struct BitXors;
+
+impl Join for BitXors {
+    ghost operator = { BitXor };
+
+    fn join(_mask: u64, held: u64, sent: u64) -> u64 {
+        held ^ sent
+    }
+}
+
+/// The greater one.
+pub(crate) struct Maxima;
+
+impl Join for Maxima {
+    ghost operator = { Maximum };
+
+    fn join(_mask: u64, held: u64, sent: u64) -> u64 {
+        held.max(sent)
+    }
+}
+
+/// The lesser one.
+pub(crate) struct Minima;
+
+impl Join for Minima {
+    ghost operator = { Minimum };
+
+    fn join(_mask: u64, held: u64, sent: u64) -> u64 {
+        held.min(sent)
     }
 }

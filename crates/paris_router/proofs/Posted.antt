@@ -1,5 +1,5 @@
 -- Messages, one after the other, and what processors have of them.
-use Rattle.std.proofs.Common.{◌≡◌, ◌≢◌, ℕ, ◌+◌, ◌<◌, ◌≤◌, Bool, true, false, List, [], ◌∷◌, ◌++◌, length, get_or, take, set, map, replicate, refl, sym, ap, ◌∙◌, cond, arith, inl, inr}
+use Rattle.std.proofs.Common.{◌≡◌, ◌≢◌, ℕ, ◌+◌, ◌<◌, ◌≤◌, Bool, true, false, List, [], ◌∷◌, ◌++◌, length, get_or, take, set, map, replicate, refl, sym, ap, ◌∙◌, cond, subst, arith, inl, inr}
 use Rattle.std.specs.Prelude.{◌==◌, filter, nat_lt}
 use Rattle.std.proofs.lemmas.Bool.Decides.{nat_tests}
 use Rattle.std.proofs.lemmas.Bool.{cases_eq, ne_eqb}
@@ -9,7 +9,7 @@ use Rattle.std.proofs.lemmas.List.Elements.{filter-append}
 use Rattle.std.proofs.lemmas.List.FromFn.{fill_by_all, get_or-map-range_with_len, length-map-range_with_len}
 use Rattle.paris_geometry.specs.Geometry.{numbers_below}
 use Rattle.paris_model.specs.Mail.{arrivals}
-use Rattle.paris_router.specs.Mail.{number_of_first}
+use Rattle.paris_router.specs.Mail.{HasCome, number_of_first}
 
 -- what arrives of one message more
 posted : (mail : List (ℕ × ℕ)) (message : ℕ × ℕ) (r : ℕ) → arrivals (mail ++ message ∷ []) r ≡ arrivals mail r ++ arrivals (message ∷ []) r
@@ -48,6 +48,21 @@ get_or-seen h n mail r d inside = get_or-map-range_with_len (λ r. h r (arrivals
 -- before any message
 pub none_seen : {X : Type 0} (h : ℕ → List ℕ → X) (n : ℕ) (x : X) → ((r : ℕ) → h r [] ≡ x) → replicate n x ≡ seen h n []
 none_seen h n x all = fill_by_all (λ r. h r []) (replicate n x) n x (length-replicate n x) (λ r inside. get_or-replicate n r x x inside ∙ sym (all r))
+
+-- what each processor makes of what arrives: the first value, whether there is one, and whether there are more
+abbrev pub first : ℕ → List ℕ → ℕ
+first r xs = get_or xs 0 0
+
+abbrev pub some : ℕ → List ℕ → Bool
+some r xs = nat_lt 0 (length xs)
+
+abbrev pub more : ℕ → List ℕ → Bool
+more r xs = nat_lt 1 (length xs)
+
+pub none_come : (n : ℕ) (words : List ℕ) (receivers crowded : List Bool) → words ≡ replicate n 0 → receivers ≡ replicate n false → crowded ≡ replicate n false → HasCome (length words) [] words receivers crowded
+none_come n words receivers crowded zeros none alone =
+    subst (λ k. HasCome k [] words receivers crowded) (sym (ap length zeros ∙ length-replicate n 0))
+    (zeros ∙ none_seen first n 0 (λ r. refl), (none ∙ none_seen some n false (λ r. refl), alone ∙ none_seen more n false (λ r. refl)))
 
 -- the receiver of one message more makes x of its values
 pub seen_sent : {X : Type 0} (h : ℕ → List ℕ → X) (n : ℕ) (mail : List (ℕ × ℕ)) (message : ℕ × ℕ) (x : X) → message.0 < n → h message.0 (arrivals mail message.0 ++ message.1 ∷ []) ≡ x → set (seen h n mail) message.0 x ≡ seen h n (mail ++ message ∷ [])
@@ -127,3 +142,27 @@ value_stays (y ∷ xs) x some = refl
 pub value_comes : (xs : List ℕ) (x : ℕ) → nat_lt 0 (length xs) ≡ false → get_or (xs ++ x ∷ []) 0 0 ≡ x
 value_comes [] x none = refl
 value_comes (y ∷ xs) x none = absurd (omega (arith, at_most 0 (length (y ∷ xs)) none))
+
+-- one message more, where one has come before
+pub one_more_comes : (n : ℕ) (mail : List (ℕ × ℕ)) (r word : ℕ) (words : List ℕ) (receivers crowded : List Bool) → r < n → get_or receivers r false ≡ true → HasCome n mail words receivers crowded → HasCome n (mail ++ (r, word) ∷ []) words receivers (set crowded r true)
+one_more_comes n mail r word words receivers crowded inside marked h =
+    let before : List ℕ = arrivals mail r in
+    let there : nat_lt 0 (length before) ≡ true = sym (ap (λ l. get_or l r false) h.1.0 ∙ get_or-seen some n mail r false inside) ∙ marked in (
+      h.0 ∙ seen_kept first n mail (r, word) 0 (value_stays before word there),
+      (
+        h.1.0 ∙ seen_kept some n mail (r, word) false (some_more before word ∙ sym there),
+        ap (λ l. set l r true) h.1.1 ∙ seen_sent more n mail (r, word) true inside (two_now before word there),
+      ),
+    )
+
+-- and where none has
+pub first_one_comes : (n : ℕ) (mail : List (ℕ × ℕ)) (r word : ℕ) (words : List ℕ) (receivers crowded : List Bool) → r < n → get_or receivers r false ≡ false → HasCome n mail words receivers crowded → HasCome n (mail ++ (r, word) ∷ []) (set words r word) (set receivers r true) crowded
+first_one_comes n mail r word words receivers crowded inside free h =
+    let before : List ℕ = arrivals mail r in
+    let none : nat_lt 0 (length before) ≡ false = sym (ap (λ l. get_or l r false) h.1.0 ∙ get_or-seen some n mail r false inside) ∙ free in (
+      ap (λ l. set l r word) h.0 ∙ seen_sent first n mail (r, word) word inside (value_comes before word none),
+      (
+        ap (λ l. set l r true) h.1.0 ∙ seen_sent some n mail (r, word) true inside (some_more before word),
+        h.1.1 ∙ seen_kept more n mail (r, word) false (one_now before word none),
+      ),
+    )

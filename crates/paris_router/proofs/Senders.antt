@@ -47,7 +47,7 @@ mail_is L addresses numbers x selected count is =
     ∙ same_messages (length x.numbers) (has selected) (λ p. get_or addresses p 0) (λ p. get_or addresses p 0) (λ p. get_or numbers p 0) (operand L x) (λ p h does. refl) (λ p h.
     ap (λ l. get_or l p 0) is ∙ get_or-everywhere (length x.numbers) (operand L x) p h)
 
-pub arrivals_are : (L : ℕ) (addresses numbers : List ℕ) (x : FieldNumbers) (selected : List Bool) → length addresses ≡ length x.numbers → numbers ≡ everywhere (length x.numbers) (operand L x)
+arrivals_are : (L : ℕ) (addresses numbers : List ℕ) (x : FieldNumbers) (selected : List Bool) → length addresses ≡ length x.numbers → numbers ≡ everywhere (length x.numbers) (operand L x)
     → (r : ℕ) → map (λ p. get_or numbers p 0) (arrivals (senders addresses selected) r) ≡ arrivals (mail_to L addresses x selected) r
 arrivals_are L addresses numbers x selected count is r =
     sym (arrivals_from (length addresses) (has selected) (λ p. get_or addresses p 0) (λ p. get_or numbers p 0) r)

@@ -3,12 +3,14 @@
 
 mod addresses;
 mod gets;
+mod inbox;
 mod messages;
 mod numbers;
 mod sends;
 
 pub use addresses::checked_addresses;
 pub use gets::get;
+pub use inbox::{Inbox, deliver_mail};
 pub use messages::{checked_mail, receivers};
 pub use numbers::{low_mask, low_numbers};
 pub use sends::{Delivery, send};

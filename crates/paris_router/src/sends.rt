@@ -1,16 +1,16 @@
 //! Sending by send address.
 
-ghost use Rattle.std.specs.Prelude.{◌≡◌, ℕ, ◌+◌, ◌-◌, ◌*◌, ◌<◌, ◌≤◌, ◌&&◌, ◌++◌, ◌∷◌, List, [], All, IfOk, IfSome, None, false, find, length, min, nat_le, replicate, slice_index};
+ghost use Rattle.std.specs.Prelude.{◌≡◌, ◌<◌, ◌≤◌, All, IfOk, IfSome, None, false, find, length, replicate};
 ghost use Rattle.paris_geometry.specs.Geometry.{numbers_below};
-ghost use Rattle.paris_model.specs.Mail.{bad_sender, collision_at, first_cause, messages};
+ghost use Rattle.paris_model.specs.Mail.{collision_at, first_cause};
 ghost use Rattle.paris_names.specs.declared.limits.TheConstants.{MAX_PROCESSORS};
-ghost use Rattle.paris_plane.specs.Bits.{word_bit};
-ghost use Rattle.paris_field.specs.Numbers.{AllOf, has, number_at};
+ghost use Rattle.paris_field.specs.Numbers.{has};
 ghost use Rattle.paris_router.specs.Mail.{HasCome, bad_sender_of, crowded_in, delivered_field, first_numbers, mail_in, mail_to, receivers_of, refusal_of, senders};
 
 use crate::addresses::checked_addresses;
+use crate::inbox::{Inbox, deliver_mail};
 use crate::numbers::low_numbers;
-use paris_field::{FieldValue, block_words};
+use paris_field::FieldValue;
 use paris_model::Refusal;
 use paris_plane::Plane;
 use std::alloc::{AllocError, Global};
@@ -106,116 +106,33 @@ fn first_arrivals<T: Copy>(
     }
 }
 
-/// Brings a word to its receiver: the first that comes there stays, and a receiver to which more come is marked as crowded.
-fn accept(place: usize, word: u64, values: &mut [u64], receivers: &mut Plane, crowded: &mut Plane)
-    requires within { place < length values.old }
-    requires receivers { length receivers.old ≡ length values.old }
-    requires crowded { length crowded.old ≡ length values.old }
-    ensures receivers { length receivers.new ≡ length values.old }
-    ensures crowded { length crowded.new ≡ length values.old }
-    ensures come { (mail : List (ℕ × ℕ)) → HasCome (length values.old) mail values.old receivers.old crowded.old → HasCome (length values.old) (mail ++ (place, word) ∷ []) values.new receivers.new crowded.new }
-{
-    if receivers.get(place) {
-        crowded.set(place, true);
-    } else {
-        receivers.set(place, true);
-        values[place] = word;
-    }
+/// The first word that comes to each processor, and to which one comes, and more than one.
+#[derive(Drop)]
+struct Firsts {
+    words: Vec<u64>,
+    receivers: Plane,
+    crowded: Plane,
 }
 
-/// Brings the words of the chosen processors of a block to their addresses. Gives the place of the first chosen one whose address is
-/// outside the set, if there is one, and those behind it send nothing then.
-fn deliver_words(
-    addresses: &[u64; 64],
-    words: &[u64; 64],
-    chosen: u64,
-    count: usize,
-    values: &mut [u64],
-    receivers: &mut Plane,
-    crowded: &mut Plane,
-) -> Option<usize>
-    requires within { count ≤ 64 }
-    requires receivers { length receivers.old ≡ length values.old }
-    requires crowded { length crowded.old ≡ length values.old }
-    ensures receivers { length receivers.new ≡ length values.old }
-    ensures crowded { length crowded.new ≡ length values.old }
-    ensures bad { result ≡ find (λ i. word_bit chosen i && nat_le (length values.old) (slice_index addresses.now i)) (numbers_below count) }
-    ensures inside { IfSome result (λ i. i < count) }
-    ensures come { result ≡ None → (mail : List (ℕ × ℕ)) → HasCome (length values.old) mail values.old receivers.old crowded.old → HasCome (length values.old) (mail ++ messages count (word_bit chosen) (slice_index addresses.now) (slice_index words.now)) values.new receivers.new crowded.new }
-{
-    for i in 0..count {
-        if (chosen >> i) % 2 == 1 {
-            let address = addresses[i];
-            if address >= values.len() as u64 {
-                return Some(i);
-            }
-            accept(address as usize, words[i], values, receivers, crowded);
+impl Inbox for Firsts {
+    ghost count = { λ firsts. length firsts.words.items };
+
+    ghost IsWhole = { λ firsts. (length firsts.receivers ≡ length firsts.words.items) × (length firsts.crowded ≡ length firsts.words.items) };
+
+    ghost HasHad = { λ start mail now. HasCome (length start.words.items) mail now.words.items now.receivers now.crowded };
+
+    fn len(&self) -> usize {
+        self.words.len()
+    }
+
+    fn accept(&mut self, place: usize, word: u64) {
+        if self.receivers.get(place) {
+            self.crowded.set(place, true);
+        } else {
+            self.receivers.set(place, true);
+            self.words[place] = word;
         }
     }
-    None
-}
-
-/// Brings the numbers of the selected processors of a block to their addresses. Gives the place in the block of the first selected
-/// processor whose address is outside the set, if there is one.
-fn deliver_block(
-    addresses: &[Plane],
-    x: &[Plane],
-    selected: &Plane,
-    block: usize,
-    values: &mut [u64],
-    receivers: &mut Plane,
-    crowded: &mut Plane,
-) -> Option<usize>
-    requires address_bits { length addresses.now ≤ 64 }
-    requires narrow { length x.now ≤ 64 }
-    requires within { 64 * block < length values.old }
-    requires selected { length selected.now ≡ length values.old }
-    requires addresses { AllOf (length values.old) addresses.now }
-    requires x { AllOf (length values.old) x.now }
-    requires receivers { length receivers.old ≡ length values.old }
-    requires crowded { length crowded.old ≡ length values.old }
-    ensures receivers { length receivers.new ≡ length values.old }
-    ensures crowded { length crowded.new ≡ length values.old }
-    ensures bad { result ≡ find (λ i. has selected.now (64 * block + i) && nat_le (length values.old) (number_at addresses.now (64 * block + i))) (numbers_below (min (length values.old - 64 * block) 64)) }
-    ensures inside { IfSome result (λ i. 64 * block + i < length values.old) }
-    ensures come { result ≡ None → HasCome (length values.old) (messages (64 * block) (has selected.now) (number_at addresses.now) (number_at x.now)) values.old receivers.old crowded.old → HasCome (length values.old) (messages (min (64 * block + 64) (length values.old)) (has selected.now) (number_at addresses.now) (number_at x.now)) values.new receivers.new crowded.new }
-{
-    let vps = values.len();
-    let count = (vps - 64 * block).min(64);
-    let places = block_words(addresses, block, vps);
-    let words = block_words(x, block, vps);
-    let chosen = selected.word(block);
-    deliver_words(&places, &words, chosen, count, values, receivers, crowded)
-}
-
-/// Brings the numbers of the selected processors to their addresses. Gives the least selected processor whose address is outside the
-/// set, if there is one.
-fn deliver_all(
-    addresses: &[Plane],
-    x: &[Plane],
-    selected: &Plane,
-    values: &mut [u64],
-    receivers: &mut Plane,
-    crowded: &mut Plane,
-) -> Option<usize>
-    requires address_bits { length addresses.now ≤ 64 }
-    requires narrow { length x.now ≤ 64 }
-    requires selected { length selected.now ≡ length values.old }
-    requires addresses { AllOf (length values.old) addresses.now }
-    requires x { AllOf (length values.old) x.now }
-    requires zeros { values.old ≡ replicate (length values.old) 0 }
-    requires none { receivers.old ≡ replicate (length values.old) false }
-    requires alone { crowded.old ≡ replicate (length values.old) false }
-    ensures bad { result ≡ bad_sender (length values.old) (has selected.now) (number_at addresses.now) }
-    ensures inside { IfSome result (λ v. v < length values.old) }
-    ensures come { result ≡ None → HasCome (length values.old) (messages (length values.old) (has selected.now) (number_at addresses.now) (number_at x.now)) values.new receivers.new crowded.new }
-{
-    for block in 0..values.len().div_ceil(64) {
-        if let Some(i) = deliver_block(addresses, x, selected, block, values, receivers, crowded) {
-            return Some(64 * block + i);
-        }
-    }
-    None
 }
 
 /// What `send` makes of up to 64 bits, where addresses have up to 64 bits too.
@@ -237,24 +154,22 @@ fn send_words(
     ensures receivers { IfOk result (λ sent. IfOk sent (λ delivery. delivery.receivers ≡ receivers_of (length x.now.numbers) (mail_in bits addresses.now x.now selected.now))) }
 {
     let vps = x.len();
-    let mut values = Vec::from_elem(alloc, 0u64, vps)?;
-    let mut receivers = Plane::zeros(alloc, vps)?;
-    let mut crowded = Plane::zeros(alloc, vps)?;
-    let from = addresses.planes();
-    if let Some(v) = deliver_all(
-        from,
-        x.low(bits),
-        selected,
-        &mut values,
-        &mut receivers,
-        &mut crowded,
-    ) {
+    let words = Vec::from_elem(alloc, 0u64, vps)?;
+    let receivers = Plane::zeros(alloc, vps)?;
+    let crowded = Plane::zeros(alloc, vps)?;
+    let mut firsts = Firsts {
+        words,
+        receivers,
+        crowded,
+    };
+    if let Some(v) = deliver_mail(addresses, x, selected, bits, &mut firsts) {
         return Ok(Err(Refusal::BadAddress(v as u32)));
     }
-    if let Some(r) = first_one(&crowded) {
+    if let Some(r) = first_one(&firsts.crowded) {
         return Ok(Err(Refusal::Collision(r as u32)));
     }
-    let value = FieldValue::from_words(alloc, bits, &values)?;
+    let value = FieldValue::from_words(alloc, bits, &firsts.words)?;
+    let receivers = firsts.receivers;
     Ok(Ok(Delivery { value, receivers }))
 }
 

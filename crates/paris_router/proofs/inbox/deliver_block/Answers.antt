@@ -1,31 +1,30 @@
-use Rattle.std.proofs.Common.{◌≡◌, ℕ, Bool, ◌+◌, ◌*◌, ◌++◌, ◌∙◌, List, ap, arith, get_or, length, min, subst, sym}
+use Rattle.std.proofs.Common.{◌≡◌, ℕ, Bool, ◌+◌, ◌*◌, ◌++◌, ◌∙◌, List, ap, arith, get_or, min, subst, sym}
 use Rattle.std.specs.Prelude.{◌&&◌, find, nat_le}
 use Rattle.paris_geometry.specs.Geometry.{numbers_below}
 use Rattle.paris_model.specs.Mail.{messages}
 use Rattle.paris_plane.specs.Bits.{word_bit}
 use Rattle.paris_field.specs.Numbers.{has, number_at}
-use Rattle.paris_router.specs.Mail.{HasCome}
 use Rattle.paris_router.proofs.Least.{find_below}
 use Rattle.paris_router.proofs.Sent.{agreeing_messages, messages_join}
-use Rattle.paris_router.proofs.sends.deliver_block.Goals as goal
+use Rattle.paris_router.proofs.inbox.deliver_block.Goals as goal
 
 pub returns-clause-bad : goal.returns-clause-bad
-returns-clause-bad c =
-    let n : ℕ = length c.args.values.now in
+returns-clause-bad g c =
+    let n : ℕ = g.I.Inbox.count c.args.inbox.now in
     let b : ℕ = c.args.block in
     let count : ℕ = c.min-count.result in
     let f : ℕ → Bool = λ i. word_bit c.word-chosen.result i && nat_le n (get_or c.block_words-places.result i 0) in
-    let g : ℕ → Bool = λ i. has c.args.selected.now (64 * b + i) && nat_le n (number_at c.args.addresses.now (64 * b + i)) in
+    let t : ℕ → Bool = λ i. has c.args.selected.now (64 * b + i) && nat_le n (number_at c.args.addresses.now (64 * b + i)) in
     c.deliver_words.ensures.bad
-    ∙ find_below f g count (λ i h.
-    ap (λ s. s && nat_le n (get_or c.block_words-places.result i 0)) (c.word-chosen.ensures i (omega arith) (omega (arith, c.requires.selected)))
+    ∙ find_below f t count (λ i h.
+    ap (λ s. s && nat_le n (get_or c.block_words-places.result i 0)) (c.word-chosen.ensures i (omega arith) (omega (arith, c.requires.selected, c.len-vps.ensures)))
     ∙ ap (λ a. has c.args.selected.now (64 * b + i) && nat_le n a) (c.block_words-places.ensures i (omega arith) (omega arith)))
-    ∙ ap (λ k. find g (numbers_below k)) (omega arith)
+    ∙ ap (λ k. find t (numbers_below k)) (omega (arith, c.len-vps.ensures))
 
 pub returns-clause-come : goal.returns-clause-come
-returns-clause-come c =
-    λ none before.
-    let n : ℕ = length c.args.values.now in
+returns-clause-come g c =
+    λ none start before.
+    let n : ℕ = g.I.Inbox.count c.args.inbox.now in
     let from : ℕ = 64 * c.args.block in
     let count : ℕ = c.min-count.result in
     let selected : ℕ → Bool = has c.args.selected.now in
@@ -34,9 +33,9 @@ returns-clause-come c =
     let old : List (ℕ × ℕ) = messages from selected address value in
     let same : messages count (word_bit c.word-chosen.result) (λ i. get_or c.block_words-places.result i 0) (λ i. get_or c.block_words-words.result i 0) ≡ messages count (λ i. selected (from + i)) (λ i. address (from + i)) (λ i. value (from + i)) =
     agreeing_messages count (word_bit c.word-chosen.result) (λ i. selected (from + i)) (λ i. get_or c.block_words-places.result i 0) (λ i. address (from + i)) (λ i. get_or c.block_words-words.result i 0) (λ i. value (from + i))
-    (λ i h. c.word-chosen.ensures i (omega arith) (omega (arith, c.requires.selected)))
+    (λ i h. c.word-chosen.ensures i (omega arith) (omega (arith, c.requires.selected, c.len-vps.ensures)))
     (λ i h. c.block_words-places.ensures i (omega arith) (omega arith))
     (λ i h. c.block_words-words.ensures i (omega arith) (omega arith)) in
-    let end : from + count ≡ min (from + 64) n = omega arith in
+    let end : from + count ≡ min (from + 64) n = omega (arith, c.len-vps.ensures) in
     let all = ap (λ l. old ++ l) same ∙ sym (messages_join from count selected address value) ∙ ap (λ k. messages k selected address value) end in
-    subst (λ mail. HasCome n mail c.deliver_words.new.values c.deliver_words.new.receivers c.deliver_words.new.crowded) all (c.deliver_words.ensures.come none old before)
+    subst (λ mail. g.I.Inbox.HasHad start mail c.deliver_words.new.inbox) all (c.deliver_words.ensures.come none start old before)

@@ -1,0 +1,147 @@
+//! What messages come to, one after another, block by block of 64 senders.
+
+ghost use Rattle.std.specs.Prelude.{◌≡◌, ℕ, ◌+◌, ◌-◌, ◌*◌, ◌<◌, ◌≤◌, ◌&&◌, ◌++◌, ◌∷◌, List, [], IfSome, None, find, length, min, nat_le, slice_index};
+ghost use Rattle.paris_geometry.specs.Geometry.{numbers_below};
+ghost use Rattle.paris_model.specs.Mail.{bad_sender, messages};
+ghost use Rattle.paris_plane.specs.Bits.{word_bit};
+ghost use Rattle.paris_field.specs.Numbers.{AllOf, has, number_at};
+ghost use Rattle.paris_router.specs.Mail.{bad_sender_of, mail_in};
+
+use paris_field::{FieldValue, block_words};
+use paris_plane::Plane;
+
+/// What processors have of words that come to them one after another.
+///
+/// An implementation says of how many processors it is, what is so of each inbox, and what one has that has had some mail since it began.
+pub trait Inbox {
+    ghost count: { Self → ℕ };
+
+    ghost IsWhole: { Self → Type 0 };
+
+    ghost HasHad: { Self → List (ℕ × ℕ) → Self → Type 0 };
+
+    /// How many processors there are.
+    fn len(&self) -> usize
+        ensures { result ≡ count self.now };
+
+    /// Takes a word that comes to a processor.
+    fn accept(&mut self, place: usize, word: u64)
+        requires whole { IsWhole self.old }
+        requires within { place < count self.old }
+        ensures whole { IsWhole self.new }
+        ensures count { count self.new ≡ count self.old }
+        ensures come { (start : Self) (mail : List (ℕ × ℕ)) → HasHad start mail self.old → HasHad start (mail ++ (place, word) ∷ []) self.new };
+}
+
+/// Brings the words of the chosen processors of a block to their addresses. Gives the place of the first chosen one whose address is
+/// outside the set, if there is one, and those behind it send nothing then.
+fn deliver_words<I: Inbox>(
+    addresses: &[u64; 64],
+    words: &[u64; 64],
+    chosen: u64,
+    count: usize,
+    inbox: &mut I,
+) -> Option<usize>
+    requires within { count ≤ 64 }
+    requires whole { I.IsWhole inbox.old }
+    ensures whole { I.IsWhole inbox.new }
+    ensures count { I.count inbox.new ≡ I.count inbox.old }
+    ensures bad { result ≡ find (λ i. word_bit chosen i && nat_le (I.count inbox.old) (slice_index addresses.now i)) (numbers_below count) }
+    ensures inside { IfSome result (λ i. i < count) }
+    ensures come { result ≡ None → (start : I) (mail : List (ℕ × ℕ)) → I.HasHad start mail inbox.old → I.HasHad start (mail ++ messages count (word_bit chosen) (slice_index addresses.now) (slice_index words.now)) inbox.new }
+{
+    let vps = inbox.len() as u64;
+    for i in 0..count {
+        if (chosen >> i) % 2 == 1 {
+            let address = addresses[i];
+            if address >= vps {
+                return Some(i);
+            }
+            inbox.accept(address as usize, words[i]);
+        }
+    }
+    None
+}
+
+/// Brings the numbers of the selected processors of a block to their addresses. Gives the place in the block of the first selected
+/// processor whose address is outside the set, if there is one.
+fn deliver_block<I: Inbox>(
+    addresses: &[Plane],
+    x: &[Plane],
+    selected: &Plane,
+    block: usize,
+    inbox: &mut I,
+) -> Option<usize>
+    requires address_bits { length addresses.now ≤ 64 }
+    requires narrow { length x.now ≤ 64 }
+    requires within { 64 * block < I.count inbox.old }
+    requires selected { length selected.now ≡ I.count inbox.old }
+    requires addresses { AllOf (I.count inbox.old) addresses.now }
+    requires x { AllOf (I.count inbox.old) x.now }
+    requires whole { I.IsWhole inbox.old }
+    ensures whole { I.IsWhole inbox.new }
+    ensures count { I.count inbox.new ≡ I.count inbox.old }
+    ensures bad { result ≡ find (λ i. has selected.now (64 * block + i) && nat_le (I.count inbox.old) (number_at addresses.now (64 * block + i))) (numbers_below (min (I.count inbox.old - 64 * block) 64)) }
+    ensures inside { IfSome result (λ i. 64 * block + i < I.count inbox.old) }
+    ensures come { result ≡ None → (start : I) → I.HasHad start (messages (64 * block) (has selected.now) (number_at addresses.now) (number_at x.now)) inbox.old → I.HasHad start (messages (min (64 * block + 64) (I.count inbox.old)) (has selected.now) (number_at addresses.now) (number_at x.now)) inbox.new }
+{
+    let vps = inbox.len();
+    let count = (vps - 64 * block).min(64);
+    let places = block_words(addresses, block, vps);
+    let words = block_words(x, block, vps);
+    let chosen = selected.word(block);
+    deliver_words(&places, &words, chosen, count, inbox)
+}
+
+/// Brings the numbers of the selected processors to their addresses. Gives the least selected processor whose address is outside the
+/// set, if there is one.
+fn deliver_all<I: Inbox>(
+    addresses: &[Plane],
+    x: &[Plane],
+    selected: &Plane,
+    inbox: &mut I,
+) -> Option<usize>
+    requires address_bits { length addresses.now ≤ 64 }
+    requires narrow { length x.now ≤ 64 }
+    requires selected { length selected.now ≡ I.count inbox.old }
+    requires addresses { AllOf (I.count inbox.old) addresses.now }
+    requires x { AllOf (I.count inbox.old) x.now }
+    requires whole { I.IsWhole inbox.old }
+    ensures whole { I.IsWhole inbox.new }
+    ensures count { I.count inbox.new ≡ I.count inbox.old }
+    ensures bad { result ≡ bad_sender (I.count inbox.old) (has selected.now) (number_at addresses.now) }
+    ensures inside { IfSome result (λ v. v < I.count inbox.old) }
+    ensures come { result ≡ None → (start : I) → I.HasHad start [] inbox.old → I.HasHad start (messages (I.count inbox.old) (has selected.now) (number_at addresses.now) (number_at x.now)) inbox.new }
+{
+    for block in 0..inbox.len().div_ceil(64) {
+        if let Some(i) = deliver_block(addresses, x, selected, block, inbox) {
+            return Some(64 * block + i);
+        }
+    }
+    None
+}
+
+/// Brings the low `bits` bits of `x`, up to 64, of each selected processor to the address that it holds, of up to 64 bits too, one after
+/// another by sender. Gives the least selected processor whose address is outside the set, if there is one.
+pub fn deliver_mail<I: Inbox>(
+    addresses: &FieldValue,
+    x: &FieldValue,
+    selected: &Plane,
+    bits: u64,
+    inbox: &mut I,
+) -> Option<usize>
+    requires narrow { bits ≤ 64 }
+    requires x_width { bits ≤ x.now.width }
+    requires address_width { addresses.now.width ≤ 64 }
+    requires addresses { length addresses.now.numbers ≡ length x.now.numbers }
+    requires selected { length selected.now ≡ length x.now.numbers }
+    requires count { I.count inbox.old ≡ length x.now.numbers }
+    requires whole { I.IsWhole inbox.old }
+    ensures whole { I.IsWhole inbox.new }
+    ensures count { I.count inbox.new ≡ I.count inbox.old }
+    ensures bad { result ≡ bad_sender_of addresses.now selected.now }
+    ensures inside { IfSome result (λ v. v < length x.now.numbers) }
+    ensures come { result ≡ None → (start : I) → I.HasHad start [] inbox.old → I.HasHad start (mail_in bits addresses.now x.now selected.now) inbox.new }
+{
+    deliver_all(addresses.planes(), x.low(bits), selected, inbox)
+}
