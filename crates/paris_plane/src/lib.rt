@@ -6,6 +6,7 @@ mod few;
 mod kernel;
 mod moves;
 mod plane;
+mod runs;
 mod turns;
 mod words;
 

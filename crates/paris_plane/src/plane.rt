@@ -1,6 +1,6 @@
 //! A plane of bits, one for each virtual processor.
 
-ghost use Rattle.std.specs.Prelude.{◌≡◌, ◌≢◌, ◌↔◌, ℕ, ◌+◌, ◌-◌, ◌*◌, ◌/◌, ◌%◌, IfOk, IsTrue, cond, length, map, not, ◌<◌, ◌≤◌, replicate, slice_index, slice_index_or, slice_set, true, false, ◌&&◌, ◌||◌};
+ghost use Rattle.std.specs.Prelude.{◌≡◌, ◌≢◌, ◌↔◌, ℕ, ◌+◌, ◌-◌, ◌*◌, ◌/◌, ◌%◌, ◌^◌, IfOk, IsTrue, cond, length, map, not, ◌<◌, ◌≤◌, replicate, slice_index, slice_index_or, slice_set, true, false, ◌&&◌, ◌||◌};
 ghost use Rattle.std.specs.Simd.Lanes.{zip2};
 ghost use Rattle.std.specs.Int.{IsPowerOfTwo};
 ghost use Rattle.paris_plane.specs.Bits.{borrow_bit, carry_bit, differ, stripes, sum_bit, word_bit, words_for, zip3};
@@ -12,6 +12,7 @@ use crate::kernel::{
     put_words, same_words,
 };
 use crate::moves::{lower_words, raise_words};
+use crate::runs::{alternate_words, repeated_words};
 use crate::turns::{turn_down_words, turn_up_words};
 use crate::words::{
     Words, copied_words, difference_words, filled_words, new_inverted, new_triples, new_words,
@@ -186,6 +187,36 @@ impl Plane {
         ensures { IsTrue result → (v : ℕ) → v < length self.now → slice_index_or self.now v false ≡ true }
     {
         self.len % 64 == 0 && are_full(&self.words)
+    }
+
+    /// Every second one of its runs of `words` words, of which the first begins at word `from`: `count` of them. Fails only for want of
+    /// memory.
+    pub fn alternate(&self, from: usize, words: usize, count: usize) -> Result<Plane, AllocError>
+        requires from { from ≤ words }
+        requires whole { length self.now ≡ 2 * (count * (64 * words)) }
+        ensures long { IfOk result (λ p. length p ≡ count * (64 * words)) }
+        ensures bits { IfOk result (λ p. (i j : ℕ) → i < count → j < 64 * words → slice_index_or p (i * (64 * words) + j) false ≡ slice_index_or self.now (i * (128 * words) + (64 * from + j)) false) }
+    {
+        let made = alternate_words(*self.words.allocator(), &self.words, from, words, count)?;
+        Ok(Plane {
+            words: made,
+            len: self.len / 2,
+        })
+    }
+
+    /// Each of its `runs` runs of `words` words, `count` times over. Fails only for want of memory.
+    pub fn repeated(&self, words: usize, runs: usize, count: usize) -> Result<Plane, AllocError>
+        requires some { 0 < count }
+        requires whole { length self.now ≡ runs * (64 * words) }
+        requires small { length self.now * count < 2 ^ 63 }
+        ensures long { IfOk result (λ p. length p ≡ runs * (count * (64 * words))) }
+        ensures bits { IfOk result (λ p. (i c j : ℕ) → i < runs → c < count → j < 64 * words → slice_index_or p (i * (count * (64 * words)) + (c * (64 * words) + j)) false ≡ slice_index_or self.now (i * (64 * words) + j) false) }
+    {
+        let made = repeated_words(*self.words.allocator(), &self.words, words, runs, count)?;
+        Ok(Plane {
+            words: made,
+            len: self.len * count,
+        })
     }
 
     /// The number of bits.

@@ -9,4 +9,4 @@ pub mod Without
 pub mod Blocks
 pub mod Running
 pub mod Adjacent
-pub mod Columns
+pub mod Mixed

@@ -12,7 +12,7 @@ ghost use Rattle.paris_scan.specs.Lines.{combined_field, of_lines, placed_field,
 ghost use Rattle.paris_scan.specs.Shown.{complement, complement_shown, shown_field};
 
 use crate::bitwise::{Ors, Xors};
-use crate::blocks::JoinBlock;
+use crate::halves::JoinHalves;
 use crate::maxima::Maxima;
 use crate::repeated::{line_plane, line_value};
 use crate::results::Combined;
@@ -33,7 +33,7 @@ pub(crate) fn is_adjacent(geometry: Geometry, axis: usize) -> bool
 }
 
 /// What the values of the selected processors of a span come to, as one number.
-pub trait Total: JoinBlock {
+pub trait Total: JoinHalves {
     /// The span has `count` processors from `start` on. In `selected`, processors of the span may be left out.
     fn total(planes: &[Plane], selected: &mut Plane, start: usize, count: usize) -> u128
         requires narrow { length planes.now ≤ 128 }

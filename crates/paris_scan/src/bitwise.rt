@@ -12,7 +12,7 @@ use crate::partner::{Partner, bring_planes};
 use paris_plane::{Or, Plane, WordOp, Xor};
 
 /// Puts what the operation makes of each bit and that of `other` in its place.
-fn put_planes<O: WordOp>(planes: &mut [Plane], other: &[Plane])
+pub(crate) fn put_planes<O: WordOp>(planes: &mut [Plane], other: &[Plane])
     requires same { length other.now ≡ length planes.old }
     requires long { (k : ℕ) → k < length other.now → length (plane_at planes.old k) ≡ length (plane_at other.now k) }
     ensures at { (k : ℕ) → k < length other.now → plane_at planes.new k ≡ zip2 O.bit (plane_at planes.old k) (plane_at other.now k) }

@@ -1,5 +1,5 @@
 //! Values gathered over whole lines: after each turn a processor holds what twice as many neighbours of its line show. Lines that lie
-//! whole words apart are gathered row by row.
+//! whole words apart are gathered half by half.
 
 ghost use Rattle.std.specs.Prelude.{◌≡◌, ℕ, ◌+◌, ◌^◌, ◌<◌, ◌≤◌, ◌∷◌, All, Bool, IfOk, List, [], length};
 ghost use Rattle.paris_geometry.specs.Geometry.{axis_length, processor_count, stride};
@@ -7,9 +7,9 @@ ghost use Rattle.paris_model.specs.Lines.{line_values, values_where};
 ghost use Rattle.paris_field.specs.Numbers.{AllOf, number_at};
 ghost use Rattle.paris_scan.specs.Blocks.{block};
 
-use crate::blocks::JoinBlock;
 use crate::columns::{column_planes, is_column};
 use crate::combine::Commute;
+use crate::halves::JoinHalves;
 use crate::partner::Partner;
 use paris_field::zero_planes;
 use paris_geometry::Geometry;
@@ -73,7 +73,7 @@ fn turned_planes<C: Commute>(
 
 /// What the values of each line come to, in each of its processors. In `state` each selected processor has its own value, and the
 /// others have 0.
-pub fn spread_planes<C: JoinBlock>(
+pub fn spread_planes<C: JoinHalves>(
     alloc: Global,
     geometry: Geometry,
     axis: usize,

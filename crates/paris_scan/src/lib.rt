@@ -4,13 +4,13 @@
 
 mod adjacent;
 mod bitwise;
-mod blocks;
 mod butterfly;
 mod columns;
 mod combine;
 mod doubling;
 mod extremes;
 mod firsts;
+mod halves;
 mod lines;
 mod maxima;
 mod moves;
@@ -25,10 +25,10 @@ mod sums;
 
 pub use adjacent::Total;
 pub use bitwise::{Ors, Xors};
-pub use blocks::JoinBlock;
 pub use butterfly::spread_planes;
 pub use combine::{Combine, Commute};
 pub use firsts::Firsts;
+pub use halves::JoinHalves;
 pub use lines::{Along, scan_planes};
 pub use maxima::Maxima;
 pub use partner::Partner;

@@ -12,7 +12,7 @@ use paris_field::merge_planes;
 use paris_plane::{Borrow, Plane};
 
 /// Puts a 1 where the number of `x` is below that of `y`, and a 0 elsewhere.
-fn mark_below(x: &[Plane], y: &[Plane], below: &mut Plane)
+pub(crate) fn mark_below(x: &[Plane], y: &[Plane], below: &mut Plane)
     requires same { length x.now ≡ length y.now }
     requires x_planes { AllOf (length below.old) x.now }
     requires y_planes { AllOf (length below.old) y.now }

@@ -36,7 +36,7 @@ fn add_brought(
 }
 
 /// Puts a 1 also where one of two planes has one.
-fn or_both(x: &Plane, y: &Plane, out: &mut Plane)
+pub(crate) fn or_both(x: &Plane, y: &Plane, out: &mut Plane)
     requires x { length out.old ≡ length x.now }
     requires y { length out.old ≡ length y.now }
     ensures long { length out.new ≡ length out.old }

@@ -1,0 +1,10 @@
+use Rattle.std.proofs.Common.{◌≡◌, ℕ, ◌+◌, ◌*◌, ◌<◌, length}
+use Rattle.paris_field.specs.Numbers.{has, plane_at}
+use Rattle.paris_scan.proofs.columns.alternate_planes.Given as goal
+
+abbrev pub invariant-loop-k : goal.invariant-loop-k
+invariant-loop-k l = record {
+  count : length l.made.items ≡ l.k;
+  long : (j : ℕ) → j < l.k → length (plane_at l.made.items j) ≡ l.count * (64 * l.words);
+  at : (j p o : ℕ) → j < l.k → p < l.count → o < 64 * l.words → has (plane_at l.made.items j) (p * (64 * l.words) + o) ≡ has (plane_at l.planes j) (p * (128 * l.words) + (64 * l.from + o));
+}
