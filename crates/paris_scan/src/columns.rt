@@ -18,7 +18,7 @@ pub(crate) fn is_column(geometry: Geometry, axis: usize) -> bool
     requires { axis < length geometry }
     ensures { IsTrue result → stride geometry axis % 64 ≡ 0 }
 {
-    geometry.stride(axis) % 64 == 0 && geometry.len(axis) >= 8
+    geometry.stride(axis) % 64 == 0 && geometry.len(axis) >= 16
 }
 
 /// Every second run of `words` words of each plane, of which the first begins at word `from`: `count` of them.

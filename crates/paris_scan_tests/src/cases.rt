@@ -61,15 +61,15 @@ pub(crate) const ROWS: &[(&[u64], &[u64], &[u64])] = &[
 /// Sets in lines that lie whole words apart along an axis, and some that nearly do: the lengths of their axes, widths, and in how many
 /// eighths of the processors the context is 1.
 pub(crate) const COLUMNS: &[(&[u64], &[u64], &[u64])] = &[
-    (&[64, 8], &[1, 8, 96, 128], &[0, 1, 8]),
-    (&[64, 4], &[8], &[5]),
+    (&[64, 16], &[1, 8, 96, 128], &[0, 1, 8]),
+    (&[64, 8], &[8], &[5]),
     (&[32, 16], &[8], &[5]),
     (&[32, 2, 16], &[64], &[5]),
     (&[64, 1, 32], &[33], &[5]),
-    (&[64, 8, 2], &[8], &[1, 8]),
-    (&[16, 8, 8, 2], &[7], &[5]),
-    (&[128, 8, 2], &[1], &[5]),
-    (&[256, 8], &[8], &[8]),
+    (&[64, 16, 2], &[8], &[1, 8]),
+    (&[16, 8, 16, 2], &[7], &[5]),
+    (&[128, 16, 2], &[1], &[5]),
+    (&[256, 16], &[8], &[8]),
 ];
 
 /// Sets whose sums, maxima and minima may be made one after another: the lengths of their axes, widths, and in how many eighths of the
