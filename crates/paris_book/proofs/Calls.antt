@@ -1,24 +1,22 @@
 -- What the calls of a book find is what the machine names.
-use Rattle.std.proofs.Common.{◌≡◌, ℕ, ◌<◌, ◌≤◌, ◌+◌, List, [], ◌∷◌, ◌++◌, Bool, true, false, cond, Option, Some, None, Ok, Err, refl, sym, ap, ◌∙◌, subst, arith, eqb, map, length, take, drop, suc, add-zero, get_or, length-append}
+use Rattle.std.proofs.Common.{◌≡◌, ℕ, ◌<◌, ◌≤◌, ◌+◌, List, [], ◌∷◌, ◌++◌, Bool, true, false, cond, Option, Some, None, Ok, Err, refl, sym, ap, ◌∙◌, subst, arith, map, length, take, drop, suc, add-zero, get_or, length-append}
 use Rattle.std.proofs.Math.Path.{ap₂}
 use Rattle.std.proofs.lemmas.List.{map-append, take_more}
-use Rattle.std.specs.Prelude.{◌||◌, Result, IfErr}
-use Rattle.std.specs.Option.{option_map, unwrap_or}
+use Rattle.std.specs.Prelude.{Result, IfErr}
+use Rattle.std.specs.Option.{option_map}
 use Rattle.paris_names.specs.declared.keys.Key.{Key}
 use Rattle.paris_board.specs.Board.{Board, is_declared, width_of, count_of}
 use Rattle.paris_model.specs.Instructions.{Plan}
 use Rattle.paris_events.specs.Rows.{is_settled}
-use Rattle.paris_machine.specs.State.{Row, Inputs, State, find_id, input_of}
+use Rattle.paris_machine.specs.State.{Row, Inputs, State, find_id}
 use Rattle.paris_machine.specs.Show.{show_at, show_from}
-use Rattle.paris_machine.specs.Edits.{known, input_changed, input_set}
-use Rattle.paris_book.specs.Whole.{input_shape, shape_in, Shaped, Fitted}
+use Rattle.paris_machine.specs.Edits.{known}
+use Rattle.paris_book.specs.Whole.{Shaped, Fitted}
 use Rattle.paris_program.specs.Program.{place_of}
 use Rattle.paris_book.specs.Entries.{Entry, machine_row}
 use Rattle.paris_book.proofs.Entering.{find_is}
 use Rattle.paris_machine.specs.declared.inputs.Input.{Input}
 use Rattle.paris_book.specs.Among.{shown_at}
-use Rattle.std.specs.Prelude.{position, nat_le, nat_lt, ◌^◌}
-use Rattle.std.proofs.lemmas.Bool.Decides.{nat_tests}
 use Rattle.std.proofs.lemmas.List.{length-drop, length-take-le}
 use Rattle.std.specs.Option.{ok_or}
 use Rattle.paris_names.specs.declared.ids.RowId.{RowId}
@@ -26,15 +24,14 @@ use Rattle.paris_names.specs.declared.ids.Spot.{Spot}
 use Rattle.paris_names.specs.declared.ids.Spot.TheVariants.{After}
 use Rattle.paris_names.specs.declared.names.KeyName.{KeyName}
 use Rattle.paris_names.specs.declared.faults.Fault.{Fault}
-use Rattle.paris_names.specs.declared.faults.Fault.TheVariants.{NoField, WrongCount, TooWide, NoRow}
+use Rattle.paris_names.specs.declared.faults.Fault.TheVariants.{NoField, NoRow}
 use Rattle.paris_names.specs.declared.limits.TheConstants.{MAX_EDITS}
 use Rattle.paris_board.specs.Board.{key_named}
 use Rattle.paris_instr.specs.Resolve.{IsFittedTo}
 use Rattle.paris_field.specs.Fields.{overwritten}
 use Rattle.paris_machine.specs.declared.events.Shown.{Shown as AnyShown}
-use Rattle.paris_machine.specs.State.{place_of_spot, with_input}
+use Rattle.paris_machine.specs.State.{place_of_spot}
 use Rattle.paris_machine.specs.Show.{show_reply, show_key}
-use Rattle.paris_machine.specs.Edits.{edited, fault_of_values, input_fault, known_rows}
 use Rattle.paris_machine.specs.Settling.{unsettled_rows}
 use Rattle.paris_book.proofs.Inserts.{state_of}
 use Rattle.paris_book.proofs.Shows.{show_is, look_seen}
@@ -77,30 +74,6 @@ shown_is b n m inputs es s name spot k place look y shaped known named at is =
     ∙ ap (show_key s spot) (sym (found_named (key_named b name) k NoField named))
     ∙ ap (λ (z : State). show_key s spot (key_named z.board name)) y
 
--- input data that a declared key has is of the board's shape
-pub shape_known : (b : Board) (inputs : Inputs) (k : Key) (i : Input) → Shaped b inputs → is_declared b k ≡ true → input_of inputs k ≡ Some i → (i.value.width ≡ width_of b k) × (length i.value.numbers ≡ count_of b k)
-shape_known b inputs k i shaped known there =
-    let both : Some (i.value.width, length i.value.numbers) ≡ Some (width_of b k, count_of b k) = sym (ap input_shape there) ∙ shaped k ∙ ap (λ t. cond t (Some (width_of b k, count_of b k)) None) known in
-    let same : (i.value.width, length i.value.numbers) ≡ (width_of b k, count_of b k) = ap (λ o. unwrap_or o (i.value.width, length i.value.numbers)) both in
-    (ap (λ (p : ℕ × ℕ). p.0) same, ap (λ (p : ℕ × ℕ). p.1) same)
-
-pub values_known : (b : Board) (n m : ℕ) (inputs : Inputs) (es : List Entry) (s : State) (name : KeyName) (from : ℕ) (values : List ℕ) (k : Key) (i : Input)
-    → state_of b n m inputs es ≡ s → Shaped b inputs → is_declared b k ≡ true → Ok k ≡ ok_or (key_named b name) NoField → input_of inputs k ≡ Some i
-    → fault_of_values (length i.value.numbers) i.value.width from values ≡ input_fault s from values (key_named s.board name)
-values_known b n m inputs es s name from values k i y shaped known named there =
-    let shape = shape_known b inputs k i shaped known there in
-    ap₂ (λ c w. fault_of_values c w from values) shape.1 shape.0
-    ∙ ap (input_fault (state_of b n m inputs es) from values) (sym (found_named (key_named b name) k NoField named))
-    ∙ ap (λ (z : State). input_fault z from values (key_named z.board name)) y
-
-pub input_named : (b : Board) (n m : ℕ) (inputs : Inputs) (es : List Entry) (s : State) (name : KeyName) (from : ℕ) (values : List ℕ) (k : Key) (i : Input)
-    → state_of b n m inputs es ≡ s → Ok k ≡ ok_or (key_named b name) NoField → input_of inputs k ≡ Some i
-    → input_changed (state_of b n m inputs es) k from values (Some i) ≡ input_set s (key_named s.board name) from values
-input_named b n m inputs es s name from values k i y named there =
-    ap (input_changed (state_of b n m inputs es) k from values) (sym there)
-    ∙ ap (λ o. input_set (state_of b n m inputs es) o from values) (sym (found_named (key_named b name) k NoField named))
-    ∙ ap (λ (z : State). input_set z (key_named z.board name) from values) y
-
 pub width_given : (i : Input) (from : ℕ) (values : List ℕ) → from + length values ≤ length i.value.numbers → length i.value.numbers ≡ length (overwritten i.value.numbers from values)
 width_given i from values h =
     let all = length-append (take from i.value.numbers) (values ++ drop (from + length values) i.value.numbers) in
@@ -108,40 +81,6 @@ width_given i from values h =
     let rest = length-append values (drop (from + length values) i.value.numbers) in
     let last = length-drop (from + length values) i.value.numbers in
     omega (arith, all, first, rest, last, h)
-
-not_less : (m n : ℕ) → nat_lt m n ≡ false → n ≤ m
-not_less m n e = grind (arith, nat_tests)
-
-pub values_within : (count width from : ℕ) (values : List ℕ) → fault_of_values count width from values ≡ None → from + length values ≤ count
-values_within count width from values h = by_test (eqb (length values) 0) (nat_lt count (from + length values)) refl h
-  where
-    by_test : (a t : Bool) → nat_lt count (from + length values) ≡ t → cond (a || t) (Some WrongCount) (option_map (λ i. TooWide (from + i)) (position (λ x. nat_le (2 ^ width) x) values)) ≡ None → from + length values ≤ count
-    by_test true t e x = absurd (cc)
-    by_test false true e x = absurd (cc)
-    by_test false false e x = not_less count (from + length values) e
-
--- the input data that values make has the shape of what was there
-pub given_shape : (b : Board) (n m : ℕ) (inputs : Inputs) (es : List Entry) (s : State) (from : ℕ) (values : List ℕ) (k : Key) (i j : Input)
-    → state_of b n m inputs es ≡ s → input_of inputs k ≡ Some j → fault_of_values (length j.value.numbers) j.value.width from values ≡ None
-    → i ≡ record { value = record { width = j.value.width; numbers = overwritten j.value.numbers from values }; number = n + 1 }
-    → shape_in s.inputs k ≡ Some (i.value.width, length i.value.numbers)
-given_shape b n m inputs es s from values k i j y there none given =
-    ap (λ (z : State). shape_in z.inputs k) (sym y) ∙ ap input_shape there
-    ∙ ap (λ c. Some (j.value.width, c)) (width_given j from values (values_within (length j.value.numbers) j.value.width from values none))
-    ∙ ap (λ (x : Input). Some (x.value.width, length x.value.numbers)) (sym given)
-
--- it is what the edit of these values makes
-pub given_named : (b : Board) (n m : ℕ) (inputs : Inputs) (es : List Entry) (s new : State) (name : KeyName) (from : ℕ) (values : List ℕ) (k : Key) (i j : Input)
-    → state_of b n m inputs es ≡ s → Ok k ≡ ok_or (key_named b name) NoField → input_of inputs k ≡ Some j
-    → i ≡ record { value = record { width = j.value.width; numbers = overwritten j.value.numbers from values }; number = n + 1 }
-    → new ≡ edited s s.board (with_input s.inputs k i) s.next (known_rows s)
-    → new ≡ input_set s (key_named s.board name) from values
-given_named b n m inputs es s new name from values k i j y named there given made =
-    let old : State = state_of b n m inputs es in
-    made
-    ∙ ap (λ (z : State). edited z z.board (with_input z.inputs k i) z.next (known_rows z)) (sym y)
-    ∙ ap (λ (x : Input). edited old b (with_input inputs k x) m (known_rows old)) given
-    ∙ input_named b n m inputs es s name from values k j y named there
 
 unsettled-append : (xs ys : List Row) → unsettled_rows (xs ++ ys) ≡ unsettled_rows xs + unsettled_rows ys
 unsettled-append [] ys = omega arith

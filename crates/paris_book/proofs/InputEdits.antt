@@ -1,9 +1,9 @@
 -- An input edit of a key keeps what is always true of a book.
-use Rattle.std.proofs.Common.{◌≡◌, ℕ, ◌<◌, ◌≤◌, ◌+◌, List, [], ◌∷◌, Bool, true, false, Option, Some, None, refl, sym, ap, ◌∙◌, subst, arith, eqb, map, length, zero, suc, set, slice_get, length-set}
+use Rattle.std.proofs.Common.{◌≡◌, ℕ, ◌<◌, ◌≤◌, ◌+◌, List, [], ◌∷◌, Bool, true, false, Option, IsSome, Some, None, refl, sym, ap, ◌∙◌, subst, arith, eqb, map, length, zero, suc, set, slice_get, length-set}
 use Rattle.std.proofs.Math.Path.{ap₂}
 use Rattle.std.proofs.lemmas.Bool.{eqb-true, eq-eqb}
 use Rattle.std.specs.Prelude.{not, ◌&&◌, ◌||◌}
-use Rattle.std.specs.Option.{option_map, unwrap_or}
+use Rattle.std.specs.Option.{option_map}
 use Rattle.paris_names.specs.declared.keys.Key.{Key}
 use Rattle.paris_names.specs.declared.keys.Key.TheVariants.{Field, Flag}
 use Rattle.paris_names.specs.declared.keys.FlagName.{FlagName}
@@ -150,20 +150,17 @@ flags_stay inputs (Flag s flag) i = by_there (slice_get inputs.flags s)
     by_there (Some x) = length-set inputs.flags s (with_flag_input x flag i)
 
 -- the input data of a key that has the shape of another
-pub record Before (inputs : Inputs) (k : Key) (i : Input) : Type 0 where
-  pub old : Input
-  pub there : input_of inputs k ≡ Some old
-  pub width : i.value.width ≡ old.value.width
-  pub count : length i.value.numbers ≡ length old.value.numbers
+-- a key's input data, where it has some
+pub record Present (inputs : Inputs) (k : Key) : Type 0 where
+  pub input : Input
+  pub there : input_of inputs k ≡ Some input
 
-pub before : (inputs : Inputs) (k : Key) (i : Input) → shape_in inputs k ≡ Some (i.value.width, length i.value.numbers) → Before inputs k i
-before inputs k i shape = by_there (input_of inputs k) refl shape
+pub present : (inputs : Inputs) (k : Key) → IsSome (input_of inputs k) → Present inputs k
+present inputs k some = by_there (input_of inputs k) refl some
   where
-    by_there : (o : Option Input) → input_of inputs k ≡ o → input_shape o ≡ Some (i.value.width, length i.value.numbers) → Before inputs k i
+    by_there : (o : Option Input) → input_of inputs k ≡ o → IsSome o → Present inputs k
     by_there None there e = absurd (cc)
-    by_there (Some j) there e =
-        let same : (i.value.width, length i.value.numbers) ≡ (j.value.width, length j.value.numbers) = sym (ap (λ o. unwrap_or o (i.value.width, length i.value.numbers)) e) in
-        record { old = j; there = there; width = ap (λ (p : ℕ × ℕ). p.0) same; count = ap (λ (p : ℕ × ℕ). p.1) same }
+    by_there (Some j) there e = record { input = j; there = there }
 
 pub input_whole : (b : Board) (n m : ℕ) (inputs : Inputs) (es zs : List Entry) (k : Key) (i j : Input) → n < MAX_EDITS → input_of inputs k ≡ Some j → i.number ≡ n + 1 → i.value.width ≡ j.value.width → length i.value.numbers ≡ length j.value.numbers
     → IsWhole b n m inputs es → zs ≡ swept_entries (n + 1) (has_key (k ∷ [])) es → IsWhole b (n + 1) m (with_input inputs k i) zs
@@ -183,6 +180,12 @@ input_whole b n m inputs es zs k i j few there new width count w z =
       fitted = fitted_swept (with_input inputs k i) (n + 1) d es (fitted_up inputs (with_input inputs k i) es (λ f s h. stays f ∙ h) w.fitted);
       sound = sound_swept (n + 1) d (start_world inputs) (start_world (with_input inputs k i)) (λ _. true) (λ _. true) (input_agree inputs k i) (λ f t. refl) es w.sound;
     })
+
+pub input_whole_at : (b : Board) (n m : ℕ) (inputs : Inputs) (es zs : List Entry) (k : Key) (i j : Input) → n < MAX_EDITS → input_of inputs k ≡ Some j → i.number ≡ n + 1 → i.value.width ≡ j.value.width → length i.value.numbers ≡ length j.value.numbers
+    → IsWhole b n m inputs es → zs ≡ swept_entries (n + 1) (has_key (k ∷ [])) es
+    → (edits next : ℕ) (after : Inputs) → edits ≡ n + 1 → next ≡ m → after ≡ with_input inputs k i → IsWhole b edits next after zs
+input_whole_at b n m inputs es zs k i j few there new width count w z edits next after e f g =
+    rw (e, f, g) (input_whole b n m inputs es zs k i j few there new width count w z)
 
 pub input_view : (b : Board) (n m : ℕ) (inputs : Inputs) (es zs : List Entry) (k : Key) (i j : Input) → input_of inputs k ≡ Some j → i.number ≡ n + 1 → IsWhole b n m inputs es → zs ≡ swept_entries (n + 1) (has_key (k ∷ [])) es
     → state_of b (n + 1) m (with_input inputs k i) zs ≡ edited (state_of b n m inputs es) b (with_input inputs k i) m (known_rows (state_of b n m inputs es))

@@ -1,14 +1,18 @@
 -- What the machine shows, said of a book's rows.
-use Rattle.std.specs.Prelude.{◌≡◌, ℕ, List, map, length, Option, Some, None, [], ◌∷◌, ◌++◌, if◌then◌else◌}
+use Rattle.std.specs.Prelude.{◌≡◌, ◌≤◌, ◌+◌, ℕ, List, map, length, Option, Some, None, [], ◌∷◌, ◌++◌, if◌then◌else◌}
 use Rattle.paris_names.specs.declared.keys.Key.{Key}
 use Rattle.paris_model.specs.declared.actions.Refusal.{Refusal}
 use Rattle.paris_model.specs.Instructions.{reads, refusal, value_at}
 use Rattle.paris_exec.specs.Tasks.{Task, numbers_of}
 use Rattle.paris_events.specs.Rows.{is_settled}
+use Rattle.paris_field.specs.Fields.{AllFit, overwritten}
 use Rattle.paris_machine.specs.State.{Inputs}
+use Rattle.paris_machine.specs.declared.inputs.Input.{Input}
 use Rattle.paris_machine.specs.Show.{now, origin_at, shown_of}
 use Rattle.paris_machine.specs.Lists.{fault_by}
 use Rattle.paris_book.specs.Whole.{shape_in}
+use Rattle.paris_book.specs.declared.inputs.Given.{Given}
+use Rattle.paris_book.specs.declared.inputs.Given.TheVariants.{Numbers, Words}
 use Rattle.paris_book.specs.declared.inputs.InputData.{InputData}
 use Rattle.paris_book.specs.Entries.{Entry, id_of, seen, rows_seen}
 use Rattle.paris_book.specs.declared.look.Look.{Look}
@@ -22,6 +26,18 @@ use Rattle.paris_machine.specs.declared.events.Shown.TheVariants.{Settled as Sho
 
 abbrev pub inputs_of : InputData → Inputs
 inputs_of d = record { fields = d.fields.items; flags = d.flags.items }
+
+abbrev pub given_numbers : Given → List ℕ
+given_numbers (Numbers xs) = xs.now
+given_numbers (Words xs) = xs.now
+
+-- these numbers can be given from a place on
+abbrev pub CanGive : Input → ℕ → List ℕ → Type 0
+CanGive input from values = (from + length values ≤ length input.value.numbers) × AllFit input.value.width values
+
+-- input data with these numbers in place of as many from a processor on, as the edit of a number gives them
+abbrev pub input_given : Input → ℕ → ℕ → List ℕ → Input
+input_given input number from values = record { value = record input.value { numbers = overwritten input.value.numbers from values }; number = number }
 
 abbrev pub width_in_shape : Option (ℕ × ℕ) → ℕ
 width_in_shape None = 0

@@ -1,6 +1,6 @@
 //! Edits of a book: declarations, input data, and rows that are put in, taken out and replaced.
 
-ghost use Rattle.std.specs.Prelude.{◌≡◌, ◌<◌, ◌≤◌, length, Ok, Some, None, IfOk, IfErr, OnOk, OnErr, ◌+◌, if◌then◌else◌};
+ghost use Rattle.std.specs.Prelude.{◌≡◌, ◌<◌, ◌≤◌, length, Ok, Some, None, IfOk, IfErr, IfSome, IsSome, OnOk, OnErr, if◌then◌else◌};
 ghost use Rattle.std.specs.Option.{option_or};
 ghost use Rattle.paris_names.specs.Faults.{IsFaultOf};
 ghost use Rattle.paris_names.specs.declared.faults.Fault.TheVariants as FaultCase;
@@ -8,14 +8,13 @@ ghost use Rattle.paris_names.specs.declared.ids.Spot.TheVariants as SpotCase;
 ghost use Rattle.paris_geometry.specs.Geometry.{is_geometry};
 ghost use Rattle.paris_board.specs.Board.{set_fault, field_fault, key_named, set_named};
 ghost use Rattle.paris_instr.specs.Resolve.{IsFittedTo};
-ghost use Rattle.paris_machine.specs.State.{find_row, place_of_spot, with_input};
-ghost use Rattle.paris_machine.specs.Edits.{HasEditsLeft, edit_fault, edit_answer, content_fault, edited_by, input_fault, set_added, field_added, edited, input_set, known_rows, row_inserted, replaced_from};
+ghost use Rattle.paris_machine.specs.State.{find_row, input_of, place_of_spot};
+ghost use Rattle.paris_machine.specs.Edits.{HasEditsLeft, edit_fault, edit_answer, content_fault, edited_by, input_fault, set_added, field_added, input_set, row_inserted, replaced_from};
 ghost use Rattle.paris_events.specs.declared.edits.Edit.TheVariants as EditCase;
-ghost use Rattle.paris_book.specs.Whole.{shape_in};
+ghost use Rattle.paris_book.specs.Among.{CanGive, given_numbers};
 
 use crate::inputs::{
-    declare_flags, declare_input, given_input, given_words, input_at, push_field, push_flags,
-    set_input,
+    Given, declare_flags, declare_input, give_key, given_fault, push_field, push_flags,
 };
 use crate::loose::Loose;
 use crate::marks::{end_edit, unsettled_by_replace};
@@ -23,7 +22,6 @@ use crate::rows::RowData;
 use paris_events::{Edit, EditReply};
 use paris_geometry::Geometry;
 use paris_instr::{Plan, resolve};
-use paris_machine::Input;
 use paris_model::Instr;
 use paris_names::limits::{MAX_EDITS, MAX_ROWS};
 use paris_names::{Fault, Key, KeyName, Name, RowId, Spot};
@@ -72,53 +70,34 @@ impl Loose {
         Ok(())
     }
 
-    /// Gives a key values from a processor on, if there are edits left.
-    fn set_input(&mut self, name: KeyName, from: u64, values: &[u128]) -> Result<(), Fault>
+    /// Gives a key numbers from a processor on, if there are edits left.
+    fn set_input(&mut self, name: KeyName, from: u64, given: &Given<'_>) -> Result<(), Fault>
         requires left { HasEditsLeft self.old }
-        ensures ok { OnOk result ((input_fault self.old from values.now (key_named self.old.board name) ≡ None)
-            × (self.new ≡ input_set self.old (key_named self.old.board name) from values.now)) }
+        ensures ok { OnOk result ((input_fault self.old from (given_numbers given.now) (key_named self.old.board name) ≡ None)
+            × (self.new ≡ input_set self.old (key_named self.old.board name) from (given_numbers given.now))) }
         ensures err { IfErr result (λ fault. (self.new ≡ self.old)
-            × IsFaultOf (input_fault self.old from values.now (key_named self.old.board name)) fault) }
+            × IsFaultOf (input_fault self.old from (given_numbers given.now) (key_named self.old.board name)) fault) }
     {
         let key = self.board.key_of(name)?;
-        let number = self.edits + 1;
-        let input = match input_at(&self.inputs, &key) {
-            Some(input) => given_input(self.alloc, input, number, from, values)?,
-            None => unreachable!(),
-        };
-        self.put_input(key, input)?;
+        if let Some(fault) = given_fault(&self.inputs, &key, from, given) {
+            return Err(fault);
+        }
+        self.put_input(key, from, given)?;
         Ok(())
     }
 
-    /// Gives a key numbers of one word each from a processor on, if there are edits left.
-    fn set_input_words(&mut self, name: KeyName, from: u64, words: &[u64]) -> Result<(), Fault>
+    /// Gives a key numbers from a processor on that can be given, and ends that edit.
+    fn put_input(&mut self, key: Key, from: u64, given: &Given<'_>) -> Result<(), AllocError>
         requires left { HasEditsLeft self.old }
-        ensures ok { OnOk result ((input_fault self.old from words.now (key_named self.old.board name) ≡ None)
-            × (self.new ≡ input_set self.old (key_named self.old.board name) from words.now)) }
-        ensures err { IfErr result (λ fault. (self.new ≡ self.old)
-            × IsFaultOf (input_fault self.old from words.now (key_named self.old.board name)) fault) }
-    {
-        let key = self.board.key_of(name)?;
-        let number = self.edits + 1;
-        let input = match input_at(&self.inputs, &key) {
-            Some(input) => given_words(self.alloc, input, number, from, words)?,
-            None => unreachable!(),
-        };
-        self.put_input(key, input)?;
-        Ok(())
-    }
-
-    /// Gives a key the input data that the next edit makes for it, and ends that edit.
-    fn put_input(&mut self, key: Key, input: Input) -> Result<(), AllocError>
-        requires left { HasEditsLeft self.old }
-        requires number { input.number ≡ self.old.edits + 1 }
-        requires shape { shape_in self.old.inputs key ≡ Some (input.value.width, length input.value.numbers) }
-        ensures ok { OnOk result (self.new ≡ edited self.old self.old.board (with_input self.old.inputs key input) self.old.next (known_rows self.old)) }
+        requires there { IsSome (input_of self.old.inputs key) }
+        requires given { IfSome (input_of self.old.inputs key) (λ input. CanGive input from (given_numbers given.now)) }
+        ensures ok { OnOk result (self.new ≡ input_set self.old (Some key) from (given_numbers given.now)) }
         ensures err { OnErr result (self.new ≡ self.old) }
     {
+        let number = self.edits + 1;
         let ids = self.rows.affected(self.alloc, 0, &[key])?;
         self.rows.own_all(ids.as_slice())?;
-        set_input(&mut self.inputs, &key, input);
+        give_key(self.alloc, &mut self.inputs, &key, number, from, given)?;
         end_edit(&mut self.rows, &mut self.edits, ids.as_slice());
         Ok(())
     }
@@ -221,7 +200,7 @@ impl Loose {
         if self.edits >= MAX_EDITS {
             return Err(Fault::EditionsSpent);
         }
-        self.set_input_words(key, from, words)
+        self.set_input(key, from, &Given::Words(words))
     }
 
     /// Makes an edit that is lent.
@@ -238,7 +217,9 @@ impl Loose {
         match edit {
             Edit::AddSet { name, axes } => self.add_set(*name, axes.as_slice())?,
             Edit::AddField { name, set, width } => self.add_field(*name, *set, *width)?,
-            Edit::Input { key, from, values } => self.set_input(*key, *from, values.as_slice())?,
+            Edit::Input { key, from, values } => {
+                self.set_input(*key, *from, &Given::Numbers(values.as_slice()))?
+            }
             Edit::Insert { spot, instr } => return Ok(EditReply::Row(self.insert(*spot, *instr)?)),
             Edit::Delete(id) => self.delete(*id)?,
             Edit::Replace { row, instr } => self.replace(*row, *instr)?,

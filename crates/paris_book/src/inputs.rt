@@ -1,17 +1,16 @@
 //! The input data: what each key holds at the start of the program.
 
-ghost use Rattle.std.specs.Prelude.{◌≡◌, ◌<◌, ◌≤◌, ◌+◌, ◌^◌, ◌==◌, ◌||◌, ◌++◌, ◌∷◌, [], ℕ, false, length, nat_lt, None, IfOk, IfErr, IsSome, vec_len, vec_capacity};
-ghost use Rattle.paris_names.specs.Faults.{IsFaultOf};
-ghost use Rattle.paris_field.specs.Fields.{AllFit, overwritten};
+ghost use Rattle.std.specs.Prelude.{◌≡◌, ◌<◌, ◌≤◌, ◌+◌, ◌^◌, ◌==◌, ◌||◌, ◌++◌, ◌∷◌, [], false, length, nat_le, nat_lt, position, None, IfOk, IfSome, IsSome, OnErr, OnOk, vec_len, vec_capacity};
 ghost use Rattle.std.specs.Option.{option_copied};
-ghost use Rattle.paris_machine.specs.State.{input_of, with_input, declared_input, declared_flags};
+ghost use Rattle.paris_field.specs.Fields.{AllFit};
+ghost use Rattle.paris_machine.specs.State.{flag_input, input_of, with_flag_input, with_input, declared_input, declared_flags};
 ghost use Rattle.paris_machine.specs.Edits.{fault_of_values};
-ghost use Rattle.paris_book.specs.Among.{inputs_of};
+ghost use Rattle.paris_book.specs.Among.{CanGive, given_numbers, input_given, inputs_of};
 ghost use Rattle.paris_names.specs.declared.limits.TheConstants.{MAX_WIDTH};
 
 use paris_field::{FieldValue, SharedValue};
 use paris_machine::{FlagInputs, Input};
-use paris_names::{Fault, Key};
+use paris_names::{Fault, FlagName, Key};
 use std::alloc::{AllocError, Global};
 
 /// The input data of all fields, and of the flags of all sets, in the order of their declaration.
@@ -19,6 +18,37 @@ use std::alloc::{AllocError, Global};
 pub(crate) struct InputData {
     pub(crate) fields: Vec<Input>,
     pub(crate) flags: Vec<FlagInputs>,
+}
+
+/// Numbers that an edit gives to processors: of up to 128 bits, or of one word each.
+#[derive(Debug, Drop)]
+pub(crate) enum Given<'a> {
+    Numbers(&'a [u128]),
+    Words(&'a [u64]),
+}
+
+impl Given<'_> {
+    /// How many they are.
+    fn len(&self) -> usize
+        ensures { result ≡ length (given_numbers self.now) }
+    {
+        match self {
+            Given::Numbers(numbers) => numbers.len(),
+            Given::Words(words) => words.len(),
+        }
+    }
+
+    /// The place of the first that needs more bits than a width has, up to 128.
+    fn first_too_wide(&self, width: u64) -> Option<usize>
+        requires { width ≤ 128 }
+        ensures place { result ≡ position (λ x. nat_le (2 ^ width) x) (given_numbers self.now) }
+        ensures fit { result ≡ None → AllFit width (given_numbers self.now) }
+    {
+        match self {
+            Given::Numbers(numbers) => FieldValue::first_too_wide(width, numbers),
+            Given::Words(words) => FieldValue::first_word_too_wide(width, words),
+        }
+    }
 }
 
 /// The input data of a key.
@@ -34,23 +64,6 @@ pub(crate) fn input_at<'a>(inputs: &'a InputData, key: &Key) -> Option<&'a Input
     }
 }
 
-/// Gives a key other input data.
-pub(crate) fn set_input(inputs: &mut InputData, key: &Key, input: Input)
-    requires declared { IsSome (input_of (inputs_of inputs.old) key.now) }
-    ensures { inputs_of inputs.new ≡ with_input (inputs_of inputs.old) key.now input }
-{
-    match *key {
-        Key::Field(field) => {
-            let i = field.number() as usize;
-            inputs.fields[i] = input;
-        }
-        Key::Flag(set, flag) => {
-            let i = set.number() as usize;
-            inputs.flags[i].set_flag(flag, input);
-        }
-    }
-}
-
 /// Whether so many numbers are none, or more than there are processors from one on, of `count`.
 fn is_wrong_count(count: u64, from: u64, given: usize) -> bool
     ensures value { result ≡ (given == 0) || nat_lt count (from + given) }
@@ -59,28 +72,35 @@ fn is_wrong_count(count: u64, from: u64, given: usize) -> bool
     given == 0 || from > count || given as u64 > count - from
 }
 
-/// Why values can't be given from a processor on in place of numbers of a key, if they can't.
-fn values_fault(value: &FieldValue, from: u64, values: &[u128]) -> Option<Fault>
-    ensures fault { result ≡ fault_of_values (length value.now.numbers) value.now.width from values.now }
-    ensures within { result ≡ None → from + length values.now ≤ length value.now.numbers }
-    ensures fit { result ≡ None → AllFit value.now.width values.now }
+/// Why numbers can't be given from a processor on in place of those of a value, if they can't.
+fn fault_of(value: &FieldValue, from: u64, given: &Given<'_>) -> Option<Fault>
+    ensures fault { result ≡ fault_of_values (length value.now.numbers) value.now.width from (given_numbers given.now) }
+    ensures within { result ≡ None → from + length (given_numbers given.now) ≤ length value.now.numbers }
+    ensures fit { result ≡ None → AllFit value.now.width (given_numbers given.now) }
 {
-    if is_wrong_count(value.len() as u64, from, values.len()) {
+    if is_wrong_count(value.len() as u64, from, given.len()) {
         return Some(Fault::WrongCount);
     }
-    FieldValue::first_too_wide(value.width(), values).map(|i| Fault::TooWide(from + i as u64))
+    given
+        .first_too_wide(value.width())
+        .map(|i| Fault::TooWide(from + i as u64))
 }
 
-/// Why words can't be given from a processor on in place of numbers of a key, if they can't.
-fn words_fault(value: &FieldValue, from: u64, words: &[u64]) -> Option<Fault>
-    ensures fault { result ≡ fault_of_values (length value.now.numbers) value.now.width from words.now }
-    ensures within { result ≡ None → from + length words.now ≤ length value.now.numbers }
-    ensures fit { result ≡ None → AllFit value.now.width words.now }
+/// Why numbers can't be given to a key from a processor on, if they can't.
+pub(crate) fn given_fault(
+    inputs: &InputData,
+    key: &Key,
+    from: u64,
+    given: &Given<'_>,
+) -> Option<Fault>
+    requires { IsSome (input_of (inputs_of inputs.now) key.now) }
+    ensures fault { IfSome (input_of (inputs_of inputs.now) key.now) (λ input. result ≡ fault_of_values (length input.value.numbers) input.value.width from (given_numbers given.now)) }
+    ensures none { result ≡ None → IfSome (input_of (inputs_of inputs.now) key.now) (λ input. CanGive input from (given_numbers given.now)) }
 {
-    if is_wrong_count(value.len() as u64, from, words.len()) {
-        return Some(Fault::WrongCount);
+    match input_at(inputs, key) {
+        Some(input) => fault_of(input.value.get(), from, given),
+        None => unreachable!(),
     }
-    FieldValue::first_word_too_wide(value.width(), words).map(|i| Fault::TooWide(from + i as u64))
 }
 
 /// A value that is the input data of a key, to be shared.
@@ -93,44 +113,71 @@ fn input_with(alloc: Global, value: FieldValue, number: u64) -> Result<Input, Al
     }
 }
 
-/// Input data with values in place of as many from a processor on, as an edit gives it.
-pub(crate) fn given_input(
+/// Gives input data numbers in place of as many from a processor on, where they can be given. At want of memory it stays.
+fn give(
     alloc: Global,
-    input: &Input,
+    input: &mut Input,
     number: u64,
     from: u64,
-    values: &[u128],
-) -> Result<Input, Fault>
-    ensures ok { IfOk result (λ given. (fault_of_values (length input.now.value.numbers) input.now.value.width from values.now ≡ None)
-        × (given ≡ record { value = record { width = input.now.value.width; numbers = overwritten input.now.value.numbers from values.now }; number = number })) }
-    ensures err { IfErr result (IsFaultOf (fault_of_values (length input.now.value.numbers) input.now.value.width from values.now)) }
+    given: &Given<'_>,
+) -> Result<(), AllocError>
+    requires { CanGive input.old from (given_numbers given.now) }
+    ensures ok { OnOk result (input.new ≡ input_given input.old number from (given_numbers given.now)) }
+    ensures err { OnErr result (input.new ≡ input.old) }
 {
-    let value = input.value.get();
-    if let Some(fault) = values_fault(value, from, values) {
-        return Err(fault);
+    match given {
+        Given::Numbers(numbers) => input.value.overwrite(alloc, from as usize, numbers)?,
+        Given::Words(words) => input.value.overwrite_words(alloc, from as usize, words)?,
     }
-    let given = value.with_numbers(from as usize, values)?;
-    Ok(input_with(alloc, given, number)?)
+    input.number = number;
+    Ok(())
 }
 
-/// Input data with numbers of one word each in place of as many from a processor on, as an edit gives it.
-pub(crate) fn given_words(
+/// Gives a flag of a set numbers in place of as many from a processor on, where they can be given. At want of memory all stays.
+fn give_flag(
     alloc: Global,
-    input: &Input,
+    flags: &mut FlagInputs,
+    flag: FlagName,
     number: u64,
     from: u64,
-    words: &[u64],
-) -> Result<Input, Fault>
-    ensures ok { IfOk result (λ given. (fault_of_values (length input.now.value.numbers) input.now.value.width from words.now ≡ None)
-        × (given ≡ record { value = record { width = input.now.value.width; numbers = overwritten input.now.value.numbers from words.now }; number = number })) }
-    ensures err { IfErr result (IsFaultOf (fault_of_values (length input.now.value.numbers) input.now.value.width from words.now)) }
+    given: &Given<'_>,
+) -> Result<(), AllocError>
+    requires { CanGive (flag_input flags.old flag) from (given_numbers given.now) }
+    ensures ok { OnOk result (flags.new ≡ with_flag_input flags.old flag (input_given (flag_input flags.old flag) number from (given_numbers given.now))) }
+    ensures err { OnErr result (flags.new ≡ flags.old) }
 {
-    let value = input.value.get();
-    if let Some(fault) = words_fault(value, from, words) {
-        return Err(fault);
+    match flag {
+        FlagName::Context => give(alloc, &mut flags.context, number, from, given),
+        FlagName::Test => give(alloc, &mut flags.test, number, from, given),
+        FlagName::Carry => give(alloc, &mut flags.carry, number, from, given),
+        FlagName::Overflow => give(alloc, &mut flags.overflow, number, from, given),
     }
-    let given = value.with_words(from as usize, words)?;
-    Ok(input_with(alloc, given, number)?)
+}
+
+/// Gives a key numbers in place of as many from a processor on, where they can be given. At want of memory all stays.
+pub(crate) fn give_key(
+    alloc: Global,
+    inputs: &mut InputData,
+    key: &Key,
+    number: u64,
+    from: u64,
+    given: &Given<'_>,
+) -> Result<(), AllocError>
+    requires there { IsSome (input_of (inputs_of inputs.old) key.now) }
+    requires fit { IfSome (input_of (inputs_of inputs.old) key.now) (λ input. CanGive input from (given_numbers given.now)) }
+    ensures ok { OnOk result (IfSome (input_of (inputs_of inputs.old) key.now) (λ input. inputs_of inputs.new ≡ with_input (inputs_of inputs.old) key.now (input_given input number from (given_numbers given.now)))) }
+    ensures err { OnErr result (inputs_of inputs.new ≡ inputs_of inputs.old) }
+{
+    match *key {
+        Key::Field(field) => {
+            let i = field.number() as usize;
+            give(alloc, &mut inputs.fields[i], number, from, given)
+        }
+        Key::Flag(set, flag) => {
+            let i = set.number() as usize;
+            give_flag(alloc, &mut inputs.flags[i], flag, number, from, given)
+        }
+    }
 }
 
 /// The input data of a key as it is declared: the same number everywhere.

@@ -217,12 +217,18 @@ impl FieldValue {
         requires fit { AllFit self.now.width words.now }
         ensures { IfOk result (λ value. value ≡ record { width = self.now.width; numbers = overwritten self.now.numbers from words.now }) }
     {
-        let mut planes = copy_planes(*self.planes.allocator(), &self.planes)?;
-        put_words_from(&mut planes, from, words, self.vps);
-        Ok(FieldValue {
-            planes,
-            vps: self.vps,
-        })
+        let mut value = self.copy()?;
+        value.put_words(from, words);
+        Ok(value)
+    }
+
+    /// Puts these numbers, each of one word, in place of as many from a processor on. It takes no memory.
+    pub(crate) fn put_words(&mut self, from: usize, words: &[u64])
+        requires within { from + length words.now ≤ length self.old.numbers }
+        requires fit { AllFit self.old.width words.now }
+        ensures { self.new ≡ record { width = self.old.width; numbers = overwritten self.old.numbers from words.now } }
+    {
+        put_words_from(&mut self.planes, from, words, self.vps);
     }
 
     /// Whether both have the same width and the same numbers.

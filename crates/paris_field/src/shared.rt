@@ -1,13 +1,15 @@
 //! Values that are shared.
 
-ghost use Rattle.std.specs.Prelude.{◌≡◌, IfErr, IfOk};
+ghost use Rattle.std.specs.Prelude.{◌≡◌, ◌+◌, ◌≤◌, IfErr, IfOk, IsFalse, IsTrue, OnErr, OnOk, length};
+ghost use Rattle.paris_field.specs.Fields.{AllFit, overwritten};
 
 use crate::field::FieldValue;
+use crate::words::words_of;
 use std::alloc::{AllocError, Global};
 use std::marker::Model;
 use std::sync::Arc;
 
-/// A value that never changes, and any number of owners of it. A clause sees the value.
+/// A value, and any number of owners of it: none of them sees another one change it. A clause sees the value.
 #[derive(Debug, Drop)]
 pub struct SharedValue {
     owned: Arc<FieldValue, Global>,
@@ -39,6 +41,76 @@ impl SharedValue {
         ensures { result.now ≡ self.now }
     {
         &self.owned
+    }
+
+    /// Puts these numbers in place of as many from a processor on: into the value where it has no other owner, else into a copy, which
+    /// takes its place here. What other owners see stays, and at want of memory all does.
+    pub fn overwrite(
+        &mut self,
+        alloc: Global,
+        from: usize,
+        numbers: &[u128],
+    ) -> Result<(), AllocError>
+        requires within { from + length numbers.now ≤ length self.old.numbers }
+        requires fit { AllFit self.old.width numbers.now }
+        ensures ok { OnOk result (self.new ≡ record { width = self.old.width; numbers = overwritten self.old.numbers from numbers.now }) }
+        ensures err { OnErr result (self.new ≡ self.old) }
+    {
+        if self.get().width() <= 64 {
+            let words = words_of(alloc, numbers)?;
+            return self.overwrite_words(alloc, from, &words);
+        }
+        let value = self.get().with_numbers(from, numbers)?;
+        self.replace(alloc, value)
+    }
+
+    /// The same of numbers of one word each.
+    pub fn overwrite_words(
+        &mut self,
+        alloc: Global,
+        from: usize,
+        words: &[u64],
+    ) -> Result<(), AllocError>
+        requires within { from + length words.now ≤ length self.old.numbers }
+        requires fit { AllFit self.old.width words.now }
+        ensures ok { OnOk result (self.new ≡ record { width = self.old.width; numbers = overwritten self.old.numbers from words.now }) }
+        ensures err { OnErr result (self.new ≡ self.old) }
+    {
+        if self.put_alone(from, words) {
+            return Ok(());
+        }
+        let value = self.get().with_words(from, words)?;
+        self.replace(alloc, value)
+    }
+
+    /// Puts words into the value, if this is its only owner.
+    fn put_alone(&mut self, from: usize, words: &[u64]) -> bool
+        requires within { from + length words.now ≤ length self.old.numbers }
+        requires fit { AllFit self.old.width words.now }
+        ensures alone { IsTrue result → self.new ≡ record { width = self.old.width; numbers = overwritten self.old.numbers from words.now } }
+        ensures shared { IsFalse result → self.new ≡ self.old }
+    {
+        match Arc::get_mut(&mut self.owned) {
+            Some(value) => {
+                value.put_words(from, words);
+                true
+            }
+            None => false,
+        }
+    }
+
+    /// Puts another value in its place here.
+    fn replace(&mut self, alloc: Global, value: FieldValue) -> Result<(), AllocError>
+        ensures ok { OnOk result (self.new ≡ value) }
+        ensures err { OnErr result (self.new ≡ self.old) }
+    {
+        match SharedValue::new(alloc, value) {
+            Ok(shared) => {
+                *self = shared;
+                Ok(())
+            }
+            Err((_, error)) => Err(error),
+        }
     }
 
     /// The same value with one more owner. No number is copied and no memory taken: the error is for a count of owners that is full.

@@ -5,14 +5,14 @@ use Rattle.paris_plane.proofs.Bits.{written}
 use Rattle.paris_field.specs.Fields.{overwritten}
 use Rattle.paris_field.specs.Numbers.{value_of_planes, number_at}
 use Rattle.paris_field.proofs.Values.{width_is, vps_is, at_is, value_is, put_is, length-overwritten}
-use Rattle.paris_field.proofs.field.FieldValue.with_words.Goals as goal
+use Rattle.paris_field.proofs.field.FieldValue.put_words.Goals as goal
 
 pub put_words_from-requires-clause-within : goal.put_words_from-requires-clause-within
 put_words_from-requires-clause-within c = omega (arith, c.requires.within, vps_is c.self.inside.vps c.self.inside.planes.items c.self.view_is)
 
 pub returns : goal.returns
 returns c =
-    let same : c.deref_mut.result.now ≡ c.self.inside.planes.items = c.deref_mut.ensures.value ∙ c.in_ok-planes.ensures ∙ c.deref.ensures.value in
+    let same : c.deref_mut.result.now ≡ c.self.inside.planes.items = c.deref_mut.ensures.value in
     let width : length c.deref_mut.result.now ≡ c.args.self.now.width = ap length same ∙ width_is c.self.inside.vps c.self.inside.planes.items c.self.view_is in
     let many : length c.args.self.now.numbers ≡ c.self.inside.vps = vps_is c.self.inside.vps c.self.inside.planes.items c.self.view_is in
     ap (value_of_planes c.self.inside.vps) (written _ c.put_words_from.new.planes _ (c.put_words_from.auto.planes ∙ c.deref_mut.ensures.len))
