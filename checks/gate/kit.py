@@ -21,6 +21,10 @@ MARK = "proved"
 CHECKED = "out/checked"
 # What the last run of the gate took, crate by crate.
 COSTS = ROOT / "checks" / "gate" / "out" / "costs.json"
+# What each crate may take.
+BUDGETS = ROOT / "checks" / "gate" / "budgets"
+# A proof gains little from more jobs.
+MOST_JOBS = 4
 
 
 def load_rt() -> ModuleType:
@@ -148,6 +152,27 @@ def in_lanes(tasks: dict[Any, Task], lanes: int, memory: int) -> dict[Any, bool]
             for done in wait(running, return_when=FIRST_COMPLETED).done if running else ():
                 ended[running.pop(done)[0]] = done.result()
     return ended
+
+
+def budgets() -> dict[str, float]:
+    """The processor seconds that each crate's proof and tests may take together."""
+    lines = (line.partition("#")[0].split() for line in BUDGETS.read_text().splitlines())
+    return {line[0]: float(line[1]) for line in lines if line}
+
+
+def longest_chains(crates: list[Any], most: float) -> set[str]:
+    """The crates for whose proofs all others wait: those on a chain, each crate of which stands on the one before it, whose budgets come to
+    at least so much of the longest chain's. The crates stand in the order in which they can be proved."""
+    seconds = budgets()
+    own = {crate.name: seconds.get(crate.name, 0.0) for crate in crates}
+    up_to, after = dict[str, float](), {crate.name: 0.0 for crate in crates}
+    for crate in crates:
+        up_to[crate.name] = own[crate.name] + max((up_to[it.name] for it in crate.below()), default=0.0)
+    for crate in reversed(crates):
+        for it in crate.below():
+            after[it.name] = max(after[it.name], own[crate.name] + after[crate.name])
+    longest = max(up_to.values(), default=0.0)
+    return {name for name in own if up_to[name] + after[name] >= most * longest}
 
 
 def sums(log: str) -> dict[str, dict[str, Any]]:
