@@ -38,14 +38,28 @@ def small(workers: int = 2, steps: int | None = None) -> Machine:
 
 
 def slow(rows: int, workers: int = 2) -> tuple[Machine, list[int]]:
-    """A machine whose rows take their time, each of which reads `a` and `to` alone."""
+    """A machine whose rows take their time. Each adds to a field of its own, and the 61st to that of the first."""
     machine = Machine(library=True, workers=workers)
     machine.set("S", 256, 256)
-    for name in ("a", "to", "n", *(f"c{number}" for number in range(rows))):
+    written = [f"c{number % 60}" for number in range(rows)]
+    for name in dict.fromkeys(("a", "to", "n", *written)):
         machine.field(name, "S", 64)
     machine["a"] = [number * 0x9E3779B97F4A7C15 % 2**64 for number in range(65536)]
     machine["to"] = [(number * 7919 + 13) % 65536 for number in range(65536)]
-    return machine, [machine.insert(paris.send_with_u_add(f"c{number}", "to", "a", 64)) for number in range(rows)]
+    return machine, [machine.insert(paris.send_with_u_add(name, "to", "a", 64)) for name in written]
+
+
+@pytest.fixture
+def free(monkeypatch: pytest.MonkeyPatch) -> threading.Event:
+    """An event before which no row ends that a worker has begun."""
+    execute, event = Book.execute, threading.Event()
+
+    def held(book: Book, slot: Slot) -> None:
+        event.wait(PATIENCE)
+        execute(book, slot)
+
+    monkeypatch.setattr(Book, "execute", held)
+    return event
 
 
 def numbers(machine: Machine, key: str) -> list[int]:
@@ -72,16 +86,16 @@ def test_rows_run_from_start_on_and_edits_go_on() -> None:
 
 
 def test_an_edit_does_not_wait_for_the_rows_that_run() -> None:
-    machine, ids = slow(8)
+    machine, ids = slow(40)
     with machine:
         machine.start()
         begun = time.monotonic()
         while not machine.progress.settled:
             machine["n", 5] = 1
         edited = machine.progress
-        assert edited.settled < 8, time.monotonic() - begun
+        assert edited.settled < 40, time.monotonic() - begun
         assert machine.wait(PATIENCE)
-        assert machine.progress == Progress(8, 8)
+        assert machine.progress == Progress(40, 40)
 
 
 def test_nothing_runs_before_start_and_after_stop() -> None:
@@ -98,17 +112,17 @@ def test_nothing_runs_before_start_and_after_stop() -> None:
 
 
 def test_stop_waits_for_what_runs_and_keeps_it() -> None:
-    machine, ids = slow(12)
+    machine, ids = slow(100)
     with machine:
         machine.start()
         next(machine.news())
         machine.stop()
         settled = machine.progress.settled
         time.sleep(0.1)
-        assert 0 < settled == machine.progress.settled < 12
+        assert 0 < settled == machine.progress.settled < 100
 
 
-def test_news_tells_what_is_kept_and_what_is_thrown_away() -> None:
+def test_news_tells_what_is_kept_and_what_is_thrown_away(free: threading.Event) -> None:
     machine, ids = slow(1, workers=1)
     with machine:
         machine.start()
@@ -117,6 +131,7 @@ def test_news_tells_what_is_kept_and_what_is_thrown_away() -> None:
         while not background.crew.running:
             time.sleep(0.001)
         machine.replace(ids[0], paris.u_move("c0", "a", 64))
+        free.set()
         news = list(machine.news())
         assert [(each.row, each.word) for each in news] == [(ids[0], Word.STALE), (ids[0], Word.KEPT)]
         assert news[0].edition < news[1].edition
@@ -353,7 +368,7 @@ def test_a_copy_stands_apart() -> None:
         assert numbers(machine, "b") == [2, 4, 6, 8]
 
 
-def test_a_result_of_an_edit_that_was_undone_is_thrown_away() -> None:
+def test_a_result_of_an_edit_that_was_undone_is_thrown_away(free: threading.Event) -> None:
     machine, ids = slow(1, workers=1)
     with machine:
         machine.settle()
@@ -366,6 +381,7 @@ def test_a_result_of_an_edit_that_was_undone_is_thrown_away() -> None:
             time.sleep(0.001)
         machine.undo()
         assert machine.progress == Progress(1, 1)
+        free.set()
         machine.stop()
         assert background.crew.words[Word.KEPT] == 0 and sum(background.crew.words.values()) == 1
         assert numbers(machine, "c0") == right
@@ -487,7 +503,7 @@ def run(script: str) -> subprocess.CompletedProcess[str]:
 def test_ctrl_c_in_settle_keeps_what_is_settled(workers: int) -> None:
     ran = run(
         f"""
-machine, ids = slow(24, {workers})
+machine, ids = slow(240, {workers})
 def interrupt():
     while not machine.progress.settled:
         time.sleep(0.001)
@@ -497,16 +513,16 @@ try:
     machine.settle()
 except KeyboardInterrupt:
     kept = machine.progress.settled
-    print(0 < kept < 24, machine.settle() == 24 - kept, machine.progress, machine.close())
+    print(0 < kept < 240, machine.settle() == 240 - kept, machine.progress, machine.close())
 """
     )
-    assert ran.stdout == "True True Progress(settled=24, rows=24) 0\n", ran.stderr
+    assert ran.stdout == "True True Progress(settled=240, rows=240) 0\n", ran.stderr
 
 
 def test_ctrl_c_in_wait_ends_the_wait_alone() -> None:
     ran = run(
         """
-machine, ids = slow(60)
+machine, ids = slow(240)
 def interrupt():
     while not machine.progress.settled:
         time.sleep(0.001)
@@ -516,10 +532,10 @@ try:
     machine.start()
     machine.wait()
 except KeyboardInterrupt:
-    print(machine.progress.settled < 60, machine.wait(), machine.progress)
+    print(machine.progress.settled < 240, machine.wait(), machine.progress)
 """
     )
-    assert ran.stdout == "True True Progress(settled=60, rows=60)\n", ran.stderr
+    assert ran.stdout == "True True Progress(settled=240, rows=240)\n", ran.stderr
 
 
 def test_ctrl_c_between_edits_leaves_the_board_right() -> None:
