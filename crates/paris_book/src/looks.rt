@@ -229,12 +229,15 @@ pub(crate) fn is_cut(inputs: &InputData, rows: &Rows, place: usize) -> bool
     ensures unsettled { (e : Entry) → slice_get rows.now.rows place ≡ Some e → result ≡ true → is_settled e.1.status ≡ false }
 {
     let (_, row) = rows.at(place);
-    if row.status().is_settled() || !are_firm(rows, place, row.plan().reads()) {
+    if row.status().is_settled() {
         return false;
     }
     match row.result_of_plan() {
         None => false,
-        Some(done) => agree(inputs, rows, place, row.plan(), done.order().inputs()),
+        Some(done) => {
+            are_firm(rows, place, row.plan().reads())
+                && agree(inputs, rows, place, row.plan(), done.order().inputs())
+        }
     }
 }
 

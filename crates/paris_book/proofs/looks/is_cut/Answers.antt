@@ -7,4 +7,4 @@ use Rattle.paris_book.proofs.looks.is_cut.Goals as goal
 
 pub agree-requires-clause-plan_fitted : goal.agree-requires-clause-plan_fitted
 agree-requires-clause-plan_fitted c =
-    subst (λ (p : Plan). Fitted (inputs_of c.args.inputs.now) p) (sym c.plan-in-Some.ensures) (fitted_at (inputs_of c.args.inputs.now) c.args.rows.now.rows c.args.place (c.at.result.0.0, c.at.result.1.now) c.requires.fitted c.at.ensures.value)
+    subst (λ (p : Plan). Fitted (inputs_of c.args.inputs.now) p) (sym c.plan-then-are_firm.ensures) (fitted_at (inputs_of c.args.inputs.now) c.args.rows.now.rows c.args.place (c.at.result.0.0, c.at.result.1.now) c.requires.fitted c.at.ensures.value)
