@@ -5,13 +5,16 @@ PYTHONDIR ?= $(PREFIX)/lib/pevudlo/python
 DESTDIR ?=
 OUT ?= out
 
-.PHONY: help install wheel deb parts check
+.PHONY: help install uninstall wheel deb parts check
 
 help:
-	@echo "make install [PREFIX=$(PREFIX)] [DESTDIR=], make wheel, make deb, make parts (into $(OUT)/), make check"
+	@echo "make install [PREFIX=$(PREFIX)] [DESTDIR=], make uninstall (the same words), make wheel, make deb, make parts (into $(OUT)/), make check"
 
 install:
 	PREFIX="$(PREFIX)" LIBDIR="$(LIBDIR)" PYTHONDIR="$(PYTHONDIR)" DESTDIR="$(DESTDIR)" packaging/install
+
+uninstall:
+	PREFIX="$(PREFIX)" LIBDIR="$(LIBDIR)" PYTHONDIR="$(PYTHONDIR)" DESTDIR="$(DESTDIR)" packaging/uninstall
 
 wheel:
 	packaging/wheel "$(OUT)"

@@ -1,10 +1,10 @@
-"""What decides the try of a must-fail edit, as a checksum.
+"""What decides the try of a must-fail edit, and the proof of a crate's tests, as a checksum.
 
 A function is proved from its own body and proof files, and from what is stated: of its crate and of those below it the declarations,
 contracts, definitions and lemmas, and no other body. So the key of an edit is the checksum of the toolchain's logic, HANDLES and the edit;
-of the files in src/ that it changes, and of that of the function which wasn't proved, whole, with the proof files of their modules; of
-what is stated in the crate: specs/, the lemmas of proofs/, and src/ without the bodies of functions; and of what the crate cites of that
-in those below (stated.py).
+of the files in src/ that it changes, and of that of the function that it names, whole, with the proof files of their modules; of what is
+stated in the crate: specs/, the lemmas of proofs/, and src/ without the bodies of functions; and of what the crate cites of that in those
+below (stated.py). The key of a crate's tests is that of the logic, HANDLES, all sources of the crate, and what they cite.
 """
 
 import hashlib
@@ -22,8 +22,8 @@ EDITS = ROOT / "checks" / "gate" / "edits"
 CLAUSE = re.compile(rb"\b(?:requires|ensures)(?:\s*\*)?(?:\s+\w+)?\s*$|\bghost\s+\w+\s*:\s*$")
 FUNCTION = re.compile(rb"\b(const\s+)?fn\s+\w+")
 COMMENT = re.compile(rb"^\s*//[^\n]*\n", re.M)
-# What stands for a function that isn't named.
-UNNAMED = "-"
+# The line of an edit that names the function which isn't proved with it. (rt passes over it.)
+NAMED = re.compile(r"^# function: (\S+)\n", re.M)
 
 
 @dataclass(frozen=True)
@@ -36,6 +36,17 @@ class Edit:
     @property
     def name(self) -> str:
         return f"{self.crate}/{self.path.stem}"
+
+    @property
+    def function(self) -> str:
+        """The function that isn't proved with it, with the module before it, or nothing where the edit names none."""
+        found = NAMED.search(self.path.read_text())
+        return found[1] if found else ""
+
+    def name_function(self, function: str) -> None:
+        """Writes into the edit which function isn't proved with it, or that none is known."""
+        line = f"# function: {function}\n" if function else ""
+        self.path.write_text(line + NAMED.sub("", self.path.read_text()))
 
     def files(self) -> list[str]:
         """The files that it changes, by their paths in the crate."""
@@ -91,7 +102,7 @@ def source_of(crate: str, path: str, text: str) -> Source:
 
 
 class Keys:
-    """The keys of all edits, from the text of the sources alone."""
+    """The keys of all edits and of all crates' tests, from the text of the sources alone."""
 
     def __init__(self, gate: Any, crates: list[Any]) -> None:
         self.rtlib, self.crates = gate.rtlib, {crate.name: crate for crate in crates}
@@ -130,22 +141,30 @@ class Keys:
             self.cited[name] = sum_of(self.below.cited(name, own))
         return self.cited[name]
 
-    def bodies(self, edit: Edit, function: str) -> list[tuple[str, bytes]]:
-        """The files of the crate that count whole: those that the edit changes, that of the function, and their modules' proofs."""
+    def bodies(self, edit: Edit) -> list[tuple[str, bytes]]:
+        """The files of the crate that count whole: those that the edit changes, that of its function, and their modules' proofs."""
         folder = ROOT / "crates" / edit.crate
         modules = {str(file.relative_to(folder / "src").with_suffix("")) for file in (folder / "src").rglob("*.rt")}
         own = {file.removeprefix("src/").removesuffix(".rt") for file in edit.files() if file.startswith("src/")}
-        words = function.split("::")
+        words = edit.function.split("::")
         named = {"/".join(words[:count]) for count in range(1, len(words))} & modules
-        own |= named or ({"lib"} if function != UNNAMED else set())
+        own |= named or ({"lib"} if edit.function else set())
         others = {it.partition("/")[0] for it in modules - own} - {it.partition("/")[0] for it in own}
         files = [folder / "src" / f"{it}.rt" for it in sorted(own)]
         files += [it for it in sorted((folder / "proofs").glob("*/**/*.antt")) if it.relative_to(folder / "proofs").parts[0] not in others]
         return [(str(file.relative_to(folder)), file.read_bytes()) for file in files]
 
-    def of_edit(self, edit: Edit, function: str) -> str:
-        own = self.lines[edit.crate], self.statements(edit.crate), self.bodies(edit, function)
-        return sum_of(self.logic, self.handles, own, self.of_cited(edit.crate), edit.path.read_bytes())[:32]
+    def of_edit(self, edit: Edit) -> str:
+        """What decides the try of an edit."""
+        own = self.lines[edit.crate], self.statements(edit.crate), self.bodies(edit)
+        return sum_of("edit", self.logic, self.handles, own, self.of_cited(edit.crate), edit.path.read_bytes())[:32]
+
+    def of_tests(self, name: str) -> str:
+        """What decides the proof of a crate's tests."""
+        folder = ROOT / "crates" / name
+        files = [file for part in ("src", "specs", "proofs") for file in sorted((folder / part).rglob("*")) if file.is_file()]
+        own = [(str(file.relative_to(folder)), file.read_bytes()) for file in files]
+        return sum_of("tests", self.logic, self.handles, self.lines[name], own, self.of_cited(name))[:32]
 
     def edits(self, names: list[str]) -> list[Edit]:
         """All edits, or those of some crates and of some names."""

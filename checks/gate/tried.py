@@ -1,9 +1,8 @@
-"""Which crates' tests a run proves, and which it only runs, by checks/gate/proved.txt.
+"""Which crates' tests a run proves, and which it only runs, by the record (seen.py).
 
-A crate of tests has no code but tests, and what its proof says is that they end and that they call as contracts ask. So a record has a line
-for each such crate whose tests were seen proved, with a key: the checksum of the toolchain's logic, HANDLES, the crate's line and all its
-sources, and of what they cite of that which the crates below state (stated.py). While the line holds, a proof would say the same again,
-whatever bodies below have changed, and `rt try --test` runs the tests: it compiles them with what they call from the sources, proves
+A crate of tests has no code but tests, and what its proof says is that they end and that they call as contracts ask. While the record has a
+line with the present key of such a crate (keys.py), a proof would say the same again, whatever bodies below have changed, and
+`rt try --test` runs the tests: it compiles them with what they call from the sources, proves
 nothing, and stops at an index out of bounds and an overflow. Most of what that costs is to compile what they call, so the tests of all
 crates are one crate there, in which each is a module.
 """
@@ -18,12 +17,11 @@ from typing import Any
 
 from keys import Keys, sum_of
 from kit import ROOT
+from seen import add_seen, read_seen
 
 sys.path.insert(0, str(ROOT / "checks" / "unproved"))
 from compiled import crate_line, make_kit, put_crates  # noqa: E402
 
-RECORD = ROOT / "checks" / "gate" / "proved.txt"
-HEAD = "# Each crate of tests, and the checksum of all that decides the proof of its tests, which was seen. checks/gate/changed writes it.\n"
 # Crates whose tests run for an hour where each access of memory is looked at.
 LONG = {"paris_plane_tests", "paris_desk_run_tests", "paris_scan_tests", "paris_mail_tests"}
 # The crate that has the tests of others as its modules.
@@ -41,37 +39,18 @@ class Ran:
     failed: int
 
 
-def key_of(keys: Keys, crate: Any) -> str:
-    """What decides the proof of a crate's tests."""
-    folder = ROOT / "crates" / crate.name
-    files = [file for part in ("src", "specs", "proofs") for file in sorted((folder / part).rglob("*")) if file.is_file()]
-    own = [(str(file.relative_to(folder)), file.read_bytes()) for file in files]
-    return sum_of(keys.logic, keys.handles, keys.lines[crate.name], own, keys.of_cited(crate.name))[:32]
-
-
-def read_record() -> dict[str, str]:
-    lines = (line.split() for line in RECORD.read_text().splitlines() if line[:1] != "#") if RECORD.exists() else ()
-    return dict(line for line in lines if len(line) == 2)
-
-
-def write_record(record: dict[str, str]) -> None:
-    RECORD.write_text(HEAD + "".join(f"{name} {key}\n" for name, key in sorted(record.items())))
-
-
 def with_tests(crates: list[Any]) -> list[Any]:
     return [crate for crate in crates if crate.has_tests()]
 
 
 def holds(keys: Keys, crate: Any) -> bool:
     """Whether the tests of a crate were seen proved, from these sources and over these statements."""
-    return read_record().get(crate.name) == key_of(keys, crate)
+    return keys.of_tests(crate.name) in read_seen()
 
 
 def add(keys: Keys, crates: list[Any]) -> None:
-    """Writes a line for each of some crates, whose tests were just proved and have passed. Lines of crates that are gone go."""
-    there = {file.name for file in (ROOT / "crates").iterdir()}
-    record = {name: key for name, key in read_record().items() if name in there}
-    write_record(record | {crate.name: key_of(keys, crate) for crate in crates})
+    """Writes a line for each of some crates, whose tests were just proved and have passed."""
+    add_seen(keys.of_tests(crate.name) for crate in crates)
 
 
 def to_try(keys: Keys, crates: list[Any], commit: str) -> list[Any]:
