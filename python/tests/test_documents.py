@@ -89,14 +89,20 @@ def test_explain_tells_of_refused_rows_what_the_document_says(tmp_path: Path) ->
         assert ran.stdout.endswith("\n" + end) and (ran.stderr, ran.returncode) == ("", 0)
 
 
-def test_the_readme_shows_lines_that_explain_writes() -> None:
-    people = (REPOSITORY / "docs/PEOPLE.md").read_text(encoding="utf-8").split("\n## explain\n")[1]
-    written = re.findall(r"```\n(.*?)```", people, re.S)[1]
+def test_the_readme_shows_five_lines_and_their_replies() -> None:
     readme = (REPOSITORY / "README.md").read_text(encoding="utf-8")
-    shown = next(block for block in re.findall(r"```\n(.*?)```", readme, re.S) if ".paris:" in block)
-    parts = re.findall(r"(?:^wrong\.paris:.*\n(?:    .*\n)*)", shown, re.M)
-    assert "".join(parts) == shown and len(parts) == 2
-    assert all(part in written for part in parts)
+    before, shown = re.split(r"^```\n(?=insert)", readme.partition("\n## Five lines\n")[2], flags=re.M)
+    shown, _, behind = shown.partition("```\n")
+    numbers = re.search(r"`S` has four processors, and its field `a` of 8 bits holds `([\d ]+)`", before)
+    last = re.search(r"After the next `settle`, `(show a end)` answers `(.*)`\.", behind)
+    assert numbers and last
+    rows = [re.split(r" {2,}", line) for line in shown.splitlines()]
+    script = ["set S 4", "field a S 8", f"input a 0 {numbers[1]}", *(row[0] for row in rows), "settle", last[1]]
+    replies = ["ok", "ok", "ok", *(row[1] for row in rows), "settled 1", last[2]]
+    ran = subprocess.run(
+        [str(REPOSITORY / "paris")], input="\n".join([*script, ""]), capture_output=True, text=True, timeout=60
+    )
+    assert (ran.stdout.splitlines(), ran.stderr, len(rows)) == (replies, "", 5)
 
 
 def test_pictures_are_small() -> None:
