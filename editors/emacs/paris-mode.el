@@ -1,6 +1,6 @@
 ;;; paris-mode.el --- Scripts of Paris programs, with a language server -*- lexical-binding: t; -*-
 
-;; For Emacs from 28 on, with eglot: M-x eglot in a script starts `paris lsp'.
+;; For Emacs from 28 on, with eglot: `paris-mode-ensure' in the mode's hook starts `paris lsp', or says how eglot is installed.
 ;; Where eglot draws no inlay hints, which it does from 1.10 on, the values beside the visible lines are drawn here.
 
 ;;; Code:
@@ -53,6 +53,18 @@
 
 (defvar paris-mode-server '("paris" "lsp")
   "The command that starts the server.")
+
+(declare-function eglot-ensure "eglot")
+
+;;;###autoload
+(defun paris-mode-ensure ()
+  "Starts the server for this script by eglot.
+Where eglot isn't there, says how it is installed."
+  (if (require 'eglot nil t)
+      (eglot-ensure)
+    (display-warning
+     'paris-mode
+     "values beside the lines want eglot, which isn't installed: M-x package-install RET eglot, or Debian's elpa-eglot")))
 
 (defun paris-mode-draw (buffer hints)
   "Draws HINTS, what lines give, behind the lines of BUFFER."

@@ -8,7 +8,8 @@ _paris_options() {
         live) echo '--follow --help --port --program --quiet --shared --workers' ;;
         watch) echo '--help --plain --workers' ;;
         lsp) echo '--help --stdio --workers' ;;
-        *) echo '--build --desk --help --quiet --version --where --workers explain prompt page live watch lsp' ;;
+        help) echo '--help lesson machine scripts instructions idioms people python embedding editors glossary' ;;
+        *) echo '--build --desk --help --quiet --version --where --workers explain prompt page live watch lsp help' ;;
     esac
 }
 

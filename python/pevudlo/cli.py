@@ -1,4 +1,4 @@
-"""`python3 -m pevudlo COMMAND ..`, or `pevudlo COMMAND ..` where the package is installed.
+"""`python3 -m pevudlo`, or `pevudlo` and `paris` where the package is installed: a script, or a command for people.
 
 Each command is a module, which is imported when it is called.
 """
@@ -9,7 +9,11 @@ import argparse
 import importlib
 import os
 import sys
+from pathlib import Path
 
+from pevudlo.draw.visible import visible
+from pevudlo.hints.words import nearest
+from pevudlo.script import add_words, run_script
 from pevudlo.version import release
 
 COMMANDS = {
@@ -19,24 +23,45 @@ COMMANDS = {
     "live": "pevudlo.live.command",
     "watch": "pevudlo.document.command",
     "lsp": "pevudlo.lsp.command",
+    "help": "pevudlo.help.command",
 }
+# The names under which the package is installed.
+NAMES = ("pevudlo", "paris")
 
 
 def arguments() -> argparse.ArgumentParser:
-    """The reader of the words: a command, and those that it reads itself."""
-    parser = argparse.ArgumentParser(prog="pevudlo", description="Paris programs, for people.", allow_abbrev=False)
+    """The reader of the words that aren't a command's."""
+    called = Path(sys.argv[0]).name
+    name = called if called in NAMES else NAMES[0]
+    parser = argparse.ArgumentParser(
+        prog=name,
+        usage=f"{name} [-h] [--version] [--workers 1-16] [--desk] [FILE]\n       {name} COMMAND ...",
+        description=f"Runs a script, FILE or standard input; or a command for people: {', '.join(COMMANDS)}.",
+        epilog=f"`{name} COMMAND --help` says what it does and takes. A script of such a name is run as ./{next(iter(COMMANDS))}.",
+        allow_abbrev=False,
+    )
     parser.add_argument("--version", action="version", version=f"%(prog)s {release()}")
-    parser.add_argument("command", choices=COMMANDS, help="`pevudlo COMMAND --help` says what it does and takes")
-    parser.add_argument("words", nargs=argparse.REMAINDER, metavar="...", help="the words of the command")
+    add_words(parser)
+    parser.add_argument("files", nargs="*", metavar="FILE", help="a script")
     return parser
 
 
 def main(words: list[str]) -> int:
-    """Runs the command that the words name, and gives the exit status. Wrong words raise SystemExit with status 2."""
-    said = arguments().parse_args(words)
-    command = importlib.import_module(COMMANDS[said.command])
-    status = command.main(said.words)
-    return int(status)
+    """Runs the script or the command that the words name, and gives the exit status. Wrong words raise SystemExit with status 2."""
+    if words and words[0] in COMMANDS:
+        command = importlib.import_module(COMMANDS[words[0]])
+        return int(command.main(words[1:]))
+    parser = arguments()
+    said = parser.parse_args(words)
+    name = next(iter(said.files), None)
+    if name in COMMANDS:
+        parser.error(f"the words of {name} stand behind it")
+    if name is not None and not os.path.isfile(name):
+        near = nearest(name, [*COMMANDS])
+        parser.error(f"can't read `{visible(name)}`" + (f": did you mean `{near}`?" if near else ""))
+    if len(said.files) > 1:
+        parser.error("one FILE is wanted")
+    return run_script(name, said.workers, said.desk)
 
 
 def run() -> int:

@@ -40,9 +40,7 @@ def checked(copy: Path) -> list[tuple[int, str]]:
     found = []
     for words in (["dist/check", "program"], ["dist/lib/compare"]):
         # (no toolchain is on this PATH, so that no other one is met)
-        ran = subprocess.run(
-            words, cwd=copy, capture_output=True, text=True, timeout=60, env={"PATH": "/usr/bin:/bin"}
-        )
+        ran = subprocess.run(words, cwd=copy, capture_output=True, text=True, timeout=60, env={"PATH": "/usr/bin:/bin"})
         assert ran.stdout == ""
         found.append((ran.returncode, ran.stderr))
     return found

@@ -9,6 +9,8 @@ import subprocess
 import sys
 from pathlib import Path
 
+import pytest
+
 from pevudlo import Machine, find
 
 REPOSITORY = Path(__file__).resolve().parents[2]
@@ -112,3 +114,19 @@ def test_pictures_are_small() -> None:
         text = (REPOSITORY / document).read_text(encoding="utf-8")
         named = re.findall(r"\]\(([^)]*\.png)\)", text)
         assert named and all(((REPOSITORY / document).parent / name).exists() for name in named)
+
+
+@pytest.mark.parametrize(
+    ("heading", "words"), [("A script and its replies", []), ("Parts at a desk", ["--desk", "--workers", "2"])]
+)
+def test_scripts_shows_scripts_beside_their_replies(heading: str, words: list[str]) -> None:
+    text = (REPOSITORY / "docs/SCRIPTS.md").read_text(encoding="utf-8").partition(f"\n## {heading}\n")[2]
+    block = re.split(r"^```\n", text, flags=re.M)[1].splitlines()
+    column = min(line.index("ok", 10) for line in block if line.endswith("  ok"))
+    lines = [line for line in block if not line.startswith("#")]
+    script = [line[:column].rstrip() for line in lines]
+    replies = [line[column:] for line in lines if line[column:]]
+    said = "".join(f"{line}\n" for line in script if line)
+    front = str(REPOSITORY / "paris")
+    ran = subprocess.run([front, *words], input=said, capture_output=True, text=True, timeout=60)
+    assert (ran.stdout.splitlines(), ran.stderr, ran.returncode) == (replies, "", 0)

@@ -162,6 +162,19 @@ def test_settings_of_other_editors_start_the_server() -> None:
     assert '\'("paris" "lsp")' in emacs and all(f'"{name}"' in emacs for name in COMMANDS)
 
 
+@pytest.mark.skipif(shutil.which("emacs") is None, reason="there is no Emacs")
+def test_emacs_without_eglot_says_what_to_install(tmp_path: Path) -> None:
+    (tmp_path / "x.paris").write_text("set S 4\n")
+    hook = "(add-hook 'paris-mode-hook #'paris-mode-ensure)"
+    said = '(princ (format "%s, eglot: %s" major-mode (featurep \'eglot)))'
+    empty = '(setq load-path (cl-remove-if (lambda (it) (locate-file "eglot" (list it) \'(".el" ".elc" ".el.gz"))) load-path))'
+    words = ["emacs", "-Q", "--batch", "-L", str(EDITORS / "emacs"), "--eval", "(require 'paris-mode)"]
+    words += ["--eval", empty, "--eval", hook, "--visit", str(tmp_path / "x.paris"), "--eval", said]
+    ran = subprocess.run(words, capture_output=True, text=True, timeout=60)
+    assert (ran.returncode, ran.stdout) == (0, "paris-mode, eglot: nil")
+    assert "want eglot, which isn't installed" in ran.stderr and "elpa-eglot" in ran.stderr
+
+
 def test_what_the_document_says_of_neovim_is_seen(tmp_path: Path) -> None:
     """The picture's script and the document's are the same, and its values are those of a fresh run."""
     text = (ROOT / "docs/EDITORS.md").read_text()

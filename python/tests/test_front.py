@@ -101,11 +101,11 @@ def usage_lines(said: str) -> list[str]:
 
 
 OF_FILES = ("explain", "prompt", "page", "live", "watch")
-COMMANDS = (*OF_FILES, "lsp")
+COMMANDS = (*OF_FILES, "lsp", "help")
 
 
 @pytest.mark.parametrize(
-    "words", ["explain --nope x", "explain", "prompt a b", "page", "live --port", "watch", "lsp x"]
+    "words", ["explain --nope x", "explain", "prompt a b", "page", "live --port", "watch", "lsp x", "help --nope"]
 )
 def test_wrong_words_behind_a_command(words: str) -> None:
     ran = paris(*words.split())
@@ -116,7 +116,7 @@ def test_help_and_where() -> None:
     ran = paris("--help")
     assert ran.returncode == 0 and ran.stdout.startswith("usage: paris ")
     usages = [line for line in usage_lines(ran.stdout) if line.removeprefix("usage:").lstrip().startswith("paris ")]
-    assert len(usages) == 8 and "--where" in usages[-1]
+    assert len(usages) == len(COMMANDS) + 2 and "--where" in usages[-1]
     ran = paris("--where")
     assert ran.returncode == 0 and os.access(ran.stdout.strip(), os.X_OK)
 

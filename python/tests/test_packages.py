@@ -27,6 +27,7 @@ TALKING = " ".join(LOW) + " machine data talk explain files arguments progress"
 STANDS_ON = {
     **LOW,
     "files": "",
+    "script": "arguments draw files wire",
     "interrupts": "",
     "running": "interrupts lang wire",
     "progress": "",
@@ -43,7 +44,8 @@ STANDS_ON = {
     "document": TALKING,
     "lsp": TALKING + " document version",
     "notebook": TALKING + " document",
-    "cli": "version",
+    "help": "draw hints prompt wire",
+    "cli": "draw hints script version",
     "__main__": "cli",
     "": "hints lang machine paris running values version wire",
 }

@@ -1,0 +1,1 @@
+"""`paris help`: the pages, and what the reference says of a word, in a terminal."""

@@ -1,0 +1,39 @@
+"""`paris [--workers 1-16] [--desk] [FILE]` of an installed package: runs a script, or standard input, by the program."""
+
+from __future__ import annotations
+
+import argparse
+import os
+import sys
+
+from pevudlo.arguments import MOST_WORKERS, workers
+from pevudlo.draw.visible import visible
+from pevudlo.files import why
+from pevudlo.wire.program import NotFound, find
+
+# Results of large sets are long lists, which the system gives faster in huge pages. What the user says of it stands.
+TUNABLES, HUGE_PAGES = "GLIBC_TUNABLES", "glibc.malloc.hugetlb=1"
+
+
+def add_words(parser: argparse.ArgumentParser) -> None:
+    """Adds the words that the program takes."""
+    said = "how many threads settle rows (default: 2)"
+    parser.add_argument("--workers", type=workers, metavar=f"1-{MOST_WORKERS}", help=said)
+    parser.add_argument("--desk", action="store_true", help="the script is in parts, whose sessions share a desk")
+
+
+def run_script(name: str | None, count: int | None, has_desk: bool) -> int:
+    """Becomes the program, with a script as its standard input. The exit status is 2 where there is no program or no script."""
+    asked = [*(["--workers", str(count)] if count else []), *(["--desk"] if has_desk else [])]
+    try:
+        program = str(find())
+        if name is not None:
+            with open(name, "rb") as script:
+                os.dup2(script.fileno(), sys.stdin.fileno())
+        os.environ.setdefault(TUNABLES, HUGE_PAGES)
+        os.execv(program, [program, *asked])
+    except NotFound as error:
+        print(f"paris: {error}", file=sys.stderr)
+    except (OSError, ValueError) as error:
+        print(f"paris: can't read {visible(name or 'standard input')}: {why(error)}", file=sys.stderr)
+    return 2
