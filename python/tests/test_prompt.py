@@ -158,7 +158,7 @@ def test_lines_are_broken_between_words_at_eighty_columns() -> None:
     helps = ["help", *(f"help {word}" for word in (*OWN, *COMMANDS, "scan-with-u-add-1L", "12", "with"))]
     wide, narrow = answers([*lines, *helps]), answers([*lines, *helps], columns=80)
     assert max(map(len, wide)) > 120 and max(map(len, narrow)) <= 80
-    hints = [text for text in answers(mistakes) if "could stand" in text or "begins with" in text]
+    hints = [text for text in answers(mistakes) if "spelling" in text or "begins with" in text]
     folded = " ".join(" ".join(answers(mistakes, columns=80)).split())
     assert len(hints) == 2 and all(text.strip() in folded for text in hints)
 
