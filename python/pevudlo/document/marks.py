@@ -55,11 +55,11 @@ def mark_of(document: Document, number: int, done: Update, most: int = MOST) -> 
 
 
 def refusal_text(document: Document, number: int) -> str:
-    """Why a line is refused, with a hint, and what stays where it is held."""
+    """Why a line is refused, with the hint first, and what stays where it is held."""
     told = document.explanation(number)
     assert told is not None
     return "; ".join(
-        part for part in (f"{document.shown[number].refused}: {told.text}", told.hint, document.stays(number)) if part
+        part for part in (told.in_one_line(document.shown[number].refused), document.stays(number)) if part
     )
 
 

@@ -64,7 +64,7 @@ def refusal(document: Document, number: int) -> dict[str, Any]:
     assert told is not None
     line = document.lines[number]
     start, end = wrong_part(document, number, told)
-    words = "\n".join(part for part in (told.text, told.hint, document.stays(number)) if part)
+    words = "\n".join(part for part in (told.hint, told.text, document.stays(number)) if part)
     return {**told_of(number, line, ERROR, words), "range": span(number, line, start, end), "code": told.number}
 
 
