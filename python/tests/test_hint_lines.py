@@ -3,10 +3,12 @@
 from __future__ import annotations
 
 import re
+import time
 
 import pytest
 
 from pevudlo.hints.explanation import explained
+from pevudlo.hints.grammar import grammar_hint
 from pevudlo.hints.meanings import Where
 from pevudlo.hints.mnemonics import instruction_meant, nearest_instruction
 from pevudlo.lang.board import Board
@@ -255,6 +257,17 @@ def test_two_letters_in_the_other_order_are_a_slip_of_the_pen() -> None:
             if word not in (name, "gte-1L"):
                 meant = instruction_meant(word) or nearest_instruction(word)
                 assert meant == name, word
+
+
+@pytest.mark.parametrize("word", ["x", "-", "u-", "-1L", "u-add", "a,", "0x1", "9", "cm_"])
+@pytest.mark.parametrize(
+    "begin", ["", "insert ", "insert end ", "insert end u-add-3-1L a ", "show ", "input a 0 ", "help "]
+)
+def test_a_word_of_a_whole_line_takes_no_time(begin: str, word: str) -> None:
+    line = begin + word * (60_000 // len(word))
+    start = time.monotonic()
+    assert grammar_hint(line, len(begin) + 1 if begin != "help " else 1)
+    assert time.monotonic() - start < 2
 
 
 def test_letters_of_no_word_name_nothing() -> None:

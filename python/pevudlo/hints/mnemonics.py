@@ -14,6 +14,9 @@ from pevudlo.reference.idioms import Idiom
 
 _COUNTED = re.compile(r"(-\d?l?)*$")
 _TYPED = re.compile(r"([usfc])-(.+)")
+_MOST_LETTERS = 64
+"""A longer word is no name, and nothing is looked for in it."""
+
 _ALIKE = 0.7
 """How alike two words for an operation are at least."""
 
@@ -36,12 +39,19 @@ class Mnemonic:
         return self.operation.split("-")
 
 
+def plain(word: str) -> str:
+    """A word as a name of an instruction: in small letters, without what stands before and in it in C and in Lisp."""
+    lower = word.lower() if len(word) <= _MOST_LETTERS else ""
+    if lower.startswith(("cm:", "cm_")):
+        return lower[3:].replace("_", "-")
+    return lower
+
+
 def read(word: str) -> Mnemonic:
-    """A word as a name of an instruction, in any case. What stands before and in it in C and in Lisp is dropped."""
-    lower = re.sub(r"^cm[:_]", "", word.lower())
-    plain = _COUNTED.sub("", lower.replace("_", "-") if lower != word.lower() else lower)
-    typed = _TYPED.fullmatch(plain)
-    return Mnemonic(typed[1], typed[2]) if typed else Mnemonic("", plain)
+    """The parts of a name."""
+    root = _COUNTED.sub("", plain(word))
+    typed = _TYPED.fullmatch(root)
+    return Mnemonic(typed[1], typed[2]) if typed else Mnemonic("", root)
 
 
 def shortened(word: str) -> set[str]:
@@ -108,7 +118,7 @@ _NO_REMAINDER = Term(
 
 def combined(word: str) -> str | None:
     """The instruction that a name like `scan-with-add` means, or None."""
-    found = _WITH.fullmatch(word.lower())
+    found = _WITH.fullmatch(plain(word))
     name = f"{found[1]}-with-{_COMBINED.get(found[2], found[2])}-1L" if found else ""
     return name if name in INSTRUCTIONS else None
 
@@ -124,14 +134,14 @@ def absent(name: Mnemonic) -> Term | None:
 
 def likeness(word: str, name: str) -> tuple[bool, bool, float]:
     """How like a name is to a word: whether it has the same letters, whether it is unsigned, and how many it shares."""
-    lower, other = word.lower(), name.lower()
-    shared = SequenceMatcher(None, lower, other).ratio()
-    return sorted(lower) == sorted(other), not other.startswith("s-"), shared
+    letters, other = plain(word), name.lower()
+    shared = SequenceMatcher(None, letters, other).ratio()
+    return sorted(letters) == sorted(other), not other.startswith("s-"), shared
 
 
 def slip_of(word: str) -> str | None:
     """The instruction from whose name a word differs by one letter, or None. It is None too where two are as like."""
-    found = {name for form in shortened(word.lower()) for name in _SHORTENED.get(form, ())}
+    found = {name for form in shortened(plain(word)) for name in _SHORTENED.get(form, ())}
     most = max((likeness(word, name) for name in found), default=None)
     best = [name for name in found if likeness(word, name) == most]
     return best[0] if len(best) == 1 else None
@@ -167,7 +177,7 @@ def spelled(name: str) -> str:
 
 def of_combining(word: str) -> str | None:
     """What is said of a name that combines over all, or that combines by what doesn't; or None."""
-    lower = _COUNTED.sub("", word.lower())
+    lower = _COUNTED.sub("", plain(word))
     if found := _GLOBAL.fullmatch(lower):
         combiner = _COMBINED.get(found[1], found[1])
         combiner = combiner if combiner in COMBINERS else "u-add"

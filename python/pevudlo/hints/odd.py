@@ -23,6 +23,12 @@ EQUALS = ("=", ":=", "<-", "+=", "-=", "*=", "/=")
 ASSIGNED = re.compile(r"([A-Za-z][A-Za-z0-9_.-]*?)(?:\[.*\])? ?(?::=|<-|[-+*/]?=)")
 """The beginning of a line that gives a name a value by such a sign."""
 
+MOST_DIGITS = 40
+"""A longer number isn't told in another way."""
+
+MOST_KEYS = 4
+"""So many keys of a list are named."""
+
 BASES = re.compile(r"0[xXbBoO][0-9a-fA-F]+")
 
 
@@ -73,9 +79,9 @@ def odd_number(word: str, slot: Slot) -> str | None:
 
 
 def value_of(word: str) -> int | None:
-    """The number that a word is in another base, or None where its digits are none."""
+    """The number that a word is in another base, or None where its digits are none, or too many."""
     try:
-        return int(word, 0)
+        return int(word, 0) if len(word) <= MOST_DIGITS else None
     except ValueError:
         return None
 
@@ -97,8 +103,9 @@ def odd_constant(word: str) -> str | None:
 def odd_name(word: str, slot: Slot) -> str:
     """What is wrong with a word where a name or a key is wanted."""
     name, dot, flag = word.partition(".")
-    if slot.kind is Kind.KEY and re.fullmatch(r"[^,]+(,[^,]+)+", word):
-        return f"one key stands here: {listed([f'`{key}`' for key in word.split(',')], 'and')} have a line each"
+    if slot.kind is Kind.KEY and "," in word:
+        keys = [f"`{key}`" for key in word.split(",")[:MOST_KEYS] if is_key(key)]
+        return "one key stands here" + (f": {listed(keys, 'and')} have a line each" if len(keys) > 1 else "")
     if word == "none":
         return "`none` is no name"
     if len(name) > 16:
