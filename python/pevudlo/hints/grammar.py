@@ -80,7 +80,7 @@ def begin_hint(line: str, where: Where, is_first: bool) -> str:
     word, _, rest = line.partition(" ")
     if word == PROFILE_COMMAND:
         return late_hint(where)
-    if word.lower() == "help" and (said := meaning_of(rest.strip())):
+    if word.lower() == "help" and (said := meaning_of(rest.strip()) or begun_with(rest.strip(), where)):
         return said
     if word in INSTRUCTIONS or (word.lower() in ADDING and row_behind(line)):
         return row_hint(row_behind(line) or line)

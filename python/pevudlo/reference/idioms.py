@@ -33,6 +33,9 @@ class Idiom(Enum):
     CHAIN = "End a chain of flags"
 
 
+TITLES = tuple(idiom.value for idiom in Idiom)
+
+
 def page() -> str | None:
     """The text of the page, from the first place that has it. None where it isn't at hand."""
     for place in PLACES:
@@ -52,8 +55,7 @@ def sections() -> dict[str, str]:
 def find(words: str) -> str | None:
     """The title that these words are, or all begin: in any case. None where they are of none, or of several."""
     wanted = words.lower()
-    titles = [idiom.value for idiom in Idiom]
-    found = [title for title in titles if title.lower() == wanted] or [
-        title for title in titles if wanted and title.lower().startswith(wanted)
+    found = [title for title in TITLES if title.lower() == wanted] or [
+        title for title in TITLES if wanted and title.lower().startswith(wanted)
     ]
     return found[0] if len(found) == 1 else None
