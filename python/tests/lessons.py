@@ -1,4 +1,4 @@
-"""The scripts of docs/LESSON.md: its parts, their blocks, and what is run before each block."""
+"""The scripts of docs/LESSON.md and docs/IDIOMS.md: their parts and blocks, and what is run before each block."""
 
 from __future__ import annotations
 
@@ -28,16 +28,16 @@ class Block:
 
 @dataclass
 class Part:
-    """A part of the lesson: its heading, all of its prose, and its blocks."""
+    """A part of a page: its heading, all of its prose, and its blocks."""
 
     heading: str
     prose: str = ""
     blocks: list[Block] = field(default_factory=list)
 
 
-def parts() -> list[Part]:
-    """The parts of the lesson. Blocks that say `text` are none of scripts, and are left out."""
-    text = (ROOT / "docs" / "LESSON.md").read_text()
+def parts(page: str = "LESSON.md") -> list[Part]:
+    """The parts of a page. Blocks of a named kind, as `text`, are none of scripts, and are left out."""
+    text = (ROOT / "docs" / page).read_text()
     found = []
     for section in re.split(r"^## ", text, flags=re.M)[1:]:
         heading, rest = section.split("\n", 1)
@@ -85,9 +85,9 @@ def expected(block: Block) -> Iterator[tuple[str, list[str] | None]]:
         at = end
 
 
-def scripts() -> Iterator[tuple[Block, list[str]]]:
-    """Each block of the lesson with the commands that come before it."""
-    all_parts = parts()
+def scripts(page: str = "LESSON.md") -> Iterator[tuple[Block, list[str]]]:
+    """Each block of a page with the commands that come before it."""
+    all_parts = parts(page)
     for part in all_parts:
         for number, block in enumerate(part.blocks):
             yield block, before(block, part.blocks[:number], all_parts)

@@ -105,7 +105,7 @@ def test_the_extension_shows_values(played: dict[str, Any]) -> None:
 def test_the_extension_shows_what_is_wrong_and_mends_it(played: dict[str, Any]) -> None:
     (wrong,) = played["wrong"]
     assert (wrong["severity"], wrong["code"], wrong["source"]) == (0, 20, "paris")
-    assert wrong["message"].endswith("did you mean `u-add-3-1L`?")
+    assert wrong["message"].startswith("did you mean `u-add-3-1L`?\n")
     (action,) = played["actions"]
     assert action["parts"] == ["Write `u-add-3-1L`", "quickfix"] and action["diagnostics"] == [wrong]
     (part,) = action["edit"]["parts"]

@@ -465,7 +465,7 @@ def test_a_text_is_typed_on_the_page(browser: WebDriver, served: Server, path: P
     until(browser, lambda: cells(browser, "#rows [data-row='2'] [data-key='c']") == shown(text).split(" ")[2:])
     # A letter that is taken out leaves the row as it was, until it is saved.
     select(browser, "L b").send_keys(" b")
-    until(browser, lambda: beside(browser)[5].startswith("✗ refused 20 1"))
+    until(browser, lambda: beside(browser)[5].startswith("✗ did you mean `u-add-3-1L`? (refused 20 1: "))
     assert "the row stays" in beside(browser)[5] and beside(browser)[8] == shown(text)
     one(browser, "#text").send_keys(Keys.CONTROL, "s")
     until(browser, lambda: len(browser.find_elements(By.CSS_SELECTOR, "#rows article")) == 1)

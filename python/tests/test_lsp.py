@@ -16,6 +16,7 @@ from editors import MODERN, URI, Editor, Gone, Message, Started, framed, typed
 from random_editor import RandomEditor, compare
 from terminals import children_of
 
+from pevudlo.lang.faults import FAULTS
 from pevudlo.lsp import server as lsp_server
 from pevudlo.lsp.answers import ANSWERS, CAPABILITIES
 from pevudlo.lsp.frames import MOST_BODY, MOST_HEAD, Frames, NoFrame
@@ -325,7 +326,8 @@ def test_a_row_that_is_typed_stays_until_it_is_saved(editor: Editor) -> None:
     assert editor.type(5, 9, 10, "")["text"] == "0 of 2 rows ran again; 1 line is refused"
     (wrong,) = editor.wrong()
     assert wrong["range"] == typed(5, 0, 9, "")["range"] and wrong["code"] == 20
-    assert wrong["message"].split("\n")[1:] == ["did you mean `u-add-3-1L`?", "the row stays `u-add-3-1L b a a 8`"]
+    said = ["did you mean `u-add-3-1L`?", FAULTS[20].words(1), "the row stays `u-add-3-1L b a a 8`"]
+    assert wrong["message"].split("\n") == said
     assert editor.of("hover", 6, 13)["contents"]["value"].endswith("2 4 6 8\n```")
     editor.tell("textDocument/didSave", textDocument={"uri": URI})
     assert editor.ran() == {"uri": URI, "text": "1 of 1 row ran again; 1 line is refused", "ran": 1, "rows": 1}

@@ -10,7 +10,8 @@ from test_hints import DECLARED, PROGRAM, board_of
 
 from pevudlo import Machine
 from pevudlo.hints.explanation import explained
-from pevudlo.hints.meanings import MEANT, Where, meaning_of
+from pevudlo.hints.meanings import Where, meaning_of
+from pevudlo.hints.terms import MEANT
 from pevudlo.lang.instructions import INSTRUCTIONS, read
 from pevudlo.lang.replies import Refused, parse
 from pevudlo.live.session import Session as LiveSession

@@ -84,7 +84,7 @@ def test_rows_alone_and_looks_alone_are_drawn_anew(pieces: Pieces) -> None:
 
 
 def test_refusals_are_drawn_where_they_come_and_go(pieces: Pieces) -> None:
-    assert "✗ refused 7" in repr(pieces.put("rows", ROWS)["rows"])
+    assert "(refused 7: " in repr(pieces.put("rows", ROWS)["rows"])
     drawn = pieces.put("data", DATA, "rows", is_after=False)
     assert list(drawn) == ["data", "rows"] and "refused" not in repr(drawn["rows"])
     meet = "field to S 2\ninput to 0 1 1 0 0\nsend-1L c to a 8 none\n"
@@ -132,7 +132,8 @@ def test_pieces_in_html(pieces: Pieces) -> None:
     assert lines == ["u-add-3-1L b a a 8", "show b end", "show <i> end"]
     grid = next(table.all("figure"))
     assert [cell.text for cell in grid.all("td") if "pv-corner" not in cell.classes] == ["2", "4", "6", "8"]
-    assert [cell.text[:12] for cell in table.all("td", "pv-wrong")] == ["✗ refused 20"]
+    (wrong,) = table.all("td", "pv-wrong")
+    assert wrong.text.startswith("✗ ") and "(refused 20 6: " in wrong.text
 
 
 # In a shell.

@@ -19,6 +19,7 @@ from pevudlo.prompt.help import OWN, help_for
 from pevudlo.prompt.lines import Reader
 from pevudlo.prompt.prompt import Prompt, talk
 from pevudlo.prompt.session import Session
+from pevudlo.reference.idioms import sections
 from pevudlo.wire.program import ROOT, find
 
 BASE = ["set S 4", "field a S 8", "input a 0 1 200 3 16"]
@@ -158,7 +159,7 @@ def test_lines_are_broken_between_words_at_eighty_columns() -> None:
     helps = ["help", *(f"help {word}" for word in (*OWN, *COMMANDS, "scan-with-u-add-1L", "12", "with"))]
     wide, narrow = answers([*lines, *helps]), answers([*lines, *helps], columns=80)
     assert max(map(len, wide)) > 120 and max(map(len, narrow)) <= 80
-    hints = [text for text in answers(mistakes) if "could stand" in text or "begins with" in text]
+    hints = [text for text in answers(mistakes) if "spelling" in text or "begins with" in text]
     folded = " ".join(" ".join(answers(mistakes, columns=80)).split())
     assert len(hints) == 2 and all(text.strip() in folded for text in hints)
 
@@ -199,6 +200,34 @@ def test_help_finds_numbers_parts_and_likely_words() -> None:
     assert " ".join(parts[1:]).split() == ["scan-with-u-add-1L", "scan-with-u-max-1L", "scan-with-u-min-1L"]
     assert help_for("setle") == ["there is no help for `setle`: did you mean `settle`?"]
     assert help_for("xyzzy") == ["there is no help for `xyzzy`: `help` alone lists what there is"]
+
+
+@pytest.mark.parametrize(
+    "word, said, title",
+    [
+        ("shift", "shift: there is none: `u-multiply-3-1L D A B L`", "Shift by k along an axis"),
+        ("if", "if: `logand-context-with-test S`", "If and else"),
+        ("SORT", "SORT: there is none: ", "Sort by rank"),
+        ("while", "while: there is no loop: ", "Until nothing changes"),
+    ],
+)
+def test_help_knows_words_of_other_languages_as_hints_do(word: str, said: str, title: str) -> None:
+    lines = help_for(word)
+    assert lines[0].startswith(said)
+    (script, *_) = re.findall(r"^```\n(.*?)^```$", sections()[title], re.M | re.S)
+    assert title in lines and f"\n{script}" in "\n".join([*lines[lines.index(title) :], ""])
+    assert answers([f"help {word}"], []) == lines
+    assert not any("](" in line for line in lines)
+
+
+def test_help_of_an_idiom_of_a_name_and_of_other_words() -> None:
+    assert help_for("where the greatest is")[0] == help_for("Where the")[0] == "Where the greatest is"
+    assert help_for("u-mul")[:2] == ["`u-mul` is `u-multiply-3-1L`:", "u-multiply-3-1L D A B L"]
+    assert help_for("s-rem")[0].startswith("s-rem: there is no signed remainder: ")
+    assert help_for("print") == ["print: `show KEY end` shows a key"]
+    added = help_for("add")
+    assert added[0].startswith("add: `u-add-3-1L D A B L` adds") and added[1] == "these have `add` in their names:"
+    assert "  A constant as an operand; If and else; " in "\n".join(help_for(""))
 
 
 def test_new_begins_with_nothing_declared() -> None:

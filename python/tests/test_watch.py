@@ -278,8 +278,8 @@ def test_what_is_told_in_lines() -> None:
     ]
     assert second == [
         "0 of 2 rows ran again; 1 line is refused",
-        "  9: u-add-3-1L b a a 80: refused 12: a length is 0, or above the width of an operand; "
-        "`b` has 8 bits, and the length L is 80; `a` has 8 bits, and the length L is 80",
+        "  9: u-add-3-1L b a a 80: `b` has 8 bits, and the length L is 80; `a` has 8 bits, and the length L is 80 "
+        "(refused 12: a length is 0, or above the width of an operand)",
     ]
     assert third == [
         "2 of 2 rows ran again; 1 line is refused",
@@ -374,6 +374,13 @@ def test_it_ends_when_it_is_told_to(watching: Watching) -> None:
     assert watching.end(signal.SIGTERM) == 0
 
 
+def test_the_hint_comes_first_where_a_terminal_is_narrow(path: Path, tmp_path: Path) -> None:
+    path.write_text(TEXT + "u-divide-3-1L b a a 8\n")
+    with Terminal(tmp_path, str(path), command="watch", is_quiet=False, columns=72) as terminal:
+        seen = terminal.until("* other than before")
+    assert "✗ u-divide-3-1L b a a 8 did you mean `u-truncate-3-1L`? (refused …" in seen
+
+
 def test_a_file_on_a_terminal(path: Path, tmp_path: Path) -> None:
     with Terminal(tmp_path, str(path), command="watch", is_quiet=False, columns=120) as terminal:
         first = terminal.until("q ends")
@@ -383,7 +390,7 @@ def test_a_file_on_a_terminal(path: Path, tmp_path: Path) -> None:
         path.write_text(TEXT.replace("1 2 3 4", "1 2 3 5") + "u-ad a\n")
         second = terminal.until("q ends")
         assert "2 of 2 rows ran again; 1 line is refused" in second and "b 2 4 6 10*" in second
-        assert "✗ u-ad a" in second and "refused 20 1" in second
+        assert "✗ u-ad a " in second and "did you mean `u-add-3-1L`? (refused 20 1: " in second
         terminal.press("j")
         assert "b 2 4 6 10*" in terminal.until("q ends")
         path.unlink()

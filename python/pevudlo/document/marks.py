@@ -10,6 +10,7 @@ from pevudlo.document.pieces import Kind
 from pevudlo.document.states import Mark, State
 from pevudlo.document.update import Update
 from pevudlo.draw.arrays import differing, extent
+from pevudlo.hints.notes import note_of
 from pevudlo.lang.keys import width_of
 from pevudlo.lang.same import same_words
 from pevudlo.record.earlier import Numbers
@@ -51,16 +52,25 @@ def mark_of(document: Document, number: int, done: Update, most: int = MOST) -> 
         return Mark(State.LOOK, f"{shown.key} {short(document.look(number), None, width, most)}")
     if shown.kind is Kind.TIME:
         return Mark(State.PASSED, "rows run by themselves here")
+    if note := note_on(document, number):
+        return Mark(State.NOTE, note)
     return Mark(State.NONE, "")
 
 
 def refusal_text(document: Document, number: int) -> str:
-    """Why a line is refused, with a hint, and what stays where it is held."""
+    """Why a line is refused, with the hint first, and what stays where it is held."""
     told = document.explanation(number)
     assert told is not None
     return "; ".join(
-        part for part in (f"{document.shown[number].refused}: {told.text}", told.hint, document.stays(number)) if part
+        part for part in (told.in_one_line(document.shown[number].refused), document.stays(number)) if part
     )
+
+
+def note_on(document: Document, number: int) -> str:
+    """The note on a line, or nothing."""
+    shown = document.shown[number]
+    is_input = shown.kind is Kind.INPUT and not shown.refused
+    return note_of(shown.piece.line, document.book.board) if is_input else ""
 
 
 def row_mark(document: Document, row: FileRow, done: Update, most: int) -> Mark:

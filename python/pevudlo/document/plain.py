@@ -6,7 +6,7 @@ import time
 from collections.abc import Callable, Iterator
 
 from pevudlo.document.document import Document
-from pevudlo.document.marks import headline, mark_of
+from pevudlo.document.marks import headline, mark_of, note_on
 from pevudlo.document.pieces import Kind
 from pevudlo.document.states import State
 from pevudlo.document.update import Update
@@ -22,6 +22,7 @@ class Plain:
     def __init__(self, document: Document, say: Callable[[str], None]) -> None:
         self._document, self._say = document, say
         self._refused: set[tuple[str, str]] = set()
+        self._noted: set[str] = set()
         self._looks: dict[tuple[str, int], str] = {}
 
     def show(self, done: Update) -> None:
@@ -52,6 +53,7 @@ class Plain:
         """The lines with something new to tell, and the words. Looks are asked for as far as they are told."""
         document = self._document
         looks, self._looks = self._looks, {}
+        noted, self._noted = self._noted, set()
         for number, shown in enumerate(document.shown):
             if shown.refused:
                 if (document.lines[number], shown.refused) not in self._refused or done.fresh:
@@ -60,6 +62,10 @@ class Plain:
                 mark = mark_of(document, number, done)
                 same = ", the same as before" if mark.state is State.SAME else ""
                 yield number, mark.text + same
+            elif note := note_on(document, number):
+                self._noted.add(document.lines[number])
+                if document.lines[number] not in noted or done.fresh:
+                    yield number, note
             elif shown.kind is Kind.SHOW and len(self._looks) < MOST_TOLD:
                 at = shown.key, shown.anchor.book if shown.anchor is not None else 0
                 self._looks[at] = words = mark_of(document, number, done).text

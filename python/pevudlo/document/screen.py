@@ -27,6 +27,7 @@ TONES = {
     State.FAULT: "35",
     State.LOOK: "32",
     State.PASSED: "2",
+    State.NOTE: "34",
 }
 STEPS = {b"\x1b[A": -1, b"k": -1, b"\x1b[B": 1, b"j": 1, b"\x1b[5~": -20, b"b": -20, b"\x1b[6~": 20, b" ": 20}
 NUMBER = 5

@@ -16,6 +16,7 @@ class State(Enum):
     FAULT = "!"
     LOOK = "→"
     PASSED = "·"
+    NOTE = "i"
     NONE = ""
 
 

@@ -5,6 +5,7 @@ from __future__ import annotations
 from collections.abc import Mapping
 from typing import Any
 
+from pevudlo.hints.notes import note_of
 from pevudlo.lang.board import Board
 from pevudlo.lang.keys import axes_of, width_of
 from pevudlo.lang.replies import (
@@ -107,6 +108,8 @@ def parts_of(answer: Answer, board: Board) -> dict[str, Any]:
             return {"settled": reply.count}
         case Refused():
             return {"fault": refusal_object(answer)}
+        case Ok() if note := note_of(answer.line, board):
+            return {"note": note}
     return {}
 
 

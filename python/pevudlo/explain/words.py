@@ -7,10 +7,11 @@ from collections.abc import Sequence
 
 from pevudlo.draw.grids import Grid, text_of
 from pevudlo.hints.explanation import MOST_SHOWN
+from pevudlo.hints.notes import note_of
 from pevudlo.lang.board import Board
 from pevudlo.lang.causes import MOST_NAMED, count_words, row_words
 from pevudlo.lang.profiles import WORD
-from pevudlo.lang.replies import Faults, OrderTaken, PendingReply, Refused, RowFault, Settled, Values, Verdict, Word
+from pevudlo.lang.replies import Faults, Ok, OrderTaken, PendingReply, Refused, RowFault, Settled, Values, Verdict, Word
 from pevudlo.lang.same import same_words
 from pevudlo.talk import Answer
 
@@ -84,6 +85,8 @@ def reply_text(answer: Answer, board: Board, most: int) -> tuple[str, list[str]]
             return f"{first}: {VERDICTS[reply.word]}", []
         case OrderTaken():
             return f"{first}: {board.texts[reply.row]}", []
+        case Ok() if note := note_of(answer.line, board):
+            return first, [f"note: {note}"]
     return first, list(answer.lines[1:])
 
 

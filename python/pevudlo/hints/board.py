@@ -59,7 +59,8 @@ def set_hint(number: int, words: list[str], board: Board) -> str:
     if number == 1:
         return f"a run has at most 8 sets: {ticked(list(board.sets))}"
     if number == 3:
-        return name_taken(words[1], board)
+        given = f"; `input {words[1]} FROM VALUE ..` gives a field its values" if words[1] in board.fields else ""
+        return name_taken(words[1], board) + given
     axes = [int(word) for word in words[2].split("x")]
     odd = [length for length in axes if length < 1 or length & (length - 1)]
     if len(axes) > 4:

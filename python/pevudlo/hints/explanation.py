@@ -42,6 +42,11 @@ class Explanation:
             shown = list(caret_lines(self.line, self.column, most))
         return shown + ([self.hint] if self.hint else [])
 
+    def in_one_line(self, reply: str) -> str:
+        """The hint first, for where room is narrow, and then the reply with the fault in words."""
+        said = f"{reply}: {self.text}"
+        return f"{self.hint} ({said})" if self.hint else said
+
 
 class Refusal(Exception):
     """The program refused a command, and nothing has changed. What it has is that of its Explanation."""

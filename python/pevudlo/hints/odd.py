@@ -4,9 +4,11 @@ from __future__ import annotations
 
 import re
 
-from pevudlo.hints.words import nearest
-from pevudlo.lang.grammar import ADDRESSES, OPERANDS, Kind, Slot, is_key
+from pevudlo.hints.terms import Term
+from pevudlo.hints.words import listed, nearest
+from pevudlo.lang.grammar import ADDRESSES, OPERANDS, Kind, Slot, is_key, is_name
 from pevudlo.lang.instructions import FLAGS, Operand
+from pevudlo.reference.idioms import Idiom
 
 OPERAND_SLOTS = (*OPERANDS.values(), ADDRESSES)
 FIELDS_OF_FLAGS = {
@@ -15,6 +17,28 @@ FIELDS_OF_FLAGS = {
     "carry": "`u-add-carry-3-1L D A B L` of fields of zeros makes a field of it",
     "overflow": "no instruction reads it, and `show` shows it",
 }
+EQUALS = ("=", ":=", "<-", "+=", "-=", "*=", "/=")
+"""Signs that give something a value elsewhere."""
+
+ASSIGNED = re.compile(r"([A-Za-z][A-Za-z0-9_.-]*?)(?:\[.*\])? ?(?::=|<-|[-+*/]?=)")
+"""The beginning of a line that gives a name a value by such a sign."""
+
+MOST_DIGITS = 40
+"""A longer number isn't told in another way."""
+
+MOST_KEYS = 4
+"""So many keys of a list are named."""
+
+BASES = re.compile(r"0[xXbBoO][0-9a-fA-F]+")
+
+
+def odd_equals(name: str) -> str:
+    """What serves for a line that would give a name a value."""
+    key = name if is_key(name) else "KEY"
+    return (
+        f"no sign gives a value: `input {key} FROM VALUE ..` does at the start; in a row `u-move-constant-1L D K L` "
+        "stores a constant, and `u-move-1L D A L` copies a field"
+    )
 
 
 def odd_bytes(word: str) -> str | None:
@@ -42,16 +66,46 @@ def odd_number(word: str, slot: Slot) -> str | None:
         return f"the number is too great: here is room for {slot.kind.value}"
     if re.fullmatch(r"\d+(,\d*)+", word):
         return "between two numbers is a space, and no comma"
-    if re.fullmatch(r"0[xXbBoO][0-9a-fA-F]+", word):
-        return "numbers are decimal"
+    if BASES.fullmatch(word):
+        value = value_of(word)
+        return "numbers are decimal" + ("" if value is None else f": {word} is {value}")
+    if slot == OPERANDS[Operand.CONSTANT] and is_name(word):
+        return "a constant is a number: `u-move-1L D A L` copies a field"
+    if slot.role == "its width" and (typed := re.fullmatch(r"[A-Za-z]+([0-9]{1,3})(?:_t)?", word)):
+        return f"a width is how many bits there are: {typed[1]}"
     if re.fullmatch(r"\d*\.\d+|\d+\.\d*|\d+[eE]\d+|\d[\d_]+", word):
         return "numbers are whole and decimal, digits alone"
     return None
 
 
+def value_of(word: str) -> int | None:
+    """The number that a word is in another base, or None where its digits are none, or too many."""
+    try:
+        return int(word, 0) if len(word) <= MOST_DIGITS else None
+    except ValueError:
+        return None
+
+
+def odd_constant(word: str) -> str | None:
+    """What is said of a number where a source is wanted, or None where it is none."""
+    number = re.fullmatch(r"(-?)([0-9]{1,40})", word)
+    value = value_of(word) if BASES.fullmatch(word) else int(number[2]) if number else None
+    if value is None:
+        return None
+    amount = "K" if number and number[1] else str(value)
+    sign = ", where K is 2^L minus the amount" if amount == "K" else ""
+    said = (
+        f"no operand is a constant: `u-move-constant-1L D {amount} L` stores it in a field, which is the operand{sign}"
+    )
+    return Term("", said, (Idiom.CONSTANT,)).hint
+
+
 def odd_name(word: str, slot: Slot) -> str:
     """What is wrong with a word where a name or a key is wanted."""
     name, dot, flag = word.partition(".")
+    if slot.kind is Kind.KEY and "," in word:
+        keys = [f"`{key}`" for key in word.split(",")[:MOST_KEYS] if is_key(key)]
+        return "one key stands here" + (f": {listed(keys, 'and')} have a line each" if len(keys) > 1 else "")
     if word == "none":
         return "`none` is no name"
     if len(name) > 16:

@@ -7,6 +7,7 @@ from collections.abc import Iterator
 from typing import Any, NamedTuple
 
 from pevudlo.document.document import Document
+from pevudlo.document.marks import note_on
 from pevudlo.document.pieces import Kind
 from pevudlo.hints.explanation import Explanation
 from pevudlo.lang.replies import Cause
@@ -14,7 +15,7 @@ from pevudlo.lsp.opened import Opened
 from pevudlo.lsp.positions import span
 from pevudlo.lsp.spots import WORD, spots
 
-ERROR, WARNING, HINT = 1, 2, 4
+ERROR, WARNING, INFORMATION, HINT = 1, 2, 3, 4
 UNNECESSARY = 1
 MOST_TOLD = 100
 """So many lines are explained. Behind them it is said how many more there are."""
@@ -45,6 +46,8 @@ def diagnostics(file: Opened, tells_pale: bool) -> list[dict[str, Any]]:
             found.append(refusal(document, number))
         elif is_wrong:
             found.append(told_of(number, lines[number], WARNING, fault_words(document, number)))
+        elif (note := note_on(document, number)) and len(found) < MOST_TOLD:
+            found.append(told_of(number, lines[number], INFORMATION, note))
         elif tells_pale and shown.kind is Kind.TIME and len(found) < MOST_TOLD:
             said = told_of(number, lines[number], HINT, "rows run by themselves here, so this line is passed over")
             found.append({**said, "tags": [UNNECESSARY]})
@@ -64,7 +67,7 @@ def refusal(document: Document, number: int) -> dict[str, Any]:
     assert told is not None
     line = document.lines[number]
     start, end = wrong_part(document, number, told)
-    words = "\n".join(part for part in (told.text, told.hint, document.stays(number)) if part)
+    words = "\n".join(part for part in (told.hint, told.text, document.stays(number)) if part)
     return {**told_of(number, line, ERROR, words), "range": span(number, line, start, end), "code": told.number}
 
 

@@ -6,10 +6,14 @@ from collections.abc import Iterable
 from dataclasses import dataclass
 
 from pevudlo.draw.visible import visible
+from pevudlo.hints.meanings import Where, begun_with, meaning_of
+from pevudlo.hints.mnemonics import instruction_meant
+from pevudlo.hints.terms import MEANT
 from pevudlo.hints.words import nearest
 from pevudlo.lang.grammar import COMMANDS
+from pevudlo.reference import idioms
 from pevudlo.reference.table import ENTRIES, FAMILIES, find
-from pevudlo.reference.text import WIDTH, help_lines, wrapped
+from pevudlo.reference.text import WIDTH, help_lines, page_lines, wrapped
 
 
 @dataclass(frozen=True)
@@ -35,7 +39,8 @@ OWN_WORDS = (
         "help",
         "help [WORD]",
         "Says what there is; or all of a command, an instruction or a fault, with an example: `help show`, "
-        "`help u-add-3-1L`, `help BadLength`, `help 12`. A part of a name lists the names that have it: `help scan`.",
+        "`help u-add-3-1L`, `help BadLength`, `help 12`. A part of a name lists the names that have it: `help scan`. "
+        "Words of other languages go by their meaning, and idioms by their titles: `help if`, `help reverse`.",
     ),
     way("grid", "in the shape of their set, axis 0 across and axis 1 down"),
     way("line", "in the line of the reply"),
@@ -82,6 +87,7 @@ def overview(width: int) -> list[str]:
     for family in FAMILIES:
         names = " ".join(entry.name for entry in family.entries)
         lines += [f"{family.title}:", *(f"  {line}" for line in wrapped(names, width=width))]
+    lines += ["Idioms:", *(f"  {line}" for line in wrapped("; ".join(idioms.TITLES), width=width))]
     return [*lines, "`help WORD` says more of each. The key Tab completes words."]
 
 
@@ -104,12 +110,44 @@ def help_for(word: str, width: int = WIDTH) -> list[str]:
     found = find(word)
     if found:
         return [line for entry in found for line in help_lines(entry, width)]
-    parts = [name for name in known_names() if word.lower() in name.lower()]
-    if parts:
-        return [f"these have `{visible(word)}` in their names:", *named(parts, width)]
+    if lines := [*meaning_lines(word, width), *names_with(word, width)]:
+        return lines
+    if said := meaning_of(word) or begun_with(word, Where.PROMPT):
+        return said_lines(word, said, width)
     near = nearest(word, known_names())
     more = f"did you mean `{near}`?" if near else "`help` alone lists what there is"
     return [f"there is no help for `{visible(word)}`: {more}"]
+
+
+def meaning_lines(word: str, width: int) -> list[str]:
+    """What a word of other languages means here, in lines, with the idioms that show it; the idiom of a title; or the
+    instruction that a name means. Empty where it is nothing of these.
+    """
+    if term := MEANT.get(word.lower()):
+        shown = [line for idiom in term.idioms for line in idiom_lines(idiom.value, width)]
+        return [*said_lines(word, term.said, width), *shown]
+    if title := idioms.find(word):
+        return idiom_lines(title, width)
+    if name := instruction_meant(word):
+        return [f"`{visible(word)}` is `{name}`:", *(line for entry in find(name) for line in help_lines(entry, width))]
+    return []
+
+
+def said_lines(word: str, said: str, width: int) -> list[str]:
+    """What is said of a word, in lines."""
+    return wrapped(f"{visible(word)}: {said}", "  ", width)
+
+
+def idiom_lines(title: str, width: int) -> list[str]:
+    """An idiom in lines: its title, and its section where the page is at hand."""
+    return [title, *page_lines(idioms.sections().get(title, ""), width)]
+
+
+def names_with(word: str, width: int) -> list[str]:
+    """The names that have a word in them, in lines."""
+    meant = instruction_meant(word)
+    parts = [name for name in known_names() if word.lower() in name.lower() and name != meant]
+    return [f"these have `{visible(word)}` in their names:", *named(parts, width)] if parts else []
 
 
 def own_word_for(word: str) -> str | None:

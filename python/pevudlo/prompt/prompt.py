@@ -190,7 +190,7 @@ class Prompt:
         """Tells the lines of a file of this name, counts them, and says what is worth a line."""
         for number, answer in self.session.tell_all(lines, told):
             tally.count(number, answer, False)
-            if is_told(answer):
+            if is_told(answer, self.session.board):
                 head, *more = answer_lines(answer, self.session.board, self.view, self._columns())
                 with told.aside():
                     self.say(f"{name}:{number}: {head}", *more)

@@ -8,6 +8,7 @@ from pevudlo.draw.grids import Grid, text_of
 from pevudlo.draw.units import Unit, spelled
 from pevudlo.explain.words import told
 from pevudlo.hints.explanation import MOST_SHOWN
+from pevudlo.hints.notes import note_of
 from pevudlo.lang.board import Board
 from pevudlo.lang.keys import axes_of, width_of
 from pevudlo.lang.replies import Ok, Values
@@ -64,10 +65,12 @@ def answer_lines(answer: Answer, board: Board, view: View, columns: int | None =
     return [head, *(f"  {text}".rstrip() for text in more)]
 
 
-def is_told(answer: Answer) -> bool:
+def is_told(answer: Answer, board: Board) -> bool:
     """Whether an answer is worth a line where a whole file is told: all but those that say that a line was accepted.
 
-    Where rows are refused for their data it is.
+    Where rows are refused for their data it is, and where there is a note on the line.
     """
     word = answer.lines[0].split(" ")[0]
-    return bool(answer.faults) or not (isinstance(answer.reply, Ok) or word in ("row", "settled", "order", "kept"))
+    if answer.faults or (isinstance(answer.reply, Ok) and note_of(answer.line, board)):
+        return True
+    return not (isinstance(answer.reply, Ok) or word in ("row", "settled", "order", "kept"))
