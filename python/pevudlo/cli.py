@@ -37,7 +37,7 @@ def arguments() -> argparse.ArgumentParser:
         prog=name,
         usage=f"{name} [-h] [--version] [--workers 1-16] [--desk] [FILE]\n       {name} COMMAND ...",
         description=f"Runs a script, FILE or standard input; or a command for people: {', '.join(COMMANDS)}.",
-        epilog=f"`{name} COMMAND --help` says what it does and takes. A script of such a name is run as ./{next(iter(COMMANDS))}.",
+        epilog=f"`{name} COMMAND --help` says what it does and takes. A script of such a name is run as ./explain.",
         allow_abbrev=False,
     )
     parser.add_argument("--version", action="version", version=f"%(prog)s {release()}")
@@ -47,7 +47,10 @@ def arguments() -> argparse.ArgumentParser:
 
 
 def main(words: list[str]) -> int:
-    """Runs the script or the command that the words name, and gives the exit status. Wrong words raise SystemExit with status 2."""
+    """Runs the script or the command that the words name, and gives the exit status.
+
+    Wrong words raise SystemExit with status 2.
+    """
     if words and words[0] in COMMANDS:
         command = importlib.import_module(COMMANDS[words[0]])
         return int(command.main(words[1:]))

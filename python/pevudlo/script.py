@@ -1,4 +1,4 @@
-"""`paris [--workers 1-16] [--desk] [FILE]` of an installed package: runs a script, or standard input, by the program."""
+"""`paris [--workers 1-16] [--desk] [FILE]` of an installed package: the program runs a script, or standard input."""
 
 from __future__ import annotations
 
@@ -23,7 +23,7 @@ def add_words(parser: argparse.ArgumentParser) -> None:
 
 
 def run_script(name: str | None, count: int | None, has_desk: bool) -> int:
-    """Becomes the program, with a script as its standard input. The exit status is 2 where there is no program or no script."""
+    """Becomes the program, with a script as its standard input. Where there is no program or no script it returns 2."""
     asked = [*(["--workers", str(count)] if count else []), *(["--desk"] if has_desk else [])]
     try:
         program = str(find())

@@ -167,7 +167,8 @@ def test_emacs_without_eglot_says_what_to_install(tmp_path: Path) -> None:
     (tmp_path / "x.paris").write_text("set S 4\n")
     hook = "(add-hook 'paris-mode-hook #'paris-mode-ensure)"
     said = '(princ (format "%s, eglot: %s" major-mode (featurep \'eglot)))'
-    empty = '(setq load-path (cl-remove-if (lambda (it) (locate-file "eglot" (list it) \'(".el" ".elc" ".el.gz"))) load-path))'
+    has_eglot = '(lambda (it) (locate-file "eglot" (list it) \'(".el" ".elc" ".el.gz")))'
+    empty = f"(setq load-path (cl-remove-if {has_eglot} load-path))"
     words = ["emacs", "-Q", "--batch", "-L", str(EDITORS / "emacs"), "--eval", "(require 'paris-mode)"]
     words += ["--eval", empty, "--eval", hook, "--visit", str(tmp_path / "x.paris"), "--eval", said]
     ran = subprocess.run(words, capture_output=True, text=True, timeout=60)

@@ -80,7 +80,7 @@ def test_the_launcher_and_its_commands_say_one_thing_of_workers(number: str) -> 
     if number.isalnum():
         error = f"error: argument --workers: `{number}` is no number from 1 to 16"
         assert said.stderr.splitlines()[-1] == f"paris: {error}"
-        for command in COMMANDS:
+        for command in WITH_WORKERS:
             ran = paris(command, "--workers", number, FIRST)
             assert ran.stderr.splitlines()[-1] == f"paris {command}: {error}"
 
@@ -101,7 +101,8 @@ def usage_lines(said: str) -> list[str]:
 
 
 OF_FILES = ("explain", "prompt", "page", "live", "watch")
-COMMANDS = (*OF_FILES, "lsp", "help")
+WITH_WORKERS = (*OF_FILES, "lsp")
+COMMANDS = (*WITH_WORKERS, "help")
 
 
 @pytest.mark.parametrize(

@@ -44,7 +44,7 @@ STANDS_ON = {
     "document": TALKING,
     "lsp": TALKING + " document version",
     "notebook": TALKING + " document",
-    "help": "draw hints prompt wire",
+    "help": "draw hints prompt reference wire",
     "cli": "draw hints script version",
     "__main__": "cli",
     "": "hints lang machine paris running values version wire",

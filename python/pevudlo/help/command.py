@@ -9,13 +9,13 @@ import sys
 
 from pevudlo.draw.visible import visible
 from pevudlo.help.pages import Page, pages
-from pevudlo.help.terminal import shown
 from pevudlo.hints.words import nearest
-from pevudlo.prompt.help import help_for, is_known
+from pevudlo.prompt.help import OWN, help_for, known_help, known_words
+from pevudlo.reference.page_text import shown
 
 DOES = (
     "Shows a page: `paris help lesson`. Behind its name, words of a heading show that part alone: `paris help machine "
-    "scans`. Of another word it says what there is: a command, an instruction, a fault, or what serves for it."
+    "cut-off`. Of another word it says what there is: a command, an instruction, a fault, or what serves for it."
 )
 MOST_WIDTH = 100
 
@@ -33,8 +33,8 @@ def overview(known: dict[str, Page], width: int) -> list[str]:
     wide = max((len(name) for name in known), default=0)
     lines = ["Pages, by `paris help PAGE`:"] if known else ["No pages were installed with this package."]
     lines += [f"  {name.ljust(wide)}  {page.title}" for name, page in known.items()]
-    lines += ["", "Commands, instructions and faults, by `paris help WORD`:"]
-    return [*lines, *(line for line in help_for("", width) if line.startswith("  "))]
+    lines += ["", "Commands, instructions, faults and idioms, by `paris help WORD`:"]
+    return [*lines, *known_words(width)]
 
 
 def of_page(page: Page, words: str, width: int) -> list[str] | None:
@@ -53,7 +53,7 @@ def mentions(known: dict[str, Page], words: str) -> list[str]:
 
 def of_word(known: dict[str, Page], words: str, width: int) -> tuple[list[str], bool]:
     """What there is to say of a word that is no page, and whether there was anything."""
-    said = help_for(words, width) if is_known(words) else []
+    said = ["In the prompt:", *help_for(words, width)] if words in OWN else known_help(words, width)
     parts = mentions(known, words)
     if parts:
         said += ["", "In the pages:", *parts] if said else ["In the pages:", *parts]

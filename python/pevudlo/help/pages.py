@@ -6,11 +6,11 @@ import re
 from dataclasses import dataclass
 from pathlib import Path
 
+from pevudlo.reference.page_text import HEADING
 from pevudlo.wire.program import PACKAGE, ROOT
 
 # Where an installed package has them, laid out as in the repository.
 CARRIED = PACKAGE / "pages"
-HEADING = re.compile(r"^(#{1,6}) (.*)$")
 
 
 @dataclass(frozen=True)
@@ -68,14 +68,14 @@ def plain_words(text: str) -> str:
 
 
 def folder() -> Path | None:
-    """The folder that has README and `docs/`: an installed package's own, or the repository's. None where neither is there."""
+    """The folder that has README and `docs/`: an installed package's own, or the repository's. None where none is."""
     if (CARRIED / "docs").is_dir():
         return CARRIED
     return ROOT if (ROOT / "docs").is_dir() and (ROOT / "dist" / "sums").is_file() else None
 
 
 def pages() -> dict[str, Page]:
-    """The pages by their names, README first and `examples` last. None where this package stands alone in a folder."""
+    """The pages by their names, README first and `examples` last. Empty where this package stands alone in a folder."""
     top = folder()
     if top is None:
         return {}

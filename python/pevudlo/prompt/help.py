@@ -13,7 +13,8 @@ from pevudlo.hints.words import nearest
 from pevudlo.lang.grammar import COMMANDS
 from pevudlo.reference import idioms
 from pevudlo.reference.table import ENTRIES, FAMILIES, find
-from pevudlo.reference.text import WIDTH, help_lines, page_lines, wrapped
+from pevudlo.reference.page_text import shown
+from pevudlo.reference.text import WIDTH, help_lines, wrapped
 
 
 @dataclass(frozen=True)
@@ -84,11 +85,16 @@ def overview(width: int) -> list[str]:
     wide = max(len(word.name) for word in OWN_WORDS)
     for word in OWN_WORDS:
         lines.append(f"  {word.name.ljust(wide)}  {word.does.split('. ')[0].split(': ')[0].rstrip('.;')}")
+    return [*lines, *known_words(width), "`help WORD` says more of each. The key Tab completes words."]
+
+
+def known_words(width: int) -> list[str]:
+    """The names of all entries of the reference, by their families, and the titles of all idioms, in lines."""
+    lines = []
     for family in FAMILIES:
         names = " ".join(entry.name for entry in family.entries)
         lines += [f"{family.title}:", *(f"  {line}" for line in wrapped(names, width=width))]
-    lines += ["Idioms:", *(f"  {line}" for line in wrapped("; ".join(idioms.TITLES), width=width))]
-    return [*lines, "`help WORD` says more of each. The key Tab completes words."]
+    return [*lines, "Idioms:", *(f"  {line}" for line in wrapped("; ".join(idioms.TITLES), width=width))]
 
 
 def known_names() -> list[str]:
@@ -107,16 +113,22 @@ def help_for(word: str, width: int = WIDTH) -> list[str]:
         return overview(width)
     if word in OWN:
         return [OWN[word].spelling, *(f"  {line}" for line in wrapped(OWN[word].does, width=width))]
+    if lines := known_help(word, width):
+        return lines
+    near = nearest(word, known_names())
+    more = f"did you mean `{near}`?" if near else "`help` alone lists what there is"
+    return [f"there is no help for `{visible(word)}`: {more}"]
+
+
+def known_help(word: str, width: int = WIDTH) -> list[str]:
+    """What there is to say of a word that isn't the prompt's own, in lines. Empty where there is nothing."""
     found = find(word)
     if found:
         return [line for entry in found for line in help_lines(entry, width)]
     if lines := [*meaning_lines(word, width), *names_with(word, width)]:
         return lines
-    if said := meaning_of(word) or begun_with(word, Where.PROMPT):
-        return said_lines(word, said, width)
-    near = nearest(word, known_names())
-    more = f"did you mean `{near}`?" if near else "`help` alone lists what there is"
-    return [f"there is no help for `{visible(word)}`: {more}"]
+    said = meaning_of(word) or begun_with(word, Where.PROMPT)
+    return said_lines(word, said, width) if said else []
 
 
 def meaning_lines(word: str, width: int) -> list[str]:
@@ -140,7 +152,7 @@ def said_lines(word: str, said: str, width: int) -> list[str]:
 
 def idiom_lines(title: str, width: int) -> list[str]:
     """An idiom in lines: its title, and its section where the page is at hand."""
-    return [title, *page_lines(idioms.sections().get(title, ""), width)]
+    return [title, *shown(idioms.sections().get(title, ""), width)]
 
 
 def names_with(word: str, width: int) -> list[str]:

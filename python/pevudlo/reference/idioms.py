@@ -9,7 +9,7 @@ from pathlib import Path
 
 PAGE = "IDIOMS.md"
 PACKAGE = Path(__file__).resolve().parents[1]
-PLACES = (PACKAGE / "docs", PACKAGE.parents[1] / "docs")
+PLACES = (PACKAGE / "pages" / "docs", PACKAGE.parents[1] / "docs")
 """Where pages stand: among the data of a package that was installed with them, or in the repository."""
 
 

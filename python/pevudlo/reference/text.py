@@ -1,8 +1,7 @@
-"""The reference and pages as plain text: scripts to paste, in which comments say what is answered, and help."""
+"""The reference as plain text: scripts to paste, in which comments say what is answered, and help."""
 
 from __future__ import annotations
 
-import re
 import textwrap
 
 from pevudlo.reference.entry import Entry, Example, Kind, Step
@@ -35,25 +34,6 @@ def is_whole(example: Example) -> bool:
 def wrapped(text: str, indent: str = "", width: int = WIDTH) -> list[str]:
     """A text in lines of at most `width`, the further ones indented."""
     return textwrap.wrap(text, width, subsequent_indent=indent, break_long_words=False, break_on_hyphens=False)
-
-
-def page_lines(text: str, width: int = WIDTH) -> list[str]:
-    """The text of a page, or of a part of one, in lines for a terminal. Prose stands in by two, and blocks as they are.
-
-    Of a link its words are left.
-    """
-    prose, *rest = re.split(r"^```\w*\n(.*?)^```\n?", text, flags=re.M | re.S)
-    lines = prose_lines(prose, width)
-    for block, prose in zip(rest[::2], rest[1::2]):
-        lines += [*block.rstrip("\n").split("\n"), *prose_lines(prose, width)]
-    return lines
-
-
-def prose_lines(text: str, width: int) -> list[str]:
-    """Paragraphs in lines that stand in by two. Tables and lists keep their lines."""
-    plain = re.sub(r"\[([^\]]*)\]\([^)]*\)", r"\1", text)
-    parts = re.split(r"\n{2,}|\n(?=[|#-])", plain.strip("\n"))
-    return [f"  {line}" for part in parts for line in wrapped(" ".join(part.split()), width=width)]
 
 
 def head_of(entry: Entry) -> str:

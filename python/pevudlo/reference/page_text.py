@@ -1,4 +1,4 @@
-"""A page as a terminal shows it: paragraphs of its width, and no signs of links."""
+"""A page as a terminal shows it: prose stands in by two and is wrapped, code is at the margin, links are words."""
 
 from __future__ import annotations
 
@@ -6,15 +6,14 @@ import re
 import textwrap
 from collections.abc import Iterator
 
-from pevudlo.help.pages import HEADING
-
+HEADING = re.compile(r"^(#{1,6}) (.*)$")
 PICTURE = re.compile(r"!\[([^\]]*)\]\([^)]*\)")
 LINK = re.compile(r"\[([^\]]*)\]\(([^)]*)\)")
 ITEM = re.compile(r"^( *)([-*]|\d+\.) ")
 
 
 def without_links(text: str) -> str:
-    """A text with the words of its links and pictures alone. A link to another place than its words say is told behind them."""
+    """A text with the words of its links and pictures alone. A link that leads to no page is told behind its words."""
     text = PICTURE.sub(r"(picture: \1)", text)
     return LINK.sub(lambda link: link[1] if is_page(link[2]) else f"{link[1]} <{link[2]}>", text).replace("**", "")
 
@@ -29,13 +28,14 @@ def cells(line: str) -> list[str]:
 
 
 def table(lines: list[str], width: int) -> Iterator[str]:
-    """The rows of a table: side by side where they fit, else each with its first cell above the others."""
+    """A table: its head and rows side by side where they fit, else each row with its first cell above the others."""
     head, *rows = [cells(without_links(line)) for line in lines if not re.fullmatch(r"[|\s:-]+", line)]
     wide = [max(len(row[place]) for row in [head, *rows] if place < len(row)) for place in range(len(head))]
     if sum(wide) + 2 * (len(wide) - 1) <= width:
         for row in [head, *rows]:
             yield "  ".join(cell.ljust(size) for cell, size in zip(row, wide)).rstrip()
         return
+    yield from textwrap.wrap(" | ".join(head), width)
     for row in rows:
         first, *others = row
         yield from textwrap.wrap(first, width) or ["-"]
@@ -69,16 +69,16 @@ def blocks(text: str) -> Iterator[tuple[str, list[str]]]:
 
 
 def shown(text: str, width: int) -> list[str]:
-    """The lines of a page in a terminal that is so wide."""
+    """The lines of a page, or of a part of one, in a terminal that is so wide."""
     found: list[str] = []
     for kind, lines in blocks(text):
         match kind:
             case "code":
-                found += [f"    {line}" for line in lines]
-            case "table":
-                found += table(lines, width)
+                found += lines
             case "heading":
-                found += [without_links(lines[0]).replace("`", "")]
+                found.append(without_links(lines[0]).replace("`", ""))
+            case "table":
+                found += [f"  {line}" for line in table(lines, width - 2)]
             case _:
-                found += paragraph(lines[0], width)
+                found += [f"  {line}".rstrip() for line in paragraph(lines[0], width - 2)]
     return found
