@@ -15,6 +15,7 @@ from random_lines import RandomLines
 from usages import is_usage_of
 
 from pevudlo.explain.command import main
+from pevudlo.explain.words import ranged
 from pevudlo.wire.program import find
 
 REPOSITORY = Path(__file__).resolve().parents[2]
@@ -107,7 +108,18 @@ def last_line(commands: int, refused: list[int], faults: list[str] | None = None
     if not refused:
         return f"{count}, none refused{data}"
     where = "line" if len(refused) == 1 else "lines"
-    return f"{count}, {len(refused)} refused: {where} {', '.join(map(str, refused))}{data}"
+    return f"{count}, {len(refused)} refused: {where} {', '.join(runs_of(refused))}{data}"
+
+
+def runs_of(numbers: list[int]) -> list[str]:
+    """The numbers that have a neighbour on both sides are left out, but for the word between their ends."""
+    known = set(numbers)
+    ends = [number for number in numbers if not {number - 1, number + 1} <= known]
+    parts: list[str] = []
+    for number, before in zip(ends, [-1, *ends]):
+        is_far = number - before > 1 and all(each in known for each in range(before, number))
+        parts[-1:] = [f"{parts[-1]} to {number}"] if is_far else [*parts[-1:], str(number)]
+    return parts
 
 
 @pytest.mark.parametrize("path", SCRIPTS, ids=lambda path: str(path.relative_to(REPOSITORY)))
@@ -212,6 +224,28 @@ def test_a_refusal_with_caret_and_hint(tmp_path: Path) -> None:
     assert "did you mean `end`" in said[at + 3]
     assert f"{path}:4: refused 9 0: the value for processor 0 does not fit the width" in said
     assert "300" in said[-3] and "255" in said[-3]
+
+
+@pytest.mark.parametrize(
+    "numbers, said",
+    [
+        ([], ""),
+        ([4], "4"),
+        ([4, 5], "4, 5"),
+        ([4, 5, 6], "4 to 6"),
+        ([1, 3, 4, 5, 7, 8, 20, 21, 22, 23], "1, 3 to 5, 7, 8, 20 to 23"),
+        (list(range(11, 112)), "11 to 111"),
+    ],
+)
+def test_numbers_without_a_gap_are_a_range(numbers: list[int], said: str) -> None:
+    assert ranged(numbers) == said
+
+
+def test_the_end_names_many_refused_lines_by_a_range(tmp_path: Path) -> None:
+    path = tmp_path / "many.paris"
+    path.write_text("set S 4\n" * 9 + "# A comment.\n" + "nope\n" * 101)
+    last = run(path).stdout.split("\n")[-2]
+    assert last == f"{path}: 110 commands, 109 refused: lines 2 to 9, 11 to 111"
 
 
 def test_words(tmp_path: Path) -> None:

@@ -32,6 +32,46 @@ def test_scripts() -> None:
     assert paris(stdin="delete 9\n").returncode == 1
 
 
+@pytest.mark.parametrize(
+    "word, command",
+    [
+        ("explian", "explain"),
+        ("EXPLAIN", "explain"),
+        ("xplain", "explain"),
+        ("explains", "explain"),
+        ("promt", "prompt"),
+        ("porpmt", "prompt"),
+        ("pgae", "page"),
+        ("lve", "live"),
+        ("wacth", "watch"),
+        ("lps", "lsp"),
+    ],
+)
+def test_a_word_that_is_nearly_a_command_gets_that_one_s_usage(word: str, command: str) -> None:
+    for more in ("", f"{FIRST}", f"{FIRST} --quiet"):
+        ran = paris(word, *more.split())
+        *usage, error = ran.stderr.removesuffix("\n").split("\n")
+        assert (ran.returncode, ran.stdout) == (2, "") and 1 <= len(usage) <= 2
+        assert usage[0].startswith(f"usage: paris {command} [")
+        assert error == f"paris: error: there is no file and no command {word}: did you mean `{command}`?"
+
+
+@pytest.mark.parametrize("word", ["examples", "x", "explanation", "lively", "lisp.paris", "watches.paris", ""])
+def test_another_word_gets_what_wrong_words_get(word: str) -> None:
+    """Of two words the first is no FILE, and of one word it is said that it can't be read."""
+    ran = paris(word, "b")
+    assert ran.returncode == 2 and "did you mean" not in ran.stderr
+    assert ran.stderr.endswith("paris: error: one FILE is wanted\n") and "paris --where" in ran.stderr
+    assert paris(word).stderr == f"paris: can't read {word}\n"
+
+
+def test_a_script_of_nearly_a_command_s_name_is_run(tmp_path: Path) -> None:
+    (tmp_path / "explian").write_text(FIRST.read_text())
+    for name in ("explian", "./explian"):
+        ran = subprocess.run([PARIS, name], capture_output=True, text=True, timeout=60, cwd=tmp_path)
+        assert (ran.returncode, ran.stdout, ran.stderr) == (0, TRANSCRIPT, "")
+
+
 @pytest.mark.parametrize("given", [None, "", "glibc.malloc.check=0"])
 def test_the_program_asks_for_huge_pages_where_the_user_says_nothing(given: str | None) -> None:
     environment = {name: value for name, value in os.environ.items() if name != "GLIBC_TUNABLES"}

@@ -9,6 +9,7 @@ import time
 import urllib.error
 import urllib.request
 from collections.abc import Iterator
+from contextlib import contextmanager
 from pathlib import Path
 from typing import Any
 
@@ -75,7 +76,7 @@ class Tab:
     def settled(self) -> str:
         """Waits until all rows are settled, and drawn."""
         until = time.monotonic() + PATIENCE
-        while "All " not in self.look() or self.is_left:
+        while not re.match("All |The one row is", self.look()) or self.is_left:
             assert time.monotonic() < until, self.html["head"]
             time.sleep(0.02)
         return self.html["head"]
@@ -218,6 +219,11 @@ def test_the_history_is_gone_through_by_its_places(small: Server) -> None:
     assert seen == ["1", "20", "30", "10"]
     tab.command("input a 0 40")
     assert 'max="2" value="2"' in tab.settled()
+
+
+def test_one_row_is_settled(libparis: Path) -> None:
+    with contextmanager(serve)(["set S 4", "field a S 8", "insert end u-move-1L a a 8"]) as server:
+        assert Tab(server).settled().startswith('<p role="status">The one row is settled.</p>')
 
 
 def test_why_a_row_is_unsettled(small: Server) -> None:

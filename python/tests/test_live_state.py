@@ -41,6 +41,21 @@ def news(view: View, seen: int) -> tuple[dict[str, Any], int]:
     return json.loads(text), len(text)
 
 
+@pytest.mark.parametrize(
+    "rows, said",
+    [
+        (["u-move-1L a b 8"], "The one row is settled."),
+        (["u-move-1L a b 8", "u-move-1L b a 8"], "All 2 rows settled."),
+        (["send-1L a b b 8 none"], "The one row is settled, but:"),
+        (["send-1L a b b 8 none", "u-move-1L b a 8"], "All 2 rows settled, but:"),
+    ],
+)
+def test_the_head_says_that_all_is_settled(session: Session, rows: list[str], said: str) -> None:
+    """Both processors send to processor 0, where the row is a send."""
+    session.load(["set S 2", "field a S 8", "field b S 8", *(f"insert end {row}" for row in rows), "settle"])
+    assert f'<p role="status">{said}</p>' in news(View(session), 0)[0]["html"]["head"]
+
+
 def test_an_edit_of_one_row_sends_what_changed(session: Session) -> None:
     lines = many_rows()
     session.load(lines)

@@ -374,6 +374,14 @@ def test_it_ends_when_it_is_told_to(watching: Watching) -> None:
     assert watching.end(signal.SIGTERM) == 0
 
 
+def test_the_column_of_a_row_that_stands_alone_is_that_of_its_line() -> None:
+    line = "u-add-3-1L b a 300 8"
+    (told,) = told_of([f"{TEXT}{line}\n"])
+    column = line.index("300") + 1
+    assert told[-1].startswith(f"  9: {line}: no operand is a constant: ")
+    assert told[-1].endswith(f" (refused 20 {column}: the line is not in the grammar, from column {column} on)")
+
+
 def test_the_hint_comes_first_where_a_terminal_is_narrow(path: Path, tmp_path: Path) -> None:
     path.write_text(TEXT + "u-divide-3-1L b a a 8\n")
     with Terminal(tmp_path, str(path), command="watch", is_quiet=False, columns=72) as terminal:

@@ -61,9 +61,7 @@ def refusal_text(document: Document, number: int) -> str:
     """Why a line is refused, with the hint first, and what stays where it is held."""
     told = document.explanation(number)
     assert told is not None
-    return "; ".join(
-        part for part in (told.in_one_line(document.shown[number].refused), document.stays(number)) if part
-    )
+    return "; ".join(part for part in (told.in_one_line(), document.stays(number)) if part)
 
 
 def note_on(document: Document, number: int) -> str:

@@ -4,6 +4,7 @@ from __future__ import annotations
 
 from array import array
 from collections.abc import Sequence
+from itertools import groupby
 
 from pevudlo.draw.grids import Grid, text_of
 from pevudlo.hints.explanation import MOST_SHOWN
@@ -90,13 +91,20 @@ def reply_text(answer: Answer, board: Board, most: int) -> tuple[str, list[str]]
     return first, list(answer.lines[1:])
 
 
+def ranged(numbers: Sequence[int]) -> str:
+    """Numbers that rise, with commas. Three and more without a gap are a range: `5, 7 to 12`."""
+    groups = (list(group) for _, group in groupby(enumerate(numbers), lambda pair: pair[1] - pair[0]))
+    parts = [[number for _, number in group] for group in groups]
+    return ", ".join(f"{part[0]} to {part[-1]}" if len(part) > 2 else ", ".join(map(str, part)) for part in parts)
+
+
 def ending(commands: int, refused: list[int], faults: Sequence[RowFault], stopped: bool) -> str:
     """How many commands there were, which lines were refused, and which rows are refused for their data at the end."""
     count = "1 command" if commands == 1 else f"{commands} commands"
     said = "none refused"
     if refused:
         where = "line" if len(refused) == 1 else "lines"
-        said = f"{len(refused)} refused: {where} {', '.join(map(str, refused))}"
+        said = f"{len(refused)} refused: {where} {ranged(refused)}"
     rows = f"; {count_words(faults)}" if faults else ""
     return f"{count}, {said}{rows}" + ("; stopped at the first refusal" if stopped else "")
 

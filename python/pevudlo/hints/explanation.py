@@ -42,9 +42,10 @@ class Explanation:
             shown = list(caret_lines(self.line, self.column, most))
         return shown + ([self.hint] if self.hint else [])
 
-    def in_one_line(self, reply: str) -> str:
+    def in_one_line(self) -> str:
         """The hint first, for where room is narrow, and then the reply with the fault in words."""
-        said = f"{reply}: {self.text}"
+        detail = "" if self.detail is None else f" {self.detail}"
+        said = f"refused {self.number}{detail}: {self.text}"
         return f"{self.hint} ({said})" if self.hint else said
 
 

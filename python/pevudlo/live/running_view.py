@@ -8,7 +8,7 @@ from pevudlo.lang.replies import Row
 from pevudlo.live.reasons import Reason, Reasons, attributes
 from pevudlo.live.running import RunningSession
 from pevudlo.live.still import Still
-from pevudlo.live.view import View, card, refused_rows
+from pevudlo.live.view import View, all_settled, card, refused_rows
 from pevudlo.page.parts import clean, plural, sign
 from pevudlo.record.looks import RowRun
 from pevudlo.running.words import WHY
@@ -84,7 +84,7 @@ def progress_words(still: Still) -> str:
         hint = " It begins with commands at the foot: <code>set S 4</code>, <code>field a S 8</code>."
         return "The program has no rows." + ("" if still.board.sets else hint)
     if settled == count:
-        return f"All {plural(count, 'row')} settled" + (", but:" if still.seen.faults else ".")
+        return all_settled(count, bool(still.seen.faults))
     words = f"<b>{settled:,} of {plural(count, 'row')}</b> settled, {still.running} run now."
     if still.failure:
         return f"{words} {clean(still.failure)}"

@@ -259,7 +259,13 @@ def state_words(count: int, unsettled: int, session: Session) -> str:
         return "The program has no rows." + ("" if session.board.sets else hint)
     if unsettled:
         return f"<b>{unsettled:,} of {plural(count, 'row')}</b> {'is' if unsettled == 1 else 'are'} unsettled."
-    return f"All {plural(count, 'row')} settled" + (", but:" if session.seen.faults else ".")
+    return all_settled(count, bool(session.seen.faults))
+
+
+def all_settled(count: int, has_faults: bool) -> str:
+    """That all rows are settled. Behind it stand those that are refused for their data, where there are some."""
+    said = "The one row is settled" if count == 1 else f"All {count:,} rows settled"
+    return said + (", but:" if has_faults else ".")
 
 
 def refused_rows(seen: Seen) -> str:
