@@ -171,7 +171,7 @@ class Machine:
 
         Where rows ran and some are refused for their data, a warning RefusedRows names them, once for the settle.
         Ctrl-C leaves what is settled. Over the library no further row begins then; a program settles on, and the next
-        call waits for its end.
+        call waits for its end. Where another thread calls `stop`, it says how many ran until then.
         """
         count = self._talk.settle() if self._background is None else self._background.settle()
         faults = self.faults() if count else ()
@@ -303,13 +303,17 @@ class Machine:
         self._inside("start").crew.start()
 
     def stop(self) -> None:
-        """No further row begins. The rows that run are waited for, and kept where they are of the present program."""
+        """No further row begins, for a settle neither. The rows that run are waited for, and kept where they are of the
+        present program.
+        """
         self._inside("stop").crew.stop()
 
     def wait(self, timeout: float | None = None) -> bool:
-        """Waits until every row is settled. False where so many seconds are over, or where nothing runs any more.
+        """Waits until every row is settled. False where so many seconds are over, or where no result may come any more:
+        nothing runs, or all that is left was taken by hand.
 
-        Ctrl-C ends the wait alone. Raises MemoryError where there was none for a row; `start` tries it again.
+        Ctrl-C ends the wait alone. Raises MemoryError where there was none for a row; `start` tries it again. Raises
+        Ended where the machine is closed meanwhile.
         """
         return self._inside("wait").crew.wait(timeout)
 
@@ -322,8 +326,9 @@ class Machine:
         """The results that came in the background, one after another: what isn't kept is thrown away, and `word` says
         why.
 
-        It ends where all rows are settled, where nothing runs any more, or where none comes in so many seconds. Of sets
-        of at most 1,024 processors many rows are run at once, of which there are no news.
+        It ends where all rows are settled, where no result may come any more, or where none comes in so many seconds.
+        It raises as `wait` does. Of sets of at most 1,024 processors many rows are run at once, of which there are no
+        news.
         """
         return self._inside("news").news(timeout)
 
