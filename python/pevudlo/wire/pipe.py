@@ -109,6 +109,16 @@ class Pipe:
         return self._lock
 
     @property
+    def is_open(self) -> bool:
+        """Whether the talk isn't over, as far as is known."""
+        return self._over is None
+
+    @property
+    def is_owed(self) -> bool:
+        """Whether the program settles on whose wait Ctrl-C has ended: the next call waits for its end."""
+        return self._is_owed
+
+    @property
     def is_elsewhere(self) -> bool:
         """Whether this is a child of the process that began it, in which no call is made."""
         return os.getpid() != self._home
