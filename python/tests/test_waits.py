@@ -10,7 +10,7 @@ from pathlib import Path
 from typing import Any
 
 import pytest
-from test_running import numbers, slow, small
+from test_running import numbers, run, slow, small
 from waits import LIMIT, Told, status_of_child, within
 
 from pevudlo import Ended, Machine, Progress, Refusal, Word, paris
@@ -393,3 +393,55 @@ def test_random_ends(seed: int, workers: int, libparis: Path) -> None:
         told.append(Told(machine.close))
         for each in told:
             assert isinstance(each.wait().error, (Ended, Refusal, IndexError, type(None))), each
+
+
+def test_no_memory_for_small_rows(workers: int, monkeypatch: pytest.MonkeyPatch) -> None:
+    """Many of them run in one call, which is refused then."""
+    with small(workers) as machine:
+        calls = background_of(machine).book._calls
+        run = calls["paris_run"]
+        for name in "bcd":
+            machine.insert(paris.u_add(name, "a", "a", 8))
+        refused: Callable[..., int] = lambda *words: Outcome.PARTLY  # noqa: E731
+        monkeypatch.setitem(calls, "paris_run", refused)
+        assert isinstance(Told(machine.settle).wait().error, MemoryError)
+        machine.start()
+        waits: list[Callable[[], object]] = [machine.wait, lambda: list(machine.news()), machine.wait]
+        for call in waits:
+            assert isinstance(Told(call).wait().error, MemoryError)
+        assert Told(machine.stop).wait().error is None
+        monkeypatch.setitem(calls, "paris_run", run)
+        machine.start()
+        assert Told(machine.wait).wait().value is True
+        assert numbers(machine, "d") == [2, 4, 6, 8]
+
+
+IN_EACH_WAIT = """
+execute, free = Book.execute, threading.Event()
+def held(book, slot):
+    free.wait(60)
+    execute(book, slot)
+Book.execute = held
+machine, ids = slow(4)
+machine.start()
+while not machine._background.crew.running:
+    time.sleep(0.001)
+threading.Timer(0.3, lambda: os.kill(os.getpid(), signal.SIGINT)).start()
+begun = time.monotonic()
+try:
+    {call}
+except KeyboardInterrupt:
+    print(time.monotonic() - begun < 20)
+free.set()
+{behind}
+print(machine.close())
+"""
+
+
+@pytest.mark.parametrize("call", ["wait()", "settle()", "stop()", "close()", "news().__next__()"])
+def test_ctrl_c_ends_each_wait(libparis: Path, call: str) -> None:
+    """Rows are under way that don't end. Behind it they do, and the machine can be used on, where it isn't closed."""
+    behind = "" if call == "close()" else "machine.start()\nprint(machine.wait(60))"
+    script = IN_EACH_WAIT.format(call=f"machine.{call}", behind=behind)
+    ran = run("from pevudlo.wire.book import Book\n" + script)
+    assert ran.stdout == ("True\n0\n" if call == "close()" else "True\nTrue\n0\n"), ran.stderr
