@@ -1,6 +1,11 @@
 """Talks with paris_front, the front end for Paris programs, and shows no number that isn't one of its replies."""
 
-from pevudlo import paris
+from __future__ import annotations
+
+from importlib import import_module
+from types import ModuleType
+from typing import TYPE_CHECKING
+
 from pevudlo.hints.explanation import Explanation, Refusal
 from pevudlo.lang.causes import RefusedRows
 from pevudlo.lang.places import END, START, Place, after
@@ -13,6 +18,9 @@ from pevudlo.wire.library import Library
 from pevudlo.wire.library_places import find_library
 from pevudlo.wire.pipe import Ended, OutOfTurn, Pipe, PipeError
 from pevudlo.wire.program import NotFound, find
+
+if TYPE_CHECKING:
+    from pevudlo import paris
 
 __version__ = release()
 
@@ -51,3 +59,16 @@ __all__ = [
     "signed",
     "unsigned",
 ]
+
+# Checkers of types find a name that isn't there themselves.
+if not TYPE_CHECKING:
+
+    def __getattr__(name: str) -> ModuleType:
+        """Loads `paris` once it is asked for, with the reference that its functions are told by."""
+        if name == "paris":
+            return import_module("pevudlo.paris")
+        raise AttributeError(f"module 'pevudlo' has no attribute {name!r}")
+
+    def __dir__() -> list[str]:
+        """What is here, and what is loaded once it is asked for."""
+        return sorted({*globals(), *__all__})

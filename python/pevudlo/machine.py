@@ -26,20 +26,29 @@ from pevudlo.lang.replies import (
     RowAdded,
     RowFault,
     Rows,
+    Status,
     Verdict,
 )
 from pevudlo.running.background import Background, Touched
 from pevudlo.running.crew import News, Progress
 from pevudlo.running.history import MOST_STEPS
+from pevudlo.summary import summary
 from pevudlo.talk import Talk, of_kind
-from pevudlo.values.indices import Index, first_of, shown_part, split
+from pevudlo.values.indices import Index, first_of, places_of, shown_part, split
 from pevudlo.values.notebook import rows_html
-from pevudlo.values.shaped import Pending, Shown, check_shape, flat, shaped, whole
+from pevudlo.values.shaped import Pending, Shown, check_shape, flat, is_number, shaped, whole
 from pevudlo.wire.book import Book
 from pevudlo.wire.library_calls import place_number
 from pevudlo.wire.library_places import find_library
-from pevudlo.wire.pipe import Pipe
+from pevudlo.wire.pipe import Pipe, PipeError
 from pevudlo.wire.program import find
+
+
+A_MOMENT = 0.1
+"""Seconds that a machine's text waits at most for a call that is under way."""
+
+MOST_LISTED = 4_096
+"""Of so many rows at most a program is asked which are unsettled, for a machine's text."""
 
 
 class RowList(tuple[Row, ...]):
@@ -117,6 +126,44 @@ class Machine:
     def __exit__(self, kind: type[BaseException] | None, error: BaseException | None, at: TracebackType | None) -> None:
         self.close()
 
+    def __repr__(self) -> str:
+        """Its sets, fields and rows, and which rows are unsettled where no call is under way. It raises nothing."""
+        try:
+            state, unsettled = self._state()
+            where = "the library" if self.program is None else "a program"
+            return summary(f"{where}{state}", self._board, unsettled)
+        except Exception:
+            # It couldn't be made: the names that are asked for aren't there.
+            return "<Machine>"
+
+    def _state(self) -> tuple[str, tuple[int, ...] | None]:
+        """What keeps the machine from an answer, or nothing, and which rows are unsettled where that is known."""
+        peer = self._talk.peer
+        if not isinstance(peer, (Pipe, Book)) or peer.is_elsewhere:
+            return ", of another process", None
+        try:
+            self._talk.waiting.add(get_ident())
+            is_free = peer.is_open and peer.lock.acquire(timeout=A_MOMENT)
+        finally:
+            self._talk.waiting.discard(get_ident())
+        try:
+            unsettled = self._unsettled_of(peer) if is_free else None
+        except (PipeError, RuntimeError, MemoryError):
+            unsettled = None
+        finally:
+            if is_free:
+                peer.lock.release()
+        return "" if peer.is_open else ", closed", unsettled
+
+    def _unsettled_of(self, peer: Pipe | Book) -> tuple[int, ...] | None:
+        """The ids of the unsettled rows. None where a program would be long about it."""
+        if isinstance(peer, Book):
+            return peer.unsettled()
+        if peer.is_owed or len(self._board.texts) > MOST_LISTED:
+            return None
+        rows = self._talk.ask("list", Rows).rows
+        return tuple(row.row for row in rows if row.status is not Status.SETTLED)
+
     def close(self) -> int:
         """Ends the session, and gives its exit status: 1 where a command was refused, else 0.
 
@@ -171,7 +218,7 @@ class Machine:
 
         Where rows ran and some are refused for their data, a warning RefusedRows names them, once for the settle.
         Ctrl-C leaves what is settled. Over the library no further row begins then; a program settles on, and the next
-        call waits for its end.
+        call waits for its end. Where another thread calls `stop`, it says how many ran until then.
         """
         count = self._talk.settle() if self._background is None else self._background.settle()
         faults = self.faults() if count else ()
@@ -253,31 +300,35 @@ class Machine:
         """Gives a key its input data.
 
         `machine["a"] = values` gives a number for each processor, `machine["a", 3:] = values` gives them from a
-        processor on, and `machine["a", 3] = value` gives one. Many numbers go in several lines, each of them an edit.
+        processor on, and `machine["a", 3] = value` gives one. One number in the place of values is given to every
+        processor, or to each of the slice. Many numbers go in several lines, each of them an edit.
         Where one of the lines would be refused, it is asked first, so that a refusal changes nothing.
         Raises WrongShape where whole values don't fit the set, IndexError for a processor below 0, TypeError for
         another index, and what `flat` raises.
         """
         key, part = split(index)
-        numbers, shape = flat([whole(values)] if isinstance(part, int) else values)
+        is_each = is_number(values) and not isinstance(part, int)
+        numbers, shape = flat([whole(values)] if is_each or isinstance(part, int) else values)
         try:
             self._talk.waiting.add(get_ident())
             with self._talk.lock:
-                self._give(key, part, numbers, shape)
+                self._give(key, part, numbers, None if is_each else shape)
         finally:
             self._talk.waiting.discard(get_ident())
 
-    def _give(self, key: str, part: int | slice | None, numbers: Sequence[int], shape: tuple[int, ...]) -> None:
-        """Gives a key numbers, or a part of them, by what is declared."""
-        if part is None:
-            axes = self._board.axes_of(key)
-            if axes is not None:
-                check_shape(shape, key, axes)
-            self._data.give(key, 0, numbers)
-        else:
-            name = self._board.set_of(key)
-            processors = 0 if name is None else self._board.processors(name)
-            self._data.give(key, first_of(key, part, len(numbers), processors), numbers)
+    def _give(self, key: str, part: int | slice | None, numbers: Sequence[int], shape: tuple[int, ...] | None) -> None:
+        """Gives a key numbers, or a part of them, by what is declared. Without a shape it is one number for each."""
+        name, axes = self._board.set_of(key), self._board.axes_of(key)
+        processors = 0 if name is None else self._board.processors(name)
+        first = 0
+        if shape is None and not isinstance(part, int):
+            places = places_of(key, part, processors)
+            first, numbers = places.start, [*numbers] * len(places)
+        elif part is not None:
+            first = first_of(key, part, len(numbers), processors)
+        elif axes is not None and shape is not None:
+            check_shape(shape, key, axes)
+        self._data.give(key, first, numbers)
 
     def _grid(self, key: str, at: Place) -> Grid | Pending:
         """The numbers of a key at a place, as a grid."""
@@ -303,13 +354,17 @@ class Machine:
         self._inside("start").crew.start()
 
     def stop(self) -> None:
-        """No further row begins. The rows that run are waited for, and kept where they are of the present program."""
+        """No further row begins, for a settle neither. The rows that run are waited for, and kept where they are of the
+        present program.
+        """
         self._inside("stop").crew.stop()
 
     def wait(self, timeout: float | None = None) -> bool:
-        """Waits until every row is settled. False where so many seconds are over, or where nothing runs any more.
+        """Waits until every row is settled. False where so many seconds are over, or where no result may come any more:
+        nothing runs, or all that is left was taken by hand.
 
-        Ctrl-C ends the wait alone. Raises MemoryError where there was none for a row; `start` tries it again.
+        Ctrl-C ends the wait alone. Raises MemoryError where there was none for a row; `start` tries it again. Raises
+        Ended where the machine is closed meanwhile.
         """
         return self._inside("wait").crew.wait(timeout)
 
@@ -322,8 +377,9 @@ class Machine:
         """The results that came in the background, one after another: what isn't kept is thrown away, and `word` says
         why.
 
-        It ends where all rows are settled, where nothing runs any more, or where none comes in so many seconds. Of sets
-        of at most 1,024 processors many rows are run at once, of which there are no news.
+        It ends where all rows are settled, where no result may come any more, or where none comes in so many seconds.
+        It raises as `wait` does. Of sets of at most 1,024 processors many rows are run at once, of which there are no
+        news.
         """
         return self._inside("news").news(timeout)
 

@@ -74,12 +74,12 @@ class Talk:
         self.board = Board()
         self._lock = threading.RLock()
         self.waiting: set[int] = getattr(peer, "waiting", set())
-        self._is_inside = hasattr(peer, "lock")
+        self._is_inside = hasattr(peer, "waiting")
         self._edits, self._is_settled, self._listed_left = 0, False, MOST_LISTED
 
     @property
     def lock(self) -> threading.RLock:
-        """What one thread at a time holds. A session of the library has a lock of its own."""
+        """What one thread at a time holds: the lock of the peer, where it has one."""
         lock: threading.RLock = getattr(self.peer, "lock", self._lock)
         return lock
 

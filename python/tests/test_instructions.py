@@ -2,6 +2,8 @@
 
 from __future__ import annotations
 
+import os
+import pydoc
 import re
 import subprocess
 import sys
@@ -126,6 +128,73 @@ def test_conditional_instructions_write_nothing_where_nothing_is_selected() -> N
             assert after == before or not each.is_conditional, each.name
             if each.name in ("u-move-always-1L", "set-context", "invert-context", "load-context", "store-context"):
                 assert after != before, each.name
+
+
+def told_on_the_page() -> dict[str, list[str]]:
+    """Of each instruction the paragraphs of docs/INSTRUCTIONS.md, and its example as the last one."""
+    page = (REPOSITORY / "docs/INSTRUCTIONS.md").read_text()
+    told: dict[str, list[str]] = {}
+    for entry in page.split("\n### ")[1:]:
+        name, _, rest = entry.split("\n## ")[0].partition("\n")
+        if name in INSTRUCTIONS:
+            text, example = rest.split("\n```\n")[:2]
+            told[name] = [*text.strip().split("\n\n"), example]
+    return told
+
+
+TOLD = told_on_the_page()
+
+
+@pytest.mark.parametrize("instruction", EVERY, ids=list(BY_FUNCTION))
+def test_help_has_the_text_and_the_example_of_the_page(instruction: Instruction) -> None:
+    """`help` shows it: words may be in other lines, and the example is line by line as on the page."""
+    plain = pydoc.plaintext  # type: ignore[attr-defined]
+    shown = pydoc.render_doc(getattr(paris, instruction.function), renderer=plain)
+    words = " ".join(shown.split())
+    (spelled, *texts), example = TOLD[instruction.name][:-1], TOLD[instruction.name][-1]
+    spelling, _, does = spelled.partition("`. ")
+    assert spelling == f"`{instruction.spelling}" and instruction.spelling in words
+    for text in (does, *texts):
+        assert text.removesuffix(".") in words
+    assert example in "\n".join(line.removeprefix("    ") for line in shown.split("\n"))
+
+
+@pytest.mark.parametrize(
+    ("name", "meant"),
+    [
+        ("mul", ("multiplies", "paris.u_multiply, paris.s_multiply")),
+        ("u_mul", ("paris.u_multiply",)),
+        ("u_add_3_1l", ("paris.u_add",)),
+        ("scan_with_add", ("paris.scan_with_u_add",)),
+        ("where", ("paris.logand_context_with_test", "paris.set_context")),
+        ("zzz", ("dir(paris)",)),
+    ],
+)
+def test_a_name_that_is_no_function_says_what_is_meant(name: str, meant: tuple[str, ...]) -> None:
+    with pytest.raises(AttributeError) as error:
+        getattr(paris, name)
+    assert f"no function {name!r}" in str(error.value)
+    assert all(word in str(error.value) for word in meant)
+    ran = subprocess.run(
+        [sys.executable, "-c", f"import pevudlo; pevudlo.paris.{name}"],
+        capture_output=True,
+        text=True,
+        env={**os.environ, "PYTHONPATH": str(REPOSITORY / "python")},
+        timeout=60,
+    )
+    # Python adds no guess of its own.
+    assert ran.stderr.endswith(f"AttributeError: {error.value}\n")
+    assert not hasattr(paris, name) and not hasattr(paris, "__wrapped__")
+
+
+def test_every_name_of_the_package_is_there() -> None:
+    """One is loaded once it is asked for, with the reference that its functions are told by."""
+    script = "import sys, pevudlo\nprint('pevudlo.paris' in sys.modules, set(pevudlo.__all__) <= set(dir(pevudlo)))\n"
+    script += "from pevudlo import *\nprint(paris.u_add is pevudlo.paris.u_add, hasattr(pevudlo, 'parys'))"
+    words = [sys.executable, "-c", script]
+    environment = {**os.environ, "PYTHONPATH": str(REPOSITORY / "python")}
+    ran = subprocess.run(words, capture_output=True, text=True, env=environment, timeout=60)
+    assert ran.stdout == "False True\nTrue False\n", ran.stderr
 
 
 def test_read() -> None:

@@ -210,7 +210,7 @@ def test_masked_values_are_no_numbers(machine: Machine) -> None:
         ([1, 2, None, 4], TypeError),
         ("1234", TypeError),
         ({1, 2, 3, 4}, TypeError),
-        (7, TypeError),
+        (7.0, TypeError),
     ],
 )
 def test_values_that_are_none(machine: Machine, values: Any, error: type[Exception]) -> None:

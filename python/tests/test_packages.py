@@ -15,7 +15,7 @@ TOP = ROOT / "python"
 MODULES = sorted((TOP / "pevudlo").rglob("*.py"))
 LOW = {
     "lang": "",
-    "paris": "lang",
+    "paris": "hints lang reference",
     "draw": "",
     "values": "draw lang",
     "wire": "interrupts lang values",
@@ -36,7 +36,8 @@ STANDS_ON = {
     "version": "wire",
     "talk": "hints interrupts lang",
     "data": "lang talk values wire",
-    "machine": "data draw lang running talk values wire",
+    "summary": "lang",
+    "machine": "data draw lang running summary talk values wire",
     "explain": "arguments draw hints lang progress talk wire",
     "page": TALKING,
     "prompt": TALKING + " running",

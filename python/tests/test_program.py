@@ -8,7 +8,9 @@ from pathlib import Path
 
 import pytest
 
-from pevudlo.wire import program
+from pevudlo import Machine, Pipe, find_library
+from pevudlo.wire import library_places, program
+from pevudlo.wire.library_places import LIBRARY_VARIABLE
 from pevudlo.wire.program import NotFound, find
 
 REPOSITORY = Path(__file__).resolve().parents[2]
@@ -46,6 +48,41 @@ def test_by_variable(lost: Path, monkeypatch: pytest.MonkeyPatch) -> None:
         find()
 
 
+@pytest.mark.parametrize("named", ["./front", "front", "below/../front", "below/front"])
+def test_a_path_from_the_present_folder_on(tmp_path: Path, monkeypatch: pytest.MonkeyPatch, named: str) -> None:
+    """It is a file there: it isn't looked for on the PATH, and it stays the same where the folder is another then."""
+    (tmp_path / "below").mkdir()
+    for place in ("front", "below/front"):
+        (tmp_path / place).symlink_to(find())
+    monkeypatch.chdir(tmp_path)
+    with Machine(named) as machine:
+        machine.set("S", 4)
+        assert machine.program is not None and machine.program.is_absolute()
+    with Pipe(Path(named)) as pipe:
+        assert pipe.ask("set S 4") == ["ok"]
+    monkeypatch.setenv(program.VARIABLE, named)
+    found = find()
+    monkeypatch.chdir("/")
+    with Pipe(found) as pipe:
+        assert pipe.ask("set S 4") == ["ok"]
+
+
+@pytest.mark.parametrize("named", ["./lib.so", "lib.so"])
+def test_a_library_from_the_present_folder_on(
+    tmp_path: Path, monkeypatch: pytest.MonkeyPatch, libparis: Path, named: str
+) -> None:
+    (tmp_path / "lib.so").symlink_to(libparis)
+    monkeypatch.chdir(tmp_path)
+    with Machine(library=named) as machine:
+        machine.set("S", 4)
+    monkeypatch.setenv(LIBRARY_VARIABLE, named)
+    found = find_library()
+    monkeypatch.chdir("/")
+    with Machine(library=found) as machine:
+        machine.set("S", 4)
+        assert machine.library == tmp_path / "lib.so"
+
+
 def test_by_the_path(lost: Path) -> None:
     path = made(lost / "bin/paris_front")
     assert find() == path
@@ -55,8 +92,18 @@ def test_nowhere(lost: Path) -> None:
     with pytest.raises(NotFound) as error:
         find()
     assert len(error.value.looked) == 4
-    for place in ("PARIS_FRONT", "installed without one", "no repository", "PATH"):
+    for place in ("PARIS_FRONT", "installed without one", "no repository", "PATH", "`make wheel`"):
         assert place in str(error.value)
+
+
+def test_no_library_anywhere(lost: Path, monkeypatch: pytest.MonkeyPatch) -> None:
+    monkeypatch.delenv(LIBRARY_VARIABLE, raising=False)
+    monkeypatch.setattr(library_places, "ROOT", lost)
+    with pytest.raises(NotFound) as error:
+        Machine(library=True)
+    assert len(error.value.looked) == 3
+    for word in ("PARIS_LIBRARY", "installed without one", "no repository", "`make wheel`", "`pip install out/"):
+        assert word in str(error.value)
 
 
 def test_in_the_repository(monkeypatch: pytest.MonkeyPatch) -> None:

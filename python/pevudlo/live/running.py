@@ -202,9 +202,7 @@ class RunningSession(Session):
 
     def stop(self) -> None:
         """No further row begins."""
-        crew = self.background.crew
-        with self.book.lock:
-            crew.is_on = False
+        self.background.crew.halt()
         self.changed()
 
     def undo(self) -> None:

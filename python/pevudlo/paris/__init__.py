@@ -2,6 +2,8 @@
 
 # Made by python/tools/make-modules: don't edit.
 
+from typing import TYPE_CHECKING, NoReturn
+
 from pevudlo.paris.communication import (
     get,
     get_from_news,
@@ -83,6 +85,7 @@ from pevudlo.paris.elementwise import (
     u_subtract,
     u_truncate,
 )
+from pevudlo.paris.texts import describe, unknown
 
 __all__ = [
     "clear_context",
@@ -163,3 +166,12 @@ __all__ = [
     "u_subtract",
     "u_truncate",
 ]
+
+describe(globals()[name] for name in __all__)
+
+# Checkers of types find a name that isn't there themselves.
+if not TYPE_CHECKING:
+
+    def __getattr__(name: str) -> NoReturn:
+        """Says what is meant by a name that isn't there."""
+        raise unknown(name)

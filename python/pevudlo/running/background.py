@@ -57,15 +57,7 @@ class Background:
     def news(self, timeout: float | None = None) -> Iterator[News]:
         """The results as they come, until all rows are settled, nothing runs any more, or none comes in so many
         seconds."""
-        crew, book = self.crew, self.book
-        while True:
-            with book.lock:
-                while not crew.news:
-                    if not (crew.is_on or crew.running) or not book.unsettled_count():
-                        return
-                    if not book.news.wait(timeout) and not crew.news:
-                        return
-                news = crew.news.popleft()
+        while (news := self.crew.next_news(timeout)) is not None:
             yield news
 
     @contextmanager
@@ -95,10 +87,15 @@ class Background:
             self.book.waiting.discard(get_ident())
 
     def close(self) -> int:
-        """Ends the workers, each behind its row, and the session."""
+        """Ends the session, and the workers, each behind its row. Who waits for rows is told that it is over."""
+        if self.book.is_elsewhere:
+            return self.book.close()
+        with self.book.lock:
+            self.crew.leave()
+            self.history.clear()
+            status = self.book.close()
         self.crew.end()
-        self.history.clear()
-        return self.book.close()
+        return status
 
 
 def is_small(board: Board) -> bool:

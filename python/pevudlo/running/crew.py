@@ -49,85 +49,164 @@ class News:
     word: Word
 
 
+def deadline(timeout: float | None) -> float | None:
+    """The time at which so many seconds are over. None where no time is."""
+    return None if timeout is None else time.monotonic() + timeout
+
+
 class Crew:
     """The workers of a book. They hold the book, and not who began them: so that one's end can be theirs.
 
     `is_small` says whether rows are so small that many are run at once. `running` counts the orders that are out here,
     `ran` the results that were kept, `words` the results by their verdicts. What a worker couldn't do is in `trouble`.
+
+    Every wait ends: who waits is woken by each change of the book, by its end, and where the work stops or finds no
+    row. Then it looks at what it waits for, and at whether a result may still come.
     """
 
     _all: ClassVar[weakref.WeakSet[Crew]] = weakref.WeakSet()
 
     def __init__(self, book: Book, workers: int, is_small: Callable[[], bool]) -> None:
         self.book = book
-        self.is_on = self.is_over = False
+        self.is_over = self._is_started = False
         self.running = self.ran = 0
         self.words = dict.fromkeys(Word, 0)
         self.news: deque[News] = deque(maxlen=MOST_NEWS)
         self.trouble: BaseException | None = None
         self._is_small, self._most = is_small, AT_ONCE
         self._workers, self._is_dropped, self._is_at_small = workers, False, False
-        self._threads: list[threading.Thread] = []
+        # The threads that were begun, and those of them that work.
+        self._threads, self._at_work = set[threading.Thread](), set[threading.Thread]()
+        # Of each settle under way that no stop has ended, the thread that runs its rows itself, or None.
+        self._settles: dict[object, int | None] = {}
+        # The change behind which a worker found no row that is ready, and how many threads want to know that.
+        self._looked_at, self._waiting = -1, 0
+
+    @property
+    def is_on(self) -> bool:
+        """Whether the workers take rows: behind `start`, or for a settle."""
+        return self.trouble is None and (self._is_started or None in self._settles.values())
 
     def start(self) -> None:
         """Ready rows run from now on."""
         with self.book.lock:
-            self.is_on, self.trouble = True, None
-            self._release_dropped()
-            if not self._threads and not self.is_over:
-                self._begin()
-            self.book.news.notify_all()
+            self._begin()
+            self._is_started = True
 
     def _begin(self) -> None:
-        """Begins the threads."""
+        """Has the workers look for rows, whatever one of them couldn't do before. Threads that are missing begin."""
+        self.trouble, self._looked_at = None, -1
+        self._release_dropped()
         Crew._all.add(self)
-        names = [f"paris worker {number}" for number in range(1, self._workers + 1)]
-        self._threads = [threading.Thread(target=self._work, name=name, daemon=True) for name in names]
-        for thread in self._threads:
+        self._threads &= self._at_work
+        while len(self._threads) < self._workers and not self.is_over:
+            name = f"paris worker {len(self._threads) + 1}"
+            thread = threading.Thread(target=self._work, name=name, daemon=True)
             thread.start()
+            self._threads.add(thread)
+            self._at_work.add(thread)
+        self.book.news.notify_all()
+
+    def halt(self) -> None:
+        """No further row begins, for a settle neither."""
+        with self.book.lock:
+            self._is_started = False
+            self._settles.clear()
+            self.book.news.notify_all()
 
     def stop(self) -> None:
         """No further row begins. The rows that run are waited for, and kept where they are of the present program."""
         with self.book.lock:
-            self.is_on = False
+            self.halt()
             while self.running:
                 self.book.news.wait()
 
     def wait(self, timeout: float | None = None) -> bool:
-        """Waits until every row is settled. False where the time is over, or where nothing runs any more."""
-        until = None if timeout is None else time.monotonic() + timeout
+        """Waits until every row is settled. False where the time is over, or where no result may come any more."""
+        until = deadline(timeout)
         with self.book.lock:
             while self.book.unsettled_count():
                 self._check()
-                if not self.is_on and not self.running:
+                if not self._may_come() or not self.wait_until(until):
                     return False
-                left = None if until is None else until - time.monotonic()
-                if left is not None and left <= 0:
-                    return False
-                self.book.news.wait(left)
             return True
+
+    def next_news(self, timeout: float | None = None) -> News | None:
+        """The next result, waited for so many seconds. None where there is none, or none may come any more."""
+        until = deadline(timeout)
+        with self.book.lock:
+            while not self.news:
+                if not self.book.unsettled_count():
+                    return None
+                self._check()
+                if not self._may_come() or not self.wait_until(until):
+                    return None
+            return self.news.popleft()
+
+    def wait_until(self, until: float | None) -> bool:
+        """Waits for a change, whose lock is held. False where the time is over before."""
+        left = threading.TIMEOUT_MAX if until is None else until - time.monotonic()
+        if left <= 0:
+            return False
+        self._waiting += 1
+        try:
+            self.book.news.wait(min(left, threading.TIMEOUT_MAX))
+        finally:
+            self._waiting -= 1
+        return True
+
+    def _may_come(self) -> bool:
+        """Whether a result may come with no further call: a row runs, or a worker hasn't looked for one yet.
+
+        None comes where all that is left was taken by hand, or stands behind such rows. The lock is held.
+        """
+        others = set(self._settles.values()) - {None, threading.get_ident()}
+        is_new = self._looked_at != self.book.changes
+        return bool(self.running or others) or (self.is_on and not self.is_over and is_new)
 
     def settle(self) -> int:
         """Runs until every row is settled, and gives how many ran. Orders that others have out are given up.
 
-        Ctrl-C begins no further row, waits for those that run, and keeps what is settled. One worker that isn't at work
-        leaves it to the thread that calls.
+        Ctrl-C begins no further row, waits for those that run, and keeps what is settled. So does a stop, behind which
+        it gives how many ran until then. One worker that isn't at work leaves it to the thread that calls.
         """
-        if self._workers == 1 and not self.is_on:
-            return Library.settle(self.book)
-        with self.book.lock:
-            before, was_on = self.ran, self.is_on
-            try:
-                self.start()
-                while self.book.unsettled_count():
-                    self._check()
-                    if not self.running:
-                        self.book.release()
-                    self.book.news.wait()
-                return self.ran - before
-            finally:
-                if not was_on:
-                    self.stop()
+        mine = object()
+        try:
+            with self.book.lock:
+                is_here = self.is_over or (self._workers == 1 and not self.is_on)
+                self._settles[mine] = threading.get_ident() if is_here else None
+                if not is_here:
+                    return self._settle_by_workers(mine)
+            return self._settle_here(mine)
+        finally:
+            with self.book.lock:
+                self._settles.pop(mine, None)
+                self.book.tell()
+
+    def _settle_here(self, mine: object) -> int:
+        """Runs rows in the thread that calls. Where others took orders meanwhile it gives them up, and goes on."""
+        ran = 0
+        while mine in self._settles:
+            ran += Library.settle(self.book, lambda: mine in self._settles)
+            if not self.book.unsettled_count():
+                break
+        return ran
+
+    def _settle_by_workers(self, mine: object) -> int:
+        """Waits for the workers, and gives up orders that others have out where no row runs. The lock is held."""
+        before = self.ran
+        try:
+            self._begin()
+            while mine in self._settles and self.book.unsettled_count():
+                self._check()
+                if not self.running:
+                    self.book.release()
+                self.book.news.wait()
+        finally:
+            self._settles.pop(mine, None)
+            while self.running and not self.is_on:
+                self.book.news.wait()
+        return self.ran - before
 
     def leave(self) -> None:
         """The workers end, each behind its row. Nobody waits for them."""
@@ -138,11 +217,16 @@ class Crew:
             self.book.news.notify_all()
 
     def end(self) -> None:
-        """Ends the workers, and waits for them."""
+        """Ends the workers, and waits for them. The lock may be held: they get it."""
         self.leave()
-        for thread in () if self.book.is_elsewhere else self._threads:
-            if thread is not threading.current_thread():
-                thread.join()
+        if self.book.is_elsewhere:
+            return
+        mine = {threading.current_thread()}
+        with self.book.lock:
+            while self._at_work - mine:
+                self.book.news.wait()
+        for thread in self._threads - mine:
+            thread.join()
 
     @classmethod
     def end_all(cls) -> None:
@@ -157,14 +241,24 @@ class Crew:
 
     def _work(self) -> None:
         """Takes, executes and brings, until the end."""
-        slot = self.book.slot()
         with self.book.lock:
-            while not self.is_over and self.book.is_open:
-                try:
-                    if not self._do(slot):
-                        self.book.news.wait()
-                except Exception as error:
-                    self._failed(error)
+            try:
+                slot = self.book.slot()
+                while not self.is_over and self.book.is_open:
+                    self._look(slot)
+            except Exception as error:
+                self._failed(error)
+            finally:
+                self._at_work.discard(threading.current_thread())
+                self.book.news.notify_all()
+
+    def _look(self, slot: Slot) -> None:
+        """Runs what is ready, or waits for a change where nothing is."""
+        try:
+            if not self._do(slot):
+                self.book.news.wait()
+        except Exception as error:
+            self._failed(error)
 
     def _do(self, slot: Slot) -> bool:
         """Runs a row, or many small ones. Whether there was one. The lock is held before and behind it."""
@@ -173,6 +267,7 @@ class Crew:
         if self._is_small():
             return self._run_small()
         if not self.book.take(slot):
+            self._found_none()
             return False
         self._execute(slot)
         if self.is_over or not self.book.is_open:
@@ -183,8 +278,14 @@ class Crew:
         self.ran += word is Word.KEPT
         self.news.append(News(slot.row, slot.edition, word))
         self._release_dropped()
-        self.book.news.notify_all()
+        self.book.tell()
         return True
+
+    def _found_none(self) -> None:
+        """Notes that no row is ready until something changes, and tells who waits for one."""
+        is_new, self._looked_at = self._looked_at != self.book.changes, self.book.changes
+        if is_new and self._waiting:
+            self.book.news.notify_all()
 
     def _run_small(self) -> bool:
         """Runs small rows while there are some, many in one hold of the lock, by one worker. Whether some ran."""
@@ -210,6 +311,8 @@ class Crew:
         took = time.monotonic() - begun
         self.ran += count
         self.words[Word.KEPT] += count
+        if count < self._most:
+            self._found_none()
         if count == self._most:
             self._most = max(1, self._most // 2) if took > HOLD else min(AT_ONCE, self._most * 2)
         return count
@@ -240,7 +343,7 @@ class Crew:
 
     def _failed(self, error: Exception) -> None:
         """Stops the work for what couldn't be done. The row of the order that was dropped waits again."""
-        self.is_on, self.trouble = False, error
+        self._is_started, self.trouble = False, error
         self._release_dropped()
         self.book.news.notify_all()
 

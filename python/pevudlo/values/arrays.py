@@ -7,7 +7,25 @@ from typing import Any, Callable
 import numpy
 
 from pevudlo.draw.grids import Grid
-from pevudlo.values.shaped import negative
+from pevudlo.values.shaped import ReadOnly, negative
+
+SIGNS = {
+    "add": "+",
+    "subtract": "-",
+    "multiply": "*",
+    "matmul": "@",
+    "divide": "//",
+    "true_divide": "//",
+    "floor_divide": "//",
+    "remainder": "%",
+    "power": "**",
+    "bitwise_and": "&",
+    "bitwise_or": "|",
+    "bitwise_xor": "^",
+    "left_shift": "<<",
+    "right_shift": ">>",
+}
+"""The operators that give whole numbers, by the functions of numpy that an operator in place calls."""
 
 
 def words_in(values: Any) -> memoryview:
@@ -42,6 +60,19 @@ def change_each(values: Any, change: Callable[[int], int]) -> Any:
     return numpy.frompyfunc(change, 1, 1)(numpy.asarray(values, dtype=object))
 
 
+def computed_by(ufunc: Any) -> str:
+    """How a function of numpy's is written whose result is a new array, with `{}` in the place of its first values."""
+    name = ufunc.__name__
+    if name in SIGNS:
+        return f"{{}} {SIGNS[name]} .."
+    return f"numpy.{name}({{}}{', ..' * (ufunc.nin > 1)})"
+
+
+def plain(values: Any) -> Any:
+    """A look as an array of numpy's alone, and all else as it is."""
+    return values.view(numpy.ndarray) if isinstance(values, ValueArray) else values
+
+
 class ValueArray(numpy.ndarray[Any, numpy.dtype[Any]]):
     """The values of a key as the program answered them, in the shape of the set's axes, axis 0 last.
 
@@ -64,9 +95,34 @@ class ValueArray(numpy.ndarray[Any, numpy.dtype[Any]]):
         self.grid = None
 
     def __array_ufunc__(self, ufunc: Any, method: str, *inputs: Any, **words: Any) -> Any:
-        """What is computed from it is a plain array."""
-        plain = [numpy.asarray(each) if isinstance(each, ValueArray) else each for each in inputs]
-        return getattr(ufunc, method)(*plain, **words)
+        """What is computed from it is a plain array. Raises ReadOnly where a result is to be put into it.
+
+        A copy may be written to, and takes results.
+        """
+        given = words.get("out", ())
+        if method == "at" and isinstance(inputs[0], ValueArray):
+            given = inputs[:1]
+        for array in given:
+            if isinstance(array, ValueArray) and not array.flags.writeable:
+                raise array._read_only(computed_by(ufunc))
+        if "out" in words:
+            words["out"] = tuple(map(plain, given))
+        result = getattr(ufunc, method)(*map(plain, inputs), **words)
+        return given[0] if len(given) == 1 and method != "at" else result
+
+    def __imatmul__(self, other: object) -> Any:  # type: ignore[misc]
+        """As other operators in place."""
+        return numpy.matmul(self, other, out=self)  # type: ignore[call-overload]
+
+    def __setitem__(self, index: Any, value: Any) -> None:
+        """Raises ReadOnly, but of a copy."""
+        if not self.flags.writeable:
+            raise self._read_only("values")
+        super().__setitem__(index, value)  # type: ignore[no-untyped-call]
+
+    def _read_only(self, computed: str) -> ReadOnly:
+        """What is raised where it is to be changed. `computed` is what may be written for the new values."""
+        return ReadOnly(None if self.grid is None else self.grid.key, computed)
 
     def __repr__(self) -> str:
         """As a plain array."""

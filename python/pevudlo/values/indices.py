@@ -60,6 +60,22 @@ def first_of(key: str, part: int | slice, count: int, processors: int) -> int:
     return first
 
 
+def places_of(key: str, part: slice | None, processors: int) -> range:
+    """The processors of a set of so many to which one number is given: all of them, or those of a slice.
+
+    A slice that reaches behind the last one has one more at most, for which the program refuses the whole.
+    Raises IndexError for one below 0, and ValueError for a slice with a step, or with no processor in it.
+    """
+    if part is None:
+        return range(max(1, processors))
+    first = first_of(key, part.start or 0, 1, processors)
+    stop = None if part.stop is None else part.stop + (processors if part.stop < 0 else 0)
+    if part.step not in (None, 1) or (stop is not None and stop <= first):
+        raise ValueError(f"{key}[{first}:{stop}] has no processors: give a first and a greater last one, and no step")
+    most = processors if stop is None else min(stop, processors + 1)
+    return range(first, max(first + 1, most))
+
+
 def shown_part(grid: Grid, part: int | slice) -> int | Shown | list[int]:
     """The number of a processor, or the numbers of processors that follow each other, one after another.
 

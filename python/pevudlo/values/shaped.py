@@ -12,7 +12,7 @@ from collections.abc import Iterable, Mapping, Sequence, Set
 from dataclasses import dataclass
 from functools import cache
 from importlib.util import find_spec
-from typing import TYPE_CHECKING, Any, Union
+from typing import TYPE_CHECKING, Any, NoReturn, Union
 
 from pevudlo.draw.grids import Grid
 
@@ -58,12 +58,42 @@ class Pending:
         return TypeError(f"the value is pending: row {self.row} writes it last, and is unsettled")
 
 
+class ReadOnly(ValueError):
+    """A look at a key is changed in place, which would change nothing of the machine."""
+
+    def __init__(self, key: str | None, computed: str) -> None:
+        """`computed` is what may be written for the new values, with `{}` in the place of the look."""
+        look = "machine[key, first:]" if key is None else f'machine["{key}"]'
+        of = "values" if key is None else f"values of {key}"
+        super().__init__(
+            f"{of} are a look, and can't be written to: {look} = {computed.format(look)} gives the machine others, "
+            f"and {look}.copy() is yours to change"
+        )
+
+
 class ValueList(list[Any]):
-    """Values as lists in lists, axis 0 innermost, where numpy isn't there."""
+    """Values as lists in lists, axis 0 innermost, where numpy isn't there. It isn't changed in place."""
 
     def __init__(self, values: Iterable[Any], grid: Grid) -> None:
         super().__init__(values)
         self.grid = grid
+
+    def __iadd__(self, other: object) -> NoReturn:  # type: ignore[misc]
+        """Raises ReadOnly."""
+        raise self._trouble("+")
+
+    def __imul__(self, other: object) -> NoReturn:
+        """Raises ReadOnly."""
+        raise self._trouble("*")
+
+    def __setitem__(self, index: object, value: object) -> NoReturn:
+        """Raises ReadOnly."""
+        raise ReadOnly(self.grid.key, "values")
+
+    def _trouble(self, sign: str) -> ReadOnly:
+        """What is raised for an operator in place."""
+        part = f'machine["{self.grid.key}", 0:]'
+        return ReadOnly(self.grid.key, f"[number {sign} .. for number in {part}]")
 
     def tolist(self) -> list[Any]:
         """The same lists, as an array gives them."""
@@ -106,6 +136,13 @@ def is_boolean(value: object) -> bool:
     return isinstance(value, bool) or (numpy is not None and isinstance(value, numpy.bool_))
 
 
+def is_number(values: object) -> bool:
+    """Whether this is one whole number or boolean, of Python's or of numpy's."""
+    if is_array(values):
+        return bool(getattr(values, "ndim") == 0)
+    return is_boolean(values) or hasattr(values, "__index__")
+
+
 def flat(values: object) -> tuple[Sequence[int], tuple[int, ...]]:
     """The numbers of lists, ranges, other iterables or an array, the last axis fastest, and their shape.
 
@@ -115,7 +152,7 @@ def flat(values: object) -> tuple[Sequence[int], tuple[int, ...]]:
     if is_array(values):
         numbers, shape = flat_array(values)
     elif isinstance(values, (str, bytes, Mapping, Set)) or not isinstance(values, Iterable):
-        raise TypeError(f"values are whole numbers in lists, ranges or arrays, and not {type(values).__name__}")
+        raise TypeError(f"values are whole numbers, one or in lists, ranges or arrays, and not {type(values).__name__}")
     else:
         numbers, shape = flat_items(list(values))
     if not numbers:

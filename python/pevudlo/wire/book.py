@@ -48,7 +48,7 @@ class Slot:
 
 
 class Book(Library):
-    """A session with a condition of its lock, `news`: it is told of edits, and of results that are brought."""
+    """A session with a condition of its lock, `news`: told of edits, of results that are brought, and of the end."""
 
     keep: Keep | None = None
     settler: Callable[[], int] | None = None
@@ -57,6 +57,18 @@ class Book(Library):
     def _begin(self, calls: Calls, held: Held) -> None:
         super()._begin(calls, held)
         self.news = threading.Condition(self._lock)
+        # How often something was told that may make a row ready.
+        self.changes = 0
+
+    def tell(self) -> None:
+        """Wakes who waits for news: something has changed. The lock is held."""
+        self.changes += 1
+        self.news.notify_all()
+
+    def _end(self, what: str) -> None:
+        """Closes the handle, once, and wakes who waits for news."""
+        super()._end(what)
+        self.news.notify_all()
 
     def ask(self, line: str) -> list[str]:
         """The lines of the reply to one line, as `Library.ask`. Who waits for news is told of all but looks."""
@@ -69,7 +81,7 @@ class Book(Library):
                 lines = super().ask(line)
                 if kept is not None and not lines[0].startswith("refused"):
                     kept(lines[0])
-                self.news.notify_all()
+                self.tell()
                 return lines
         finally:
             self.waiting.discard(get_ident())
@@ -79,9 +91,9 @@ class Book(Library):
         with self.lock:
             return [self.ask(line) for line in lines]
 
-    def settle(self, told: Callable[[], None] | None = None) -> int:
+    def settle(self, goes_on: Callable[[], bool] = lambda: True) -> int:
         """Settles all rows, and gives how many ran."""
-        return super().settle(told) if self.settler is None else self.settler()
+        return super().settle(goes_on) if self.settler is None else self.settler()
 
     def _kept(self, line: str) -> Callable[[str], None] | None:
         """What is to be called once an edit is accepted."""
@@ -95,7 +107,7 @@ class Book(Library):
                 is_given = super()._given(call, key, first, words, count)
                 if kept is not None and is_given:
                     kept("ok")
-                self.news.notify_all()
+                self.tell()
                 return is_given
         finally:
             self.waiting.discard(get_ident())
@@ -131,7 +143,7 @@ class Book(Library):
         """Gives up all orders that are out."""
         with self.lock:
             self._check(*self._call("paris_release"))
-            self.news.notify_all()
+            self.tell()
 
     # What stands on what.
 
@@ -152,7 +164,7 @@ class Book(Library):
         name = key.encode("utf-8", "surrogateescape")
         with self.lock:
             outcome, ran = self._call("paris_settle_for", name, len(name), place, self._told_at)
-            self.news.notify_all()
+            self.tell()
         if outcome in (Outcome.NO_MEMORY, Outcome.PARTLY):
             raise trouble(outcome)
         return ran if outcome == Outcome.OK else None

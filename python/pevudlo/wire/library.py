@@ -109,23 +109,22 @@ class Library:
         """Whether it isn't closed."""
         return self._over is None
 
-    def settle(self, told: Callable[[], None] | None = None) -> int:
-        """Settles all rows, part by part, and gives how many ran. `told` is called behind each part.
+    def settle(self, goes_on: Callable[[], bool] = lambda: True) -> int:
+        """Settles all rows, part by part, and gives how many ran. `goes_on` is asked before each part.
 
         Ctrl-C ends it behind a part: what is settled stays so. Orders that are out are given up.
         """
         self._call("paris_release")
         ran, most = 0, 1
-        while True:
+        while goes_on():
             begun = time.monotonic()
             count = self.run(most)
             ran += count
             if count < most:
-                return ran
+                break
             took = time.monotonic() - begun
             most = min(2 * most, MOST_AT_ONCE) if took < SHORT else max(1, most // 2) if took > LONG else most
-            if told is not None:
-                told()
+        return ran
 
     def run(self, most: int) -> int:
         """Runs so many rows at most that are ready, and gives how many ran."""

@@ -8,7 +8,7 @@ from collections.abc import Callable
 from functools import cache
 from pathlib import Path
 
-from pevudlo.wire.program import NATIVE, ROOT, NotFound, is_program
+from pevudlo.wire.program import NATIVE, ROOT, WHEEL, NotFound, is_program
 
 LIBRARY_VARIABLE = "PARIS_LIBRARY"
 LIBRARY = "libparis.so"
@@ -22,7 +22,7 @@ def library_of_variable(looked: list[str]) -> Path | None:
         return None
     if not Path(named).is_file():
         raise NotFound([f"{LIBRARY_VARIABLE} names {named}, which is no file"], LIBRARY)
-    return Path(named)
+    return Path(named).absolute()
 
 
 def library_of_package(looked: list[str]) -> Path | None:
@@ -60,7 +60,7 @@ def find_library(library: str | os.PathLike[str] | None = None) -> Path:
     if library is not None:
         if not Path(library).is_file():
             raise NotFound([f"{os.fspath(library)} is no file"], LIBRARY)
-        return Path(library)
+        return Path(library).absolute()
     places: tuple[Callable[[list[str]], Path | None], ...] = (
         library_of_variable,
         library_of_package,
@@ -71,7 +71,7 @@ def find_library(library: str | os.PathLike[str] | None = None) -> Path:
         found = place(looked)
         if found is not None:
             return found
-    raise NotFound(looked, LIBRARY)
+    raise NotFound(looked, LIBRARY, WHEEL)
 
 
 def find_library_or_none() -> Path | None:

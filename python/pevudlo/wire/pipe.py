@@ -13,6 +13,7 @@ from __future__ import annotations
 import fcntl
 import os
 import select
+import signal
 import subprocess
 import tempfile
 import threading
@@ -27,6 +28,7 @@ from pevudlo.interrupts import undisturbed
 CHUNK = 1 << 20
 # Seconds that a child has to end once its input is closed.
 PATIENCE = 10.0
+CLOSED = "the program is closed"
 
 
 class PipeError(Exception):
@@ -65,13 +67,17 @@ def widen(pipe: int) -> None:
 
 
 class Pipe:
-    """A running program. Threads may share it: one line is asked at a time."""
+    """A running program. Threads may share it: one line is asked at a time.
+
+    In a child that the process begets by `fork` no call is made: its bytes would go between those of the parent.
+    """
 
     def __init__(self, program: Path, workers: int = 2) -> None:
         self._said: IO[bytes] = tempfile.TemporaryFile()
         # In a session of its own, so Ctrl-C at a terminal reaches whoever holds the pipe, and that one ends the child.
         self._child = subprocess.Popen(
-            [os.fspath(program), "--workers", str(workers)],
+            # A name without a folder would be looked for on the PATH.
+            [os.path.abspath(program), "--workers", str(workers)],
             bufsize=0,
             stdin=subprocess.PIPE,
             stdout=subprocess.PIPE,
@@ -84,24 +90,51 @@ class Pipe:
         widen(self._out)
         self._ears = select.poll()
         self._ears.register(self._out, select.POLLIN)
-        self._lock = threading.Lock()
+        self._lock = threading.RLock()
+        self._home = os.getpid()
         self._rest = bytearray()
         self._over: tuple[type[PipeError], str, int, str] | None = None
-        self._is_owed = False
+        self._is_owed = self._is_in_call = self._is_closing = False
 
     @property
     def process(self) -> int:
         """The child's process id."""
         return self._child.pid
 
+    @property
+    def lock(self) -> threading.RLock:
+        """The lock of the calls. Raises RuntimeError in a child of the process: a thread may hold it there for ever."""
+        if self.is_elsewhere:
+            raise RuntimeError("a talk with the program stays in the process that began it")
+        return self._lock
+
+    @property
+    def is_open(self) -> bool:
+        """Whether the talk isn't over, as far as is known."""
+        return self._over is None
+
+    @property
+    def is_owed(self) -> bool:
+        """Whether the program settles on whose wait Ctrl-C has ended: the next call waits for its end."""
+        return self._is_owed
+
+    @property
+    def is_elsewhere(self) -> bool:
+        """Whether this is a child of the process that began it, in which no call is made."""
+        return os.getpid() != self._home
+
     def settle_line(self) -> list[str]:
         """The reply to `settle`. Ctrl-C ends the wait alone: the program settles on, and the next line waits for it."""
-        with self._lock:
+        with self.lock:
             self._check_open()
-            self._take_owed()
-            with undisturbed():
-                self._begin_settle()
-            return self._take_owed()
+            try:
+                self._is_in_call = True
+                self._take_owed()
+                with undisturbed():
+                    self._begin_settle()
+                return self._take_owed()
+            finally:
+                self._is_in_call = False
 
     def _begin_settle(self) -> None:
         """Asks for a settle, whose reply is owed then."""
@@ -135,18 +168,26 @@ class Pipe:
         """
         if "\n" in line:
             raise ValueError("one line is asked at a time")
-        with self._lock:
+        with self.lock:
             self._check_open()
             if is_comment(line):
                 return []
-            self._take_owed()
             data = line.encode("utf-8", "surrogateescape") + b"\n"
             try:
-                self._write(data)
-                return self._read()
-            except BaseException:
-                self._end()
-                raise
+                self._is_in_call = True
+                self._take_owed()
+                return self._answered(data)
+            finally:
+                self._is_in_call = False
+
+    def _answered(self, data: bytes) -> list[str]:
+        """The reply to one line. Where it is cut short the talk is over."""
+        try:
+            self._write(data)
+            return self._read()
+        except BaseException:
+            self._end()
+            raise
 
     def ask_all(self, lines: Sequence[str]) -> list[list[str]]:
         """The replies to many lines, as by `ask` of one after another. All lines go in one write."""
@@ -154,34 +195,67 @@ class Pipe:
             raise ValueError("each line is one line")
         told = [line for line in lines if not is_comment(line)]
         data = "".join(f"{line}\n" for line in told).encode("utf-8", "surrogateescape")
-        with self._lock:
+        with self.lock:
             self._check_open()
-            self._take_owed()
             try:
-                self._write_all(data)
-                replies = iter([self._read_reply() for _ in told])
-                self._check_rest()
-            except BaseException:
-                self._end()
-                raise
+                self._is_in_call = True
+                self._take_owed()
+                replies = iter(self._all_answered(data, len(told)))
+            finally:
+                self._is_in_call = False
         return [[] if is_comment(line) else next(replies) for line in lines]
 
+    def _all_answered(self, data: bytes, count: int) -> list[list[str]]:
+        """The replies to so many lines. Where one is cut short the talk is over."""
+        try:
+            self._write_all(data)
+            replies = [self._read_reply() for _ in range(count)]
+            self._check_rest()
+            return replies
+        except BaseException:
+            self._end()
+            raise
+
     def close(self) -> int:
-        """Ends the input, waits for the child, and gives its exit status."""
+        """Ends the input, waits for the child, and gives its exit status.
+
+        Where a call is under way, or a settle, the child is killed. A thread that waits for a reply gets Ended.
+        """
+        if self.is_elsewhere:
+            return 0 if self._over is None else self._over[2]
+        is_free = self._lock.acquire(blocking=False)
+        try:
+            if is_free and not self._is_in_call:
+                return self._close()
+            self._is_closing = True
+            self.kill()
+            if is_free:
+                # A handler of signals has come into the call, which finds the child's end behind it.
+                return self._child.wait()
+            with self._lock:
+                return self._close()
+        finally:
+            if is_free:
+                self._lock.release()
+
+    def _close(self) -> int:
+        """Ends the input, waits for the child, and gives its exit status. No call is under way."""
         if self._child.returncode is None:
             assert self._child.stdin is not None
             self._child.stdin.close()
             try:
-                self._child.wait(0.0 if self._lock.locked() or self._is_owed else PATIENCE)
+                self._child.wait(0.0 if self._is_owed else PATIENCE)
             except BaseException as error:
                 self._end()
                 if not isinstance(error, subprocess.TimeoutExpired):
                     raise
-        return self._end("the program is closed")[0]
+        return self._end(CLOSED)[0]
 
     def kill(self) -> None:
-        """Kills the child. A thread that waits for a reply gets Ended."""
-        self._child.kill()
+        """Kills the child, and what it has started. A thread that waits for a reply gets Ended."""
+        if self._child.poll() is None:
+            with suppress(ProcessLookupError):
+                os.killpg(self._child.pid, signal.SIGKILL)
 
     def __enter__(self) -> Pipe:
         return self
@@ -190,7 +264,9 @@ class Pipe:
         self.close()
 
     def _check_open(self) -> None:
-        """Raises what ended the talk, where it is over."""
+        """Raises RuntimeError within a call, as in a handler of signals, and what ended the talk where it is over."""
+        if self._is_in_call:
+            raise RuntimeError("a talk with the program is in one call at a time")
         if self._over is not None:
             kind, what, status, said = self._over
             raise kind(what, status, said)
@@ -288,6 +364,8 @@ class Pipe:
 
     def _stop(self, kind: type[PipeError], what: str) -> NoReturn:
         """Ends the talk with an error."""
+        if self._is_closing:
+            kind, what = Ended, CLOSED
         if kind is Ended:
             try:
                 self._child.wait(1.0)
@@ -299,8 +377,7 @@ class Pipe:
 
     def _end(self, what: str = "the program was stopped") -> tuple[int, str]:
         """Kills the child where it lives, closes all, and gives its exit status and its last line on standard error."""
-        if self._child.poll() is None:
-            self._child.kill()
+        self.kill()
         status = self._child.wait()
         for end in (self._child.stdin, self._child.stdout):
             if end is not None:

@@ -18,12 +18,18 @@ ROOT = PACKAGE.parents[1]
 NATIVE = PACKAGE / "native"
 
 
+WHEEL = (
+    "a wheel has the program and the library: at the top of the repository, `make wheel` and then "
+    "`pip install out/pevudlo-*.whl`"
+)
+
+
 class NotFound(Exception):
     """The program, or the library, isn't there. `looked` says of each place why it gave none."""
 
-    def __init__(self, looked: Iterable[str], name: str = NAME) -> None:
+    def __init__(self, looked: Iterable[str], name: str = NAME, advice: str = "") -> None:
         self.looked = tuple(looked)
-        super().__init__(f"{name} was not found: " + "; ".join(self.looked))
+        super().__init__(f"{name} was not found: " + "; ".join(self.looked) + (f". {advice}" if advice else ""))
 
 
 def is_program(path: Path) -> bool:
@@ -39,7 +45,7 @@ def by_variable(looked: list[str]) -> Path | None:
         return None
     if not is_program(Path(named)):
         raise NotFound([f"{VARIABLE} names {named}, which is no program"])
-    return Path(named)
+    return Path(named).absolute()
 
 
 def by_package(looked: list[str]) -> Path | None:
@@ -76,22 +82,23 @@ def by_path(looked: list[str]) -> Path | None:
     if found is None:
         looked.append("the PATH has none of that name")
         return None
-    return Path(found)
+    return Path(found).absolute()
 
 
 def find(program: str | os.PathLike[str] | None = None) -> Path:
     """The program that is named, or of the variable PARIS_FRONT, of this package, of the repository, or of the PATH.
 
+    A path without a folder, or from the present folder on, is that of a file there: it isn't looked for on the PATH.
     Raises NotFound where none of these is there, or where the one that is named isn't.
     """
     if program is not None:
         if not is_program(Path(program)):
             raise NotFound([f"{os.fspath(program)} is no program"])
-        return Path(program)
+        return Path(program).absolute()
     places: tuple[Callable[[list[str]], Path | None], ...] = (by_variable, by_package, by_repository, by_path)
     looked: list[str] = []
     for place in places:
         found = place(looked)
         if found is not None:
             return found
-    raise NotFound(looked)
+    raise NotFound(looked, advice=WHEEL)
