@@ -229,6 +229,14 @@ def test_what_cannot_be_done_on_such_a_page(session: FollowedSession) -> None:
         session.run("delete 1")
 
 
+def test_rows_that_are_taken_out_or_replaced_further_down(session: FollowedSession) -> None:
+    session.take(TEXT + "delete 1\nreplace 2 u-max-3-1L c a b 8\n")
+    lines: Any = session.values(0, 99)["lines"]
+    assert lines[5] == ["gone", "-", "taken out by line 10"] and lines[7] == ["gone", "-", "replaced by line 11"]
+    assert lines[9] == ["gone", "-", "takes out the row of line 6"]
+    assert lines[8] == ["look", "→", "c 1 2 3 4"] and lines[10] == ["new", "▶", "c 1 2 3 4"]
+
+
 def test_a_program_that_is_killed_is_begun_anew(over_program: FollowedSession, path: Path) -> None:
     session = over_program
     os.kill(session.process, signal.SIGKILL)

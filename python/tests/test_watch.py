@@ -20,8 +20,9 @@ from random_editor import Fresh, numbers_of
 from terminals import Terminal
 
 from pevudlo.document import watched
+from pevudlo.document.answers import mark_of
 from pevudlo.document.document import Document
-from pevudlo.document.marks import mark_of, short
+from pevudlo.document.marks import short
 from pevudlo.document.plain import MOST_TOLD, Plain
 from pevudlo.document.states import State
 from pevudlo.document.update import Update
@@ -290,6 +291,36 @@ def test_what_is_told_in_lines() -> None:
     assert fourth == ["0 of 2 rows ran again; 1 line is refused"]
 
 
+GONE = TEXT + "delete 1\nreplace 2 u-max-3-1L c a b 8\n"
+"""The first row is taken out further down, and the second one is replaced: `c` is the greater one of `a` and 0."""
+
+
+def test_rows_that_are_taken_out_or_replaced_are_told_in_lines() -> None:
+    first, second, third = told_of([GONE, GONE.replace("delete 1\n", ""), GONE])
+    assert first == [
+        "a new book (the first text): 1 of 1 row ran",
+        "  6: u-add-3-1L b a a 8: taken out by line 9",
+        "  7: u-add-3-1L c b b 8: replaced by line 10",
+        "  8: show c end: c 1 2 3 4",
+        "  10: replace 2 u-max-3-1L c a b 8: c 1 2 3 4",
+    ]
+    # What is gone is told of once. Where it is gone anew it is told of anew.
+    assert second[1:] == [
+        "  6: u-add-3-1L b a a 8: b 2 4 6 8  carry 0000  overflow 0000",
+        "  8: show c end: c 2 4 6 8",
+        "  9: replace 2 u-max-3-1L c a b 8: c 2* 4* 6* 8*",
+    ]
+    assert third[1:3] == ["  6: u-add-3-1L b a a 8: taken out by line 9", "  8: show c end: c 1 2 3 4"]
+
+
+def test_each_of_two_lines_that_are_gone_is_told_of() -> None:
+    twice = HEAD + ADD + ADD
+    assert told_of([twice, twice + "delete 1\n", twice + "delete 1\ndelete 2\n"])[2] == [
+        "0 of 0 rows ran again",
+        "  7: u-add-3-1L b a a 8: taken out by line 9",
+    ]
+
+
 def test_it_tells_what_the_document_says() -> None:
     document = (ROOT / "docs/PEOPLE.md").read_text(encoding="utf-8").split("\n## watch\n")[1]
     text, first, rest = re.findall(r"^```\n(.*?)^```$", document, re.S | re.M)
@@ -391,6 +422,18 @@ def test_a_file_on_a_terminal(path: Path, tmp_path: Path) -> None:
         assert " sum.paris: the file isn't there; what" in third and "b 2 4 6 10*" in third
         fcntl.ioctl(terminal.end, termios.TIOCSWINSZ, struct.pack("HHHH", 20, 60, 0, 0))
         assert "b 2 4 6 10*" in terminal.until("▶ new values, * other than before, = touched, with the sam…")
+        terminal.press("q")
+        assert terminal.wait() == 0
+
+
+def test_rows_that_are_taken_out_or_replaced_on_a_terminal(path: Path, tmp_path: Path) -> None:
+    path.write_text(GONE)
+    with Terminal(tmp_path, str(path), command="watch", is_quiet=False, columns=120) as terminal:
+        first = terminal.until("q ends")
+        assert "- u-add-3-1L b a a 8           taken out by line 9" in first
+        assert "- u-add-3-1L c b b 8           replaced by line 10" in first
+        assert "- delete 1                     takes out the row of line 6" in first
+        assert "▶ replace 2 u-max-3-1L c a b 8 c 1 2 3 4" in first
         terminal.press("q")
         assert terminal.wait() == 0
 

@@ -1,4 +1,4 @@
-"""What stands beside a line: short values, the state, the refusal. For terminals and editors."""
+"""What stands beside lines in few letters: values, a refusal, and what an update did. For terminals and editors."""
 
 from __future__ import annotations
 
@@ -6,7 +6,6 @@ from collections.abc import Sequence
 
 from pevudlo.document.document import Document
 from pevudlo.document.meaning import FileRow
-from pevudlo.document.pieces import Kind
 from pevudlo.document.states import Mark, State
 from pevudlo.document.update import Update
 from pevudlo.draw.arrays import differing, extent
@@ -39,23 +38,8 @@ def short(numbers: Sequence[int], before: Numbers | None, width: int, most: int 
     return f"{' '.join(words)} … {len(numbers):,} from {least} to {greatest}{more}"
 
 
-def mark_of(document: Document, number: int, done: Update, most: int = MOST) -> Mark:
-    """What stands beside the line of an index behind an update. Rows are looked at again that it touched."""
-    shown = document.shown[number]
-    if shown.refused:
-        return Mark(State.REFUSED, refusal_text(document, number))
-    if shown.row is not None:
-        return row_mark(document, shown.row, done, most)
-    if shown.kind is Kind.SHOW:
-        width = width_of(document.book.board, shown.key)
-        return Mark(State.LOOK, f"{shown.key} {short(document.look(number), None, width, most)}")
-    if shown.kind is Kind.TIME:
-        return Mark(State.PASSED, "rows run by themselves here")
-    return Mark(State.NONE, "")
-
-
 def refusal_text(document: Document, number: int) -> str:
-    """Why a line is refused, with a hint, and what stays where it is held."""
+    """Why a line is refused, with a hint, and what stays where it is held: the words of all views that are narrow."""
     told = document.explanation(number)
     assert told is not None
     return "; ".join(

@@ -6,9 +6,10 @@ import threading
 from collections.abc import Sequence
 from pathlib import Path
 
+from pevudlo.document.answers import mark_of
 from pevudlo.document.document import Document
 from pevudlo.document.edits import edited
-from pevudlo.document.marks import headline, mark_of
+from pevudlo.document.marks import headline
 from pevudlo.document.pieces import Kind, first_command, piece_of
 from pevudlo.document.update import Update
 from pevudlo.document.watched import PERIOD, Watched

@@ -6,8 +6,9 @@ import re
 from collections.abc import Iterator
 from typing import Any, NamedTuple
 
+from pevudlo.document.answers import line_name, words_of
 from pevudlo.document.document import Document
-from pevudlo.document.pieces import Kind
+from pevudlo.document.lines import FormerRow, PassedOver, line_at
 from pevudlo.hints.explanation import Explanation
 from pevudlo.lang.replies import Cause
 from pevudlo.lsp.opened import Opened
@@ -45,12 +46,22 @@ def diagnostics(file: Opened, tells_pale: bool) -> list[dict[str, Any]]:
             found.append(refusal(document, number))
         elif is_wrong:
             found.append(told_of(number, lines[number], WARNING, fault_words(document, number)))
-        elif tells_pale and shown.kind is Kind.TIME and len(found) < MOST_TOLD:
-            said = told_of(number, lines[number], HINT, "rows run by themselves here, so this line is passed over")
-            found.append({**said, "tags": [UNNECESSARY]})
+        elif tells_pale and (words := pale_words(document, number)) and len(found) < MOST_TOLD:
+            found.append({**told_of(number, lines[number], HINT, words), "tags": [UNNECESSARY]})
     if more:
         found.append(told_of(len(lines) - 1, lines[-1], ERROR, f"{more:,} more lines are wrong"))
     return found
+
+
+def pale_words(document: Document, number: int) -> str:
+    """Why a line does nothing in the present program, though it is right; else nothing."""
+    match line_at(document, number):
+        case FormerRow() as line:
+            return f"this row is {words_of(line, line_name)}"
+        case PassedOver() as line:
+            return f"{words_of(line, line_name)}, so this line is passed over"
+        case _:
+            return ""
 
 
 def told_of(number: int, line: str, severity: int, words: str) -> dict[str, Any]:

@@ -4,7 +4,8 @@ from __future__ import annotations
 
 from typing import Any
 
-from pevudlo.document.origins import input_lines, lines_of_rows, place_before, writer
+from pevudlo.document.answers import instruction_at, sources_of
+from pevudlo.document.lines import RowTaker, line_at
 from pevudlo.lang.grammar import is_name
 from pevudlo.lsp.failures import INVALID_PARAMS, Failed
 from pevudlo.lsp.opened import Opened
@@ -27,16 +28,19 @@ def declaration(file: Opened, params: dict[str, Any]) -> list[Location]:
 
 
 def definition(file: Opened, params: dict[str, Any]) -> list[Location]:
-    """The row that the value under the cursor comes from; at the start its input data, or its declaration."""
+    """The row that the value under the cursor comes from; at the start its input data, or its declaration. Of a line
+    that takes out a row it is that row's line.
+    """
     place, document = place_of(file, params), file.document
-    if place.number >= len(document.lines) or not name_at(place) or document.book.board.set_of(place.word) is None:
+    if place.number >= len(document.lines):
+        return []
+    line = line_at(document, place.number)
+    if isinstance(line, RowTaker):
+        return [location(file, line.of)]
+    if not name_at(place) or document.book.board.set_of(place.word) is None:
         return declaration(file, params)
-    row = writer(document, place.word, place_before(document, place.number))
-    number = None if row is None else lines_of_rows(document).get(row)
-    if number is not None:
-        return [location(file, number)]
-    given = [location(file, each) for each in input_lines(document, place.word) if each != place.number]
-    return given or declaration(file, params)
+    found = [location(file, each) for each in sources_of(document, place.number, place.word) if each != place.number]
+    return found or declaration(file, params)
 
 
 def references(file: Opened, params: dict[str, Any]) -> list[Location]:
@@ -56,8 +60,8 @@ def highlights(file: Opened, params: dict[str, Any]) -> list[dict[str, Any]]:
     found = []
     for number, spot in all_spots(file.document):
         if spot.name == name:
-            row = file.document.shown[number].row
-            is_written = spot.is_declared_here or (row is not None and name in board.keys_written(row.text))
+            text = instruction_at(file.document, number)
+            is_written = spot.is_declared_here or (text and name in board.keys_written(text))
             where = span(number, file.document.lines[number], spot.start, spot.end)
             found.append({"range": where, "kind": WRITE if is_written else READ})
     return found
