@@ -39,6 +39,7 @@ class RandomEditor:
         self.lines = list(HEAD)
         for _ in range(self.random.randint(*((10, 35) if names_rows else (0, 25)))):
             self.lines.append(self.line())
+        self.lines += ["show c end"] * names_rows
 
     def line(self) -> str:
         """A line. Of every second editor none names a row."""
@@ -59,7 +60,7 @@ class RandomEditor:
         lines += [f"show {self.made.key()} after {row}", *[f"show {self.made.key()} end"] * 2]
         lines += [f"insert start {instruction}", *[instruction] * 3]
         line = chance.choice(lines)
-        at = chance.choice((len(line), len(line)))
+        at = chance.choice((chance.randrange(len(line)), len(line)))
         return f"{line[:at]}\r{line[at:]}" if chance.random() < 0.05 else line
 
     def declaration(self) -> str:

@@ -43,7 +43,7 @@ def main(words: list[str]) -> int:
     try:
         with Server(sys.stdin.fileno(), send, lambda: peer_of(said.workers, is_large=True)) as server:
             return server.serve()
-    except KeyboardInterrupt:
+    except (KeyboardInterrupt, BrokenPipeError):
         return 1
     except NoFrame as error:
         print(f"paris lsp: {error}; an editor starts it, and talks with it", file=sys.stderr)

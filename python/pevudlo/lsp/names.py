@@ -9,7 +9,6 @@ from pevudlo.document.lines import RowTaker, line_at
 from pevudlo.lang.grammar import is_name
 from pevudlo.lsp.failures import INVALID_PARAMS, Failed
 from pevudlo.lsp.opened import Opened
-from pevudlo.lsp.positions import Range, span
 from pevudlo.lsp.spots import all_spots, declaration_of, name_at, place_of
 
 Location = dict[str, Any]
@@ -18,7 +17,7 @@ TEXT, READ, WRITE = 1, 2, 3
 
 def location(file: Opened, number: int, start: int = 0, end: int | None = None) -> Location:
     """A part of a line of the file."""
-    return {"uri": file.uri, "range": span(number, file.line(number), start, end)}
+    return {"uri": file.uri, "range": file.span(number, start, end)}
 
 
 def declaration(file: Opened, params: dict[str, Any]) -> list[Location]:
@@ -62,7 +61,7 @@ def highlights(file: Opened, params: dict[str, Any]) -> list[dict[str, Any]]:
         if spot.name == name:
             text = instruction_at(file.document, number)
             is_written = spot.is_declared_here or (text and name in board.keys_written(text))
-            where = span(number, file.document.lines[number], spot.start, spot.end)
+            where = file.span(number, spot.start, spot.end)
             found.append({"range": where, "kind": WRITE if is_written else READ})
     return found
 
@@ -73,8 +72,7 @@ def prepare_rename(file: Opened, params: dict[str, Any]) -> dict[str, Any] | Non
     name = name_at(place)
     if declaration_of(file.document, name) is None:
         return None
-    where: Range = span(place.number, place.line, place.start, place.start + len(name))
-    return {"range": where, "placeholder": name}
+    return {"range": file.span(place.number, place.start, place.start + len(name)), "placeholder": name}
 
 
 def rename(file: Opened, params: dict[str, Any]) -> dict[str, Any]:
@@ -88,7 +86,7 @@ def rename(file: Opened, params: dict[str, Any]) -> dict[str, Any]:
     if new != old and (new in board.fields or new in board.sets):
         raise Failed(INVALID_PARAMS, f"`{new}` is declared already")
     edits = [
-        {"range": span(number, file.document.lines[number], spot.start, spot.end), "newText": new}
+        {"range": file.span(number, spot.start, spot.end), "newText": new}
         for number, spot in all_spots(file.document)
         if spot.name == old
     ]

@@ -16,7 +16,6 @@ from pevudlo.draw.grids import Grid, shape_text, text_of
 from pevudlo.lang.instructions import INSTRUCTIONS, read
 from pevudlo.lang.keys import axes_of, context_of, width_of
 from pevudlo.lsp.opened import Opened
-from pevudlo.lsp.positions import span, units
 from pevudlo.lsp.spots import Place, name_at, place_of
 from pevudlo.record.earlier import Numbers
 from pevudlo.reference.entry import Entry
@@ -35,12 +34,11 @@ STORES_NOTHING = "! it stores nothing"
 
 def hints(file: Opened, params: dict[str, Any]) -> list[dict[str, Any]]:
     """The short values of the lines of a range."""
-    first, last = params["range"]["start"]["line"], params["range"]["end"]["line"]
     found: list[dict[str, Any]] = []
-    for number in range(first, min(last + 1, len(file.document.lines))):
+    for number in file.range_of(params["range"]):
         text = hint(file, number) if len(found) < MOST_LINES else ""
         if text:
-            place = {"line": number, "character": units(file.document.lines[number])}
+            place = file.position(number, len(file.document.lines[number]))
             found.append({"position": place, "label": text, "paddingLeft": True})
     return found
 
@@ -71,7 +69,7 @@ def hover(file: Opened, params: dict[str, Any], is_marked: bool) -> dict[str, An
         return None
     texts = [marked(part) if is_marked else f"{part.words}\n{part.block}".rstrip() for part in parts]
     contents = {"kind": "markdown" if is_marked else "plaintext", "value": "\n\n".join(texts)}
-    return {"contents": contents, "range": span(place.number, place.line, place.start, place.end)}
+    return {"contents": contents, "range": file.span(place.number, place.start, place.end)}
 
 
 def marked(part: Part) -> str:
