@@ -34,7 +34,7 @@ def send(data: bytes) -> None:
 def main(words: list[str]) -> int:
     """Serves until the editor ends it.
 
-    The exit status is 0 where it was shut down before, 1 where not, and 2 where words are wrong or no message comes.
+    The exit status is 0 where it was shut down before, 1 where not, and 2 where words are wrong or no frame comes.
     """
     said = arguments().parse_args(words)
     signal.signal(signal.SIGTERM, signal.default_int_handler)
