@@ -57,7 +57,7 @@ def test_places_of_rows() -> None:
         assert lines_of_rows(document) == {one: 3, two: 5} and input_lines(document, "a") == [2, 6]
         assert (row_before(document, one), row_before(document, two)) == (None, one)
         assert [row_above(document, at) for at in (3, 4, 6)] == [None, one, two]
-        assert [place_read(document, at).last for at in (2, 3, 4, 5, 6, 8, 9)] == [
+        assert [place_read(document, at) for at in (2, 3, 4, 5, 6, 8, 9)] == [
             None,
             None,
             one,

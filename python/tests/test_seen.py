@@ -27,7 +27,8 @@ from pevudlo.draw.grids import Grid, text_of
 from pevudlo.draw.visible import visible
 from pevudlo.lang.instructions import FLAGS
 from pevudlo.live.followed import FollowedSession
-from pevudlo.lsp import names, values
+from pevudlo.lsp import completion, names, outline, values
+from pevudlo.lsp.diagnostics import ERROR, HINT, WARNING, actions, diagnostics
 from pevudlo.lsp.opened import Opened
 from pevudlo.lsp.positions import paired
 from pevudlo.notebook.pieces import Pieces
@@ -36,7 +37,7 @@ from pevudlo.wire.peers import Peer
 from pevudlo.wire.pipe import Pipe
 from pevudlo.wire.program import ROOT, find
 
-TEXTS = int(os.environ.get("PEVUDLO_SEEN_TEXTS", "200"))
+TEXTS = int(os.environ.get("PEVUDLO_SEEN_TEXTS", "150"))
 """How many texts with rows taken out are looked at."""
 
 TEXTS_EACH = 10
@@ -72,12 +73,19 @@ class Views:
         self.session.close()
 
     def type(self, lines: Sequence[str]) -> None:
-        """The text is typed, so that rows may be held. All of it can be asked."""
+        """The text is typed, so that rows may be held. All of it can be asked, in each view."""
         self.opened.change([{"text": text_of_lines(lines)}], 2)
         self.opened.renew()
-        for at, _, character in places(lines):
-            ask(self.opened, at, character)
+        for _, _, place in places(lines):
+            ask(self.opened, place)
         values.hints(self.opened, everywhere())
+        diagnostics(self.opened, True)
+        with redirect_stdout(io.StringIO()):
+            self.screen.show(self.opened.done)
+        self.plain.show(self.opened.done)
+        self.session.take(text_of_lines(lines), hold=True)
+        told: Any = self.session.values(0, 9_999)
+        assert len(told["lines"]) == len(lines)
 
     def check(self, lines: Sequence[str], chance: Random) -> Reading:
         """The text is saved. Fails where a view says something else than a fresh run."""
@@ -89,6 +97,7 @@ class Views:
         check_screen(self, reading)
         check_plain(self, reading)
         check_hints(self, reading)
+        check_diagnostics(self, reading)
         check_cursor(self, reading)
         check_page(self, reading)
         check_cells(self, reading, chance)
@@ -171,13 +180,18 @@ def places(lines: Sequence[str]) -> Iterator[tuple[int, str, dict[str, int]]]:
         at += len(line) + 1
 
 
-def ask(opened: Opened, at: int, place: dict[str, int]) -> tuple[str, list[int]]:
+def ask(opened: Opened, place: dict[str, int]) -> tuple[str, list[int]]:
     """What is said where the cursor is, and the lines of the definition."""
     about = {"textDocument": {"uri": opened.uri}, "position": place}
     said, found = values.hover(opened, about, False), names.definition(opened, about)
-    names.declaration(opened, about)
-    names.highlights(opened, about)
     return said["contents"]["value"] if said else "", [each["range"]["start"]["line"] for each in found]
+
+
+def ask_more(opened: Opened, place: dict[str, int]) -> None:
+    """What else can be asked where the cursor is, is answered."""
+    about = {"textDocument": {"uri": opened.uri}, "position": place}
+    for asked in (names.declaration, names.references, names.highlights, names.prepare_rename, completion.completion):
+        asked(opened, about)
 
 
 def check_hints(views: Views, reading: Reading) -> None:
@@ -201,26 +215,55 @@ def check_hints(views: Views, reading: Reading) -> None:
     assert hints == {}
 
 
-def check_cursor(views: Views, reading: Reading) -> None:
-    """What is said of each word of each line, and where its definition is."""
+def check_diagnostics(views: Views, reading: Reading) -> None:
+    """What is told of lines: that they are refused, store nothing, or do nothing in the present program."""
     firsts = [row for row, _ in positions(reading.lines)]
+    told: dict[int, list[tuple[int, str]]] = {}
+    for each in diagnostics(views.opened, True):
+        at = bisect_right(firsts, each["range"]["start"]["line"]) - 1
+        told.setdefault(at, []).append((each["severity"], each["message"]))
+        if each["severity"] == ERROR:
+            assert each["code"] == int(reading.fresh.refused[at].split(" ")[1])
+    for at, wanted in enumerate(reading.wanted):
+        severity = {"✗": ERROR, "!": WARNING, "·": HINT}.get(wanted.sign, HINT if wanted.gone else 0)
+        assert [each for each, _ in told.pop(at, [])] == ([severity] if severity else []), at
+    assert told == {}
+    actions(views.opened, everywhere() | {"context": {"diagnostics": []}})
+    outline.symbols(views.opened)
+    outline.folds(views.opened)
+    outline.tokens(views.opened)
+
+
+def check_cursor(views: Views, reading: Reading) -> None:
+    """What is said of each word of each line, and where its definition is.
+
+    Of a refused line the same is said of all words but keys.
+    """
+    last = -1
     for at, word, place in places(reading.lines):
-        said, lines = ask(views.opened, at, place)
-        wanted, is_wrong = reading.wanted[at], reading.is_refused(at) if reading.lines[at] else False
-        if wanted.sign == "-":
-            assert said.split("\n")[0] == wanted.words, (at, said)
-        if word not in reading.fresh.keys or reading.lines[at].startswith("#") or (is_wrong and word not in said):
-            continue
-        if is_wrong and f"`{word}`: " not in said:
-            # Only in lines that are in the grammar it is known what words name.
-            continue
-        row = reading.wanted[at].row
-        check_values(reading, word, wanted.place, said, f"`{word}`: ")
-        if row is not None and word in reading.written(row) and row not in reading.faults:
-            check_values(reading, word, row, said, f"`{word}` behind this row")
-        found = [each for each in reading.sources(at, word) if each != at]
-        declared = [reading.declared[word.partition(".")[0]]]
-        assert lines == [firsts[each] for each in found or declared], (at, word, lines)
+        is_first, last = at != last, at
+        is_key = word in reading.fresh.keys and not reading.lines[at].startswith("#")
+        if is_first:
+            ask_more(views.opened, place)
+        if is_first or is_key or not reading.is_refused(at):
+            said, lines = ask(views.opened, place)
+            if reading.wanted[at].sign == "-":
+                assert said.split("\n")[0] == reading.wanted[at].words, (at, said)
+            # Only of lines that are in the grammar it is known what words name.
+            if is_key and (not reading.is_refused(at) or f"`{word}`: " in said):
+                check_key(reading, at, word, said, lines)
+
+
+def check_key(reading: Reading, at: int, key: str, said: str, lines: list[int]) -> None:
+    """What is said of a key in a line, and where its value comes from."""
+    firsts = [row for row, _ in positions(reading.lines)]
+    row = reading.wanted[at].row
+    check_values(reading, key, reading.wanted[at].place, said, f"`{key}`: ")
+    if row is not None and key in reading.written(row) and row not in reading.faults:
+        check_values(reading, key, row, said, f"`{key}` behind this row")
+    found = [each for each in reading.sources(at, key) if each != at]
+    declared = [reading.declared[key.partition(".")[0]]]
+    assert lines == [firsts[each] for each in found or declared], (at, key, lines)
 
 
 def check_values(reading: Reading, key: str, place: int, said: str, head: str) -> None:
@@ -312,7 +355,7 @@ def test_all_that_is_seen_of_random_texts(seed: int, tmp_path: Path, request: py
         without = 0 if reading.has_taken_out else without + 1
         editor.edit()
     views.close()
-    assert all(signs[sign] > TEXTS_EACH for sign in ("▶=", "-", "✗", "")) and signs["→"], signs
+    assert all(signs[sign] for sign in ("▶=", "-", "✗", "→", "")), signs
 
 
 ADD, MAX = "u-add-3-1L a a a 8\n", "u-max-3-1L a a a 8\n"

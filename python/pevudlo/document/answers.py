@@ -7,7 +7,6 @@ it names are read, what it gives, and from which lines a value comes.
 from __future__ import annotations
 
 from collections.abc import Callable, Mapping
-from dataclasses import dataclass
 from typing import assert_never
 
 from pevudlo.document.document import Document
@@ -36,13 +35,6 @@ BY_THEMSELVES = "rows run by themselves here"
 
 Naming = Callable[[int], str]
 """How a line is named by its index: views that cut a text into parts name it another way."""
-
-
-@dataclass(frozen=True)
-class Place:
-    """A place of the program, at which keys are looked at: behind a row, None for the start."""
-
-    last: FileRow | None
 
 
 def line_name(number: int) -> str:
@@ -92,18 +84,21 @@ def words_of(line: Line, named: Naming) -> str:
     assert_never(line)
 
 
-def place_read(document: Document, number: int) -> Place:
-    """Where the keys are read that the line of an index names. A refused line reads what stands above it."""
+def place_read(document: Document, number: int) -> FileRow | None:
+    """The row behind which the keys are read that the line of an index names, None for the start.
+
+    A refused line reads what stands above it.
+    """
     line = line_at(document, number)
     match line:
         case LivingRow(row) | RefusedLine(FileRow() as row):
-            return Place(row_before(document, row))
+            return row_before(document, row)
         case FormerRow(anchor=anchor) | Look(anchor=anchor):
-            return Place(anchor)
+            return anchor
         case InputData() | Declaration():
-            return Place(None)
+            return None
         case RefusedLine() | RowTaker() | PassedOver() | Comment():
-            return Place(row_above(document, number))
+            return row_above(document, number)
     assert_never(line)
 
 
@@ -144,7 +139,7 @@ def sources_of(document: Document, number: int, key: str) -> list[int]:
 
     There is none where the key is as it was declared.
     """
-    row = writer(document, key, place_read(document, number).last)
+    row = writer(document, key, place_read(document, number))
     if row is not None:
         return [lines_of_rows(document)[row]]
     return input_lines(document, key)

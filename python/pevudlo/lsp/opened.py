@@ -7,7 +7,7 @@ from typing import Any
 
 from pevudlo.document.document import Document
 from pevudlo.document.update import Update
-from pevudlo.lsp.positions import Place, Position, Range, laid_out
+from pevudlo.lsp.positions import Letter, Position, Range, laid_out
 from pevudlo.progress import PROGRESS, Progress
 from pevudlo.wire.peers import Peer
 
@@ -56,7 +56,7 @@ class Opened:
 
     # Positions in the text, which are also those of the document once it is in step.
 
-    def place(self, position: Position) -> Place:
+    def place(self, position: Position) -> Letter:
         """The letter at a position."""
         return self._layout.place(position)
 

@@ -9,7 +9,7 @@ from typing import Any
 
 Position = dict[str, int]
 Range = dict[str, Position]
-Place = tuple[int, int]
+Letter = tuple[int, int]
 """A line of a script, and a letter in it."""
 
 PAIR = 0xFFFF
@@ -77,7 +77,7 @@ class Layout:
         stop = len(self.lines[number]) if end is None else end
         return {"start": self.position(number, start), "end": self.position(number, stop)}
 
-    def place(self, position: Position) -> Place:
+    def place(self, position: Position) -> Letter:
         """The letter at a position. One behind its line is at the line's end, and one behind the text at its end."""
         row = position["line"]
         number = row if self._above is None else bisect_right(self._above, row) - 1

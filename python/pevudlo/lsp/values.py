@@ -108,7 +108,7 @@ def of_key(document: Document, number: int, key: str) -> Iterator[Part]:
     """The values of a key at a line: what is read there, where it comes from, and what the row leaves."""
     board, row = document.book.board, row_at(document, number)
     head = f"`{key}`: {bits_text(width_of(board, key))} in `{board.set_of(key)}`"
-    last = place_read(document, number).last
+    last = place_read(document, number)
     is_start = document.shown[number].kind in (Kind.FIELD, Kind.INPUT)
     origin = "at the start" if is_start else came_from(document, key, last)
     yield Part(f"{head}, {origin}", grid(document, key, document.book.look(key, last)))
