@@ -26,21 +26,42 @@ MOST_LINES = 60
 
 
 class RandomEditor:
-    """Makes texts, each of them the one before with some lines changed. All are determined by a seed."""
+    """Makes texts, each of them the one before with some lines changed. All are determined by a seed.
 
-    def __init__(self, seed: int) -> None:
+    One that `names_rows` has more lines that do, most of them rows that are there, and lines with carriage returns.
+    """
+
+    def __init__(self, seed: int, names_rows: bool = False) -> None:
         self.made = RandomLines(seed)
         self.random = self.made.random
-        self.is_straight = seed % 2 == 0
-        self.lines = HEAD + [self.line() for _ in range(self.random.randint(0, 25))]
+        self.names_rows = names_rows
+        self.is_straight = seed % 2 == 0 and not names_rows
+        self.lines = list(HEAD)
+        for _ in range(self.random.randint(*((10, 35) if names_rows else (0, 25)))):
+            self.lines.append(self.line())
+        self.lines += ["show c end"] * names_rows
 
     def line(self) -> str:
         """A line. Of every second editor none names a row."""
+        if self.names_rows and self.random.random() < 0.4:
+            return self.of_a_row()
         if self.random.random() < 0.5:
             return self.random.choice(("insert end ", "")) + self.made.instruction()
         while NAMING.match(line := self.made.command()) and self.is_straight:
             pass
         return line
+
+    def of_a_row(self) -> str:
+        """A line that names a row, which is there most often; sometimes one with a carriage return."""
+        chance = self.random
+        row = chance.randint(1, max(1, sum(told(line).startswith("insert ") for line in self.lines)))
+        instruction = f"u-{chance.choice(('add', 'max', 'subtract'))}-3-1L {' '.join(chance.choices('abc', k=3))} 8"
+        lines = [f"delete {row}", f"delete {row}", f"replace {row} {instruction}", f"insert after {row} {instruction}"]
+        lines += [f"show {self.made.key()} after {row}", *[f"show {self.made.key()} end"] * 2]
+        lines += [f"insert start {instruction}", *[instruction] * 3]
+        line = chance.choice(lines)
+        at = chance.choice((chance.randrange(len(line)), len(line)))
+        return f"{line[:at]}\r{line[at:]}" if chance.random() < 0.05 else line
 
     def declaration(self) -> str:
         """A set or a field, perhaps of a name that is taken."""
@@ -170,7 +191,8 @@ def compare_looks(document: Document, lines: Sequence[str], fresh: Fresh, theirs
         if is_taken and line.startswith("show "):
             _, key, place = line.split(" ", 2)
             behind = place if place != "end" else f"after {fresh.rows[above - 1][0]}" if above else "start"
-            assert list(document.look(at)) == numbers_of(theirs[f"show {key} {behind}"]), "a look"
+            seen = document.book.look(key, document.shown[at].anchor)
+            assert list(seen) == numbers_of(theirs[f"show {key} {behind}"]), "a look"
             count += 1
     return count
 

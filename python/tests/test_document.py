@@ -149,7 +149,7 @@ WRONG = (
     ("book", '            self._tell(f"delete {row.book}", Ok, done)\n', "", ("a row that goes",)),
     ("document", "if not piece.names <= known:", "if False:", ("a field above its set",)),
     ("meaning", "rest[at] = each._replace(anchor=last)", "pass", ("a look below a new row",)),
-    ("meaning", "if self._alive < len(order):", "if False:", ("a look behind a row that goes",)),
+    ("meaning", "if self._former:", "if False:", ("a look behind a row that goes",)),
     ("book", "        self._inputs = wanted\n", "", ("input that is taken out",)),
     ("document", "if header_of(lines) != header_of(self.meaning.lines):", "if False:", ("a profile",)),
     ("book", "[profile_line(self.board.profile), *accepted]", "accepted", ("a profile that is late",)),

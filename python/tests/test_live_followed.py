@@ -10,7 +10,7 @@ import sys
 import threading
 import time
 import urllib.request
-from collections.abc import Iterator
+from collections.abc import Callable, Iterator
 from pathlib import Path
 from random import Random
 from typing import Any
@@ -23,9 +23,11 @@ from selenium.webdriver.common.keys import Keys
 from selenium.webdriver.remote.webdriver import WebDriver
 from terminals import children_of
 from test_live_http import asked, page
+from test_watch import OTHERS, put_away
 from usages import is_usage_of
 
 from pevudlo.document import watched
+from pevudlo.files import read_opened
 from pevudlo.lang.replies import Status
 from pevudlo.live import command
 from pevudlo.live.followed import BY_THEMSELVES, FollowedSession, OtherText
@@ -229,6 +231,14 @@ def test_what_cannot_be_done_on_such_a_page(session: FollowedSession) -> None:
         session.run("delete 1")
 
 
+def test_rows_that_are_taken_out_or_replaced_further_down(session: FollowedSession) -> None:
+    session.take(TEXT + "delete 1\nreplace 2 u-max-3-1L c a b 8\n")
+    lines: Any = session.values(0, 99)["lines"]
+    assert lines[5] == ["gone", "-", "taken out by line 10"] and lines[7] == ["gone", "-", "replaced by line 11"]
+    assert lines[9] == ["gone", "-", "takes out the row of line 6"]
+    assert lines[8] == ["look", "→", "c 1 2 3 4"] and lines[10] == ["new", "▶", "c 1 2 3 4"]
+
+
 def test_a_program_that_is_killed_is_begun_anew(over_program: FollowedSession, path: Path) -> None:
     session = over_program
     os.kill(session.process, signal.SIGKILL)
@@ -265,17 +275,77 @@ def test_a_file_that_is_away_is_told(session: FollowedSession, path: Path, monke
     monkeypatch.setattr(watched, "AWAY", 0.0)
     path.unlink()
     version = session.version
-    for _ in range(2):
+    for _ in range(3):
         session.look()
         time.sleep(0.01)
-    assert session.version == version + 1 and str(session.values(0, 9)["head"]).endswith("this is its last text")
+    away = "; the file isn't there, and this is its last text"
+    assert session.version == version + 1 and str(session.values(0, 9)["head"]).endswith(away)
     path.write_text(TEXT)
     session.look()
     assert session.values(0, 9)["head"] == "a new book (the first text): 2 of 2 rows ran"
 
 
+@pytest.mark.parametrize("other", OTHERS)
+def test_what_is_no_file_is_told_and_never_waited_for(
+    other: str, served: Server, path: Path, monkeypatch: pytest.MonkeyPatch
+) -> None:
+    """The page answers meanwhile. What is typed isn't written into it. The right file is followed again."""
+    monkeypatch.setattr(watched, "AWAY", 0.05)
+    put, words = OTHERS[other]
+    path.rename(path.with_name("kept"))
+    put(path)
+    wait_for(lambda: str(got(served, "lines?first=0&last=9")["head"]).endswith(f"; {words}, and this is its last text"))
+    assert got(served, "text")["text"] == TEXT and got(served, "state")["text"] == 1
+    if "stands" in words:
+        edit = {"was": "1", "start": "0", "end": "0", "text": "# New.\n", "hold": ""}
+        kind = words.partition(" stands")[0]
+        assert posted(served, **edit) == (400, {"wrong": f"can't write the file: {kind} stands there, and no file"})
+        assert got(served, "text")["text"] == TEXT
+    put_away(path)
+    path.with_name("kept").write_text(TEXT.replace("3 4", "3 5"))
+    path.with_name("kept").rename(path)
+    wait_for(lambda: bool(got(served, "text")["text"] == TEXT.replace("3 4", "3 5")))
+    assert "last text" not in got(served, "lines?first=0&last=9")["head"]
+
+
+def wait_for(is_so: Callable[[], bool]) -> None:
+    """Waits until something is so, which comes in time."""
+    until = time.monotonic() + PATIENCE
+    while not is_so():
+        assert time.monotonic() < until
+        time.sleep(0.02)
+
+
+def test_no_lock_is_held_while_the_file_is_read(session: FollowedSession, path: Path, monkeypatch: Any) -> None:
+    """A file that is read slowly keeps no tab waiting. What was read before an edit doesn't undo the edit."""
+    begun, go_on = threading.Event(), threading.Event()
+
+    def slowly(opened: int) -> bytes:
+        data = read_opened(opened)
+        begun.set()
+        assert go_on.wait(PATIENCE)
+        return data
+
+    path.write_text(TEXT.replace("3 4", "3 5"))
+    with monkeypatch.context() as patch:
+        patch.setattr(watched, "read_opened", slowly)
+        looks = threading.Thread(target=session.look, daemon=True)
+        looks.start()
+        assert begun.wait(PATIENCE)
+    assert session.lock.acquire(timeout=1.0)
+    session.lock.release()
+    lines: Any = session.values(0, 99)["lines"]
+    assert len(lines) == 9
+    # Another look takes the change, and something is typed. The slow look is late then.
+    session.look()
+    typed(session, "3 5", "3 6")
+    go_on.set()
+    looks.join(PATIENCE)
+    agree(session, TEXT.replace("3 4", "3 6"))
+
+
 def test_what_goes_wrong_while_it_follows_is_told(session: FollowedSession, monkeypatch: pytest.MonkeyPatch) -> None:
-    monkeypatch.setattr(session.file, "news", lambda: 1 / 0)
+    monkeypatch.setattr(session.file, "look", lambda: 1 / 0)
     follows = threading.Thread(target=session.follow, daemon=True)
     follows.start()
     version = session.version

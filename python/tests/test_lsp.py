@@ -4,8 +4,10 @@ from __future__ import annotations
 
 import json
 import os
+import re
 import signal
 import time
+from bisect import bisect_right
 from collections.abc import Iterator
 from pathlib import Path
 from random import Random
@@ -18,16 +20,18 @@ from terminals import children_of
 
 from pevudlo.lang.faults import FAULTS
 from pevudlo.lsp import server as lsp_server
-from pevudlo.lsp.answers import ANSWERS, CAPABILITIES
+from pevudlo.lsp.client import CAPABILITIES
 from pevudlo.lsp.frames import MOST_BODY, MOST_HEAD, Frames, NoFrame
 from pevudlo.lsp.frames import framed as framed_by_it
-from pevudlo.lsp.positions import edited, letter_at, span, units
+from pevudlo.lsp.methods import METHODS
+from pevudlo.lsp.positions import laid_out, letter_at, units
 from pevudlo.wire.pipe import Pipe
 from pevudlo.wire.program import find
 
 HEAD = "set S 4\nfield a S 8\nfield b S 8\nfield c S 8\ninput a 0 1 2 3 4\n"
 ADD, TWICE = "u-add-3-1L b a a 8\n", "u-add-3-1L c b b 8\n"
 TEXT = HEAD + ADD + TWICE + "show c end\n"
+ABOUT_FILES = [name for name, method in METHODS.items() if method.answer is not None]
 ALL = {"start": {"line": 0, "character": 0}, "end": {"line": 9_999, "character": 0}}
 
 
@@ -121,16 +125,22 @@ def test_positions_count_units_of_utf_16() -> None:
     line = "# é😀x"
     assert [units(line[:at]) for at in range(len(line) + 1)] == [0, 1, 2, 3, 5, 6]
     assert [letter_at(line, at) for at in range(8)] == [0, 1, 2, 3, 4, 4, 5, 5]
-    assert span(3, line, 3, 4) == {"start": {"line": 3, "character": 3}, "end": {"line": 3, "character": 5}}
+    layout = laid_out(f"\n\n\n{line}")
+    assert layout.span(3, 3, 4) == {"start": {"line": 3, "character": 3}, "end": {"line": 3, "character": 5}}
+
+
+END = re.compile("\r\n|\n|\r")
+"""Where a line ends in the protocol."""
 
 
 def offset(text: str, position: dict[str, int]) -> int:
     """Where a position is in a whole text, in units of UTF-16."""
-    lines = text.split("\n")
-    if position["line"] >= len(lines):
+    starts = [0, *(end.end() for end in END.finditer(text))]
+    if position["line"] >= len(starts):
         return units_of(text)
-    start = sum(units_of(line) + 1 for line in lines[: position["line"]])
-    return start + min(position["character"], units_of(lines[position["line"]]))
+    start = starts[position["line"]]
+    line = END.split(text[start:], maxsplit=1)[0]
+    return units_of(text[:start]) + min(position["character"], units_of(line))
 
 
 def units_of(text: str) -> int:
@@ -146,7 +156,7 @@ def test_random_changes_of_ranges() -> None:
         return "".join(chance.choice(letters) for _ in range(chance.randint(0, most)))
 
     def position(text: str) -> dict[str, int]:
-        lines = text.split("\n")
+        lines = END.split(text)
         line = chance.randrange(len(lines) + 1)
         letters = lines[line] if line < len(lines) else ""
         beyond = 5 if chance.random() < 0.1 else 0
@@ -154,15 +164,37 @@ def test_random_changes_of_ranges() -> None:
         return {"line": line, "character": units_of(letters[:at]) + beyond}
 
     for _ in range(3_000):
-        text = some("ab \n\n😀é", 30)
+        text = some("ab \n\n\r\r😀é", 30)
+        layout = laid_out(text)
         for _ in range(5):
             start, end = sorted((position(text), position(text)), key=lambda each: offset(text, each))
-            put = some("xy\n😀", 4)
+            put = some("xy\n\r😀", 4)
             raw = text.encode("utf-16-le")
             wanted = raw[: 2 * offset(text, start)] + put.encode("utf-16-le") + raw[2 * offset(text, end) :]
-            lines = edited(text.split("\n"), {"range": {"start": start, "end": end}, "text": put})
-            assert "\n".join(lines) == wanted.decode("utf-16-le")
-            text = "\n".join(lines)
+            sides = {"start": start, "end": end} if chance.random() < 0.8 else {"start": end, "end": start}
+            layout = layout.edited({"range": sides, "text": put})
+            assert "\n".join(layout.lines) == wanted.decode("utf-16-le")
+            text = "\n".join(layout.lines)
+
+
+def test_each_letter_has_its_position_and_each_position_its_letter() -> None:
+    """By the ends of lines that the protocol has. Between two signs that end one line together nothing stands."""
+    chance = Random(2)
+    for _ in range(500):
+        text = "".join(chance.choice("ab\n\r😀") for _ in range(chance.randint(0, 20)))
+        layout, starts = laid_out(text), [0, *(end.end() for end in END.finditer(text))]
+        at = 0
+        for number, line in enumerate(layout.lines):
+            for letter in range(len(line) + 1):
+                row = bisect_right(starts, at + letter) - 1
+                is_between = text[at + letter - 1 : at + letter + 1] == "\r\n"
+                found = layout.position(number, letter)
+                units_before = units_of(text[starts[row] : at + letter - is_between])
+                assert found == {"line": row, "character": units_before}, (text, number, letter)
+                assert layout.place(found) == (number, letter - is_between)
+            at += len(line) + 1
+        behind = {"line": len(starts), "character": 3}
+        assert layout.place(behind) == (len(layout.lines) - 1, len(layout.lines[-1]))
 
 
 def test_a_comment_with_letters_beyond_ascii(editor: Editor) -> None:
@@ -181,6 +213,44 @@ def test_a_file_with_other_ends_of_lines(editor: Editor) -> None:
     assert len(editor.wrong()) == 8 and "carriage return" in editor.wrong()[0]["message"]
 
 
+def test_a_lone_carriage_return_ends_a_line_of_the_protocol_and_none_of_a_script(editor: Editor) -> None:
+    """The program takes such a line for one, and refuses it. All below it are where the editor has them."""
+    text = TEXT.replace("field c S 8\n", "field c S 8\n# 😀 One.\rfield d S 8\r\nfield e S 8\r# Two.\n")
+    editor.open(text)
+    assert editor.server.files[URI].document.lines == [*text.split("\n")[:-1]]
+    (wrong,) = editor.wrong()
+    assert wrong["range"] == {"start": {"line": 6, "character": 10}, "end": {"line": 7, "character": 1}}
+    assert [hint["position"] for hint in editor.of("inlayHint", range=ALL)] == [
+        {"line": 9, "character": 18},
+        {"line": 10, "character": 18},
+        {"line": 11, "character": 10},
+    ]
+    assert editor.of("hover", 10, 13)["contents"]["value"].startswith("`b`: 8 bits in `S`, from the row")
+    assert editor.of("hover", 10, 13)["range"] == typed(10, 13, 14, "")["range"]
+    assert editor.of("definition", 10, 13)[0]["range"] == typed(9, 0, 18, "")["range"]
+    assert [each["range"]["start"]["line"] for each in editor.of("references", 10, 13)] == [2, 9, 10, 10]
+    assert [each["range"]["start"]["line"] for each in editor.of("documentSymbol")] == [0, 1, 2, 3, 4]
+    folds = [(each["startLine"], each["endLine"]) for each in editor.of("foldingRange")]
+    assert folds == [(0, 11)]
+    items = editor.of("completion", 11, 6)["items"]
+    assert items[0]["textEdit"]["range"] == typed(11, 5, 6, "")["range"]
+    # What is typed goes where the editor has it, and a line feed behind the carriage return makes two lines of it.
+    editor.type(8, 10, 17, "5 6 7 8")
+    assert editor.server.files[URI].lines[6] == "input a 0 5 6 7 8"
+    editor.type(7, 0, 0, "\n")
+    assert editor.server.files[URI].lines[5:8] == ["field e S 8\r", "# Two.", "input a 0 5 6 7 8"]
+    assert editor.of("hover", 8, 6)["range"] == typed(8, 6, 7, "")["range"]
+
+
+def test_colours_where_a_lone_carriage_return_ends_a_line(editor: Editor) -> None:
+    editor.open("# 😀\rb\r\n# c\nset S 4\rset T 4\r\n")
+    data = editor.of("semanticTokens/full")["data"]
+    assert [tuple(data[at : at + 4]) for at in range(0, len(data), 5)] == [
+        *((0, 0, 4, 0), (1, 0, 1, 0), (1, 0, 3, 0)),
+        *((1, 0, 3, 1), (0, 4, 1, 7), (0, 2, 1, 6), (1, 0, 3, 6), (0, 4, 1, 7), (0, 2, 1, 6)),
+    ]
+
+
 # Requests.
 
 
@@ -188,7 +258,7 @@ def test_it_says_what_it_can() -> None:
     with Editor() as editor:
         assert editor.began["capabilities"] == CAPABILITIES
         provided = {"textDocument/" + name.removesuffix("Provider") for name in CAPABILITIES if "Provider" in name}
-        known = {method.replace("semanticTokens/full", "semanticTokens") for method in ANSWERS}
+        known = {method.replace("semanticTokens/full", "semanticTokens") for method in ABOUT_FILES}
         assert provided == known - {"textDocument/prepareRename", "textDocument/semanticTokens/range"}
 
 
@@ -421,15 +491,21 @@ def test_a_random_session(seed: int) -> None:
             before = list(made.lines)
             made.edit()
             editor.change(*changes(before, made.lines, chance))
-            methods = chance.sample(sorted(ANSWERS), 4)
+            methods = chance.sample(ABOUT_FILES, 4)
             asked = [editor.request(method, **about(chance, len(made.lines))) for method in methods]
             for number in asked:
                 answer = editor.answer(number)
-                assert "result" in answer or answer["error"]["code"] == -32602, answer
+                assert "result" in answer or is_no_name(answer["error"]), answer
             editor.tell("textDocument/didSave", textDocument={"uri": URI})
             editor.of("documentSymbol")
             values += compare(editor.server.files[URI].document, made.lines)
         assert values > 0
+
+
+def is_no_name(error: Message) -> bool:
+    """Whether a request failed since a word can't have another name, or not this one. No other one has to fail."""
+    words = ("no declared name stands here", "is no name", "is declared already")
+    return error["code"] == -32602 and any(part in error["message"] for part in words)
 
 
 def changes(before: list[str], after: list[str], chance: Random) -> Iterator[Message]:

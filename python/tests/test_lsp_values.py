@@ -178,6 +178,30 @@ def test_a_definition_in_a_file_that_names_rows(editor: Editor) -> None:
     assert hover(editor, 6, 5).split("\n")[2] == "2 4 6 8"
 
 
+def test_rows_that_are_taken_out_or_replaced_further_down(editor: Editor) -> None:
+    """They have no values. What is read in their lines is what stands where they stood."""
+    text = TEXT + "delete 1\nreplace 2 u-max-3-1L c a b 8\n"
+    retyped(editor, text)
+    (c,) = fresh(text, "show c end")
+    assert c == [1, 2, 3, 4] and hints(editor) == {
+        5: "- taken out by line 9",
+        6: "- replaced by line 10",
+        7: "c 1 2 3 4",
+        8: "- takes out the row of line 6",
+        9: "▶ c 1 2 3 4",
+    }
+    assert hover(editor, 5, 11).startswith("taken out by line 9\n\n`b`: 8 bits in `S`, as it was declared\n")
+    assert hover(editor, 6, 3).split("\n")[:3] == ["replaced by line 10", "", "`u-add-3-1L D A B L`"]
+    assert "behind this row" not in hover(editor, 6, 3) + hover(editor, 5, 11)
+    assert hover(editor, 8, 1).startswith("takes out the row of line 6\n\n`delete NUM`")
+    # No value comes from them. The line that takes out a row leads to it.
+    assert places(editor.of("definition", 6, 13)) == places(editor.of("definition", 5, 11)) == [(2, 6, 7)]
+    assert places(editor.of("definition", 7, 5)) == [(9, 0, len("replace 2 u-max-3-1L c a b 8"))]
+    assert places(editor.of("definition", 8, 8)) == [(5, 0, len(ADD) - 1)]
+    pale = [(each["range"]["start"]["line"], each["message"]) for each in editor.wrong()]
+    assert pale == [(5, "this row is taken out by line 9"), (6, "this row is replaced by line 10")]
+
+
 # What is wrong, and what mends it.
 
 WRONG: dict[str, tuple[str, tuple[int, int], str, str]] = {

@@ -107,6 +107,28 @@ def test_a_piece_is_taken_out(pieces: Pieces) -> None:
     assert pieces.names == ["data", "more"]
 
 
+def test_rows_that_are_taken_out_or_replaced_in_another_piece(pieces: Pieces) -> None:
+    """The piece that they stand in is drawn anew. Lines are counted in their own pieces."""
+    for name, text in (("data", DATA), ("rows", "u-add-3-1L b a a 8\nu-max-3-1L c b a 8\n")):
+        pieces.put(name, text)
+    drawn = pieces.put("ends", "# Both.\nreplace 2 u-min-3-1L c b a 8\ndelete 1\nu-move-1L b c 8\ndelete 3\n")
+    assert list(drawn) == ["rows", "ends"]
+    assert repr(drawn["rows"]).split("\n")[1:] == [
+        "  u-add-3-1L b a a 8   - taken out by line 3 of ends",
+        "  u-max-3-1L c b a 8   - replaced by line 2 of ends",
+    ]
+    assert repr(drawn["ends"]).split("\n")[1:] == [
+        "  replace 2 u-min-3-1L c b a 8   ▶ c 0 0 0 0",
+        "  delete 1   - takes out the row of line 1 of rows",
+        "  u-move-1L b c 8   - taken out by line 5",
+        "  delete 3   - takes out the row of line 4",
+    ]
+    # A line above them says another place, and further cells work.
+    assert list(pieces.put("more", MORE)) == ["more"]
+    assert list(pieces.put("ends", "replace 2 u-min-3-1L c b a 8\ndelete 1\n")) == ["rows", "ends"]
+    assert "taken out by line 2 of ends" in repr(pieces.put("rows", "u-add-3-1L b a a 8\nu-max-3-1L c b a 8\n")["rows"])
+
+
 def test_the_pieces_are_a_script(pieces: Pieces) -> None:
     """The program takes it, and gives the same values."""
     for name, text in (

@@ -5,9 +5,10 @@ from __future__ import annotations
 import pytest
 from random_editor import RandomEditor, run, told
 
+from pevudlo.document.answers import place_read
 from pevudlo.document.document import Document
 from pevudlo.document.meaning import FileRow
-from pevudlo.document.origins import input_lines, lines_of_rows, place_before, row_above, row_before, writer
+from pevudlo.document.origins import input_lines, lines_of_rows, row_above, row_before, writer
 from pevudlo.lang.instructions import FLAGS
 from pevudlo.wire.library import Library
 from pevudlo.wire.peers import Peer
@@ -56,5 +57,13 @@ def test_places_of_rows() -> None:
         assert lines_of_rows(document) == {one: 3, two: 5} and input_lines(document, "a") == [2, 6]
         assert (row_before(document, one), row_before(document, two)) == (None, one)
         assert [row_above(document, at) for at in (3, 4, 6)] == [None, one, two]
-        assert [place_before(document, at) for at in (2, 3, 4, 5, 8, 9)] == [None, None, one, one, two, None]
+        assert [place_read(document, at) for at in (2, 3, 4, 5, 6, 8, 9)] == [
+            None,
+            None,
+            one,
+            one,
+            None,
+            two,
+            None,
+        ]
         assert writer(document, "a", two) is two

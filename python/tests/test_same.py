@@ -8,8 +8,9 @@ from collections.abc import Sequence
 from paris_model_book import Book
 from random_scripts import RandomScript
 
+from pevudlo.document.answers import mark_of
 from pevudlo.document.document import Document
-from pevudlo.document.marks import headline, mark_of
+from pevudlo.document.marks import headline
 from pevudlo.explain.objects import object_of
 from pevudlo.explain.words import told
 from pevudlo.lang.board import Board

@@ -7,6 +7,7 @@ import os
 import re
 import select
 import signal
+import socket
 import struct
 import subprocess
 import sys
@@ -20,12 +21,14 @@ from random_editor import Fresh, numbers_of
 from terminals import Terminal
 
 from pevudlo.document import watched
+from pevudlo.document.answers import mark_of
 from pevudlo.document.document import Document
-from pevudlo.document.marks import mark_of, short
+from pevudlo.document.marks import short
 from pevudlo.document.plain import MOST_TOLD, Plain
 from pevudlo.document.states import State
 from pevudlo.document.update import Update
 from pevudlo.document.watched import Watched
+from pevudlo.files import MOST_FOLLOWED, NoFile, read_opened, read_regular
 from pevudlo.wire.pipe import Pipe
 from pevudlo.wire.program import ROOT, find
 
@@ -60,7 +63,7 @@ def test_a_text_is_told_once(path: Path) -> None:
     path.write_text(TEXT)
     assert file.news() is None
     path.write_text(TEXT + ADD)
-    assert file.news() == TEXT + ADD and not file.is_lost()
+    assert file.news() == TEXT + ADD and not file.missing
 
 
 def test_several_changes_in_one_pause(path: Path) -> None:
@@ -85,7 +88,7 @@ def test_an_old_file_is_not_read_again(path: Path, monkeypatch: pytest.MonkeyPat
     file = Watched(path)
     os.utime(path, (1, 1))
     assert file.news() == TEXT
-    monkeypatch.setattr(Path, "read_bytes", lambda self: pytest.fail("it is read again"))
+    monkeypatch.setattr(watched, "opened_regular", lambda path: pytest.fail("it is read again"))
     assert file.news() is None
 
 
@@ -102,18 +105,21 @@ def test_a_file_that_is_truncated_and_written(path: Path) -> None:
 
 
 def test_a_file_that_changes_while_it_is_read(path: Path, monkeypatch: pytest.MonkeyPatch) -> None:
-    read = Path.read_bytes
-
-    def written_meanwhile(self: Path) -> bytes:
-        data = read(self)
-        self.write_bytes(data + ADD.encode())
+    def written_meanwhile(opened: int) -> bytes:
+        data = read_opened(opened)
+        path.write_bytes(data + ADD.encode())
         return data
 
     file = Watched(path)
     with monkeypatch.context() as patch:
-        patch.setattr(Path, "read_bytes", written_meanwhile)
+        patch.setattr(watched, "read_opened", written_meanwhile)
         assert file.news() is None
-    assert file.news() == TEXT + ADD
+        # One that never rests is told of after a while.
+        patch.setattr(watched, "AWAY", 0.0)
+        path.write_text(TEXT)
+        time.sleep(0.01)
+        assert file.news() is None and file.missing == "the file changes each time that it is read"
+    assert file.news() == TEXT + ADD and not file.missing
 
 
 def test_a_file_that_is_half_written(path: Path) -> None:
@@ -148,17 +154,103 @@ def test_a_file_that_is_removed_and_made_again(path: Path, monkeypatch: pytest.M
     file = Watched(path)
     file.news()
     path.rename(path.with_name("kept"))
-    assert file.news() is None and not file.is_lost()
+    assert file.news() is None and not file.missing
     monkeypatch.setattr(watched, "AWAY", 0.0)
     time.sleep(0.01)
-    assert file.is_lost() and not file.is_lost() and file.news() is None and not file.is_lost()
+    assert file.missing == "the file isn't there" and file.news() is None and file.missing
     path.write_text(HEAD)
-    assert file.news() == HEAD
-    # It is said once more where it goes once more.
-    path.unlink()
+    assert file.news() == HEAD and not file.missing
+    # It is said once more where it goes once more, also where it comes back as it was.
+    path.rename(path.with_name("kept"))
     assert file.news() is None
     time.sleep(0.01)
-    assert file.is_lost()
+    assert file.missing
+    path.with_name("kept").rename(path)
+    assert file.news() is None and not file.missing
+
+
+def fifo(path: Path) -> None:
+    """A fifo that nobody writes into."""
+    os.mkfifo(path)
+
+
+def socket_file(path: Path) -> None:
+    """A socket that nobody listens at."""
+    with socket.socket(socket.AF_UNIX) as made:
+        made.bind(str(path))
+
+
+def too_long(path: Path) -> None:
+    """A file that is longer than what is followed, and takes no room."""
+    path.touch()
+    os.truncate(path, MOST_FOLLOWED + 1)
+
+
+OTHERS: dict[str, tuple[Callable[[Path], object], str]] = {
+    "a fifo": (fifo, "a fifo stands in the place of the file"),
+    "a folder": (Path.mkdir, "a folder stands in the place of the file"),
+    "a device by a link": (lambda path: path.symlink_to("/dev/zero"), "a device stands in the place of the file"),
+    "a terminal": (lambda path: path.symlink_to("/dev/tty"), "a device stands in the place of the file"),
+    "a socket": (socket_file, "a socket stands in the place of the file"),
+    "a link to nothing": (lambda path: path.symlink_to("nothing"), "the file isn't there"),
+    "a link to itself": (
+        lambda path: path.symlink_to(path),
+        "the file can't be read: Too many levels of symbolic links",
+    ),
+    "a file that is too long": (too_long, "the file can't be read: File too large"),
+    "nothing": (lambda path: None, "the file isn't there"),
+}
+"""What may come into the place of a file, and what is told then."""
+
+
+def put_away(path: Path) -> None:
+    """Takes out what stands in the place of a file, but for the file itself."""
+    if path.is_dir() and not path.is_symlink():
+        path.rmdir()
+    else:
+        path.unlink(missing_ok=True)
+
+
+@pytest.mark.parametrize("other", OTHERS)
+def test_what_is_no_file_is_told_and_the_file_is_followed_again(
+    other: str, path: Path, monkeypatch: pytest.MonkeyPatch
+) -> None:
+    """Nothing waits for it. The file comes back as it was, and as another."""
+    monkeypatch.setattr(watched, "AWAY", 0.0)
+    put, words = OTHERS[other]
+    file = Watched(path)
+    assert file.news() == TEXT
+    for text in (TEXT, TEXT + ADD):
+        path.rename(path.with_name("kept"))
+        put(path)
+        assert [file.news() for _ in range(2)] == [None, None]
+        time.sleep(0.01)
+        assert file.missing == words
+        put_away(path)
+        path.with_name("kept").write_text(text)
+        path.with_name("kept").rename(path)
+        assert file.news() == (None if text == TEXT else text) and not file.missing
+
+
+def test_a_fifo_that_comes_between_a_look_and_the_opening(path: Path, monkeypatch: pytest.MonkeyPatch) -> None:
+    regular = os.stat(path)
+    file = Watched(path)
+    path.unlink()
+    fifo(path)
+    monkeypatch.setattr(os, "stat", lambda place: regular)
+    assert file.look().missing == OTHERS["a fifo"][1]
+    with pytest.raises(NoFile, match="a fifo stands there, and no file"):
+        read_regular(path)
+
+
+def test_what_was_seen_before_the_file_was_written_says_nothing(path: Path) -> None:
+    file = Watched(path)
+    first, second = file.look(), file.look()
+    assert file.take(second) == TEXT and file.is_late(first) and file.take(first) is None
+    before = file.look()
+    path.write_text(TEXT + ADD)
+    file.was_written()
+    assert file.take(before) is None and file.news() == TEXT + ADD
 
 
 # What stands beside a line.
@@ -290,6 +382,36 @@ def test_what_is_told_in_lines() -> None:
     assert fourth == ["0 of 2 rows ran again; 1 line is refused"]
 
 
+GONE = TEXT + "delete 1\nreplace 2 u-max-3-1L c a b 8\n"
+"""The first row is taken out further down, and the second one is replaced: `c` is the greater one of `a` and 0."""
+
+
+def test_rows_that_are_taken_out_or_replaced_are_told_in_lines() -> None:
+    first, second, third = told_of([GONE, GONE.replace("delete 1\n", ""), GONE])
+    assert first == [
+        "a new book (the first text): 1 of 1 row ran",
+        "  6: u-add-3-1L b a a 8: taken out by line 9",
+        "  7: u-add-3-1L c b b 8: replaced by line 10",
+        "  8: show c end: c 1 2 3 4",
+        "  10: replace 2 u-max-3-1L c a b 8: c 1 2 3 4",
+    ]
+    # What is gone is told of once. Where it is gone anew it is told of anew.
+    assert second[1:] == [
+        "  6: u-add-3-1L b a a 8: b 2 4 6 8  carry 0000  overflow 0000",
+        "  8: show c end: c 2 4 6 8",
+        "  9: replace 2 u-max-3-1L c a b 8: c 2* 4* 6* 8*",
+    ]
+    assert third[1:3] == ["  6: u-add-3-1L b a a 8: taken out by line 9", "  8: show c end: c 1 2 3 4"]
+
+
+def test_each_of_two_lines_that_are_gone_is_told_of() -> None:
+    twice = HEAD + ADD + ADD
+    assert told_of([twice, twice + "delete 1\n", twice + "delete 1\ndelete 2\n"])[2] == [
+        "0 of 0 rows ran again",
+        "  7: u-add-3-1L b a a 8: taken out by line 9",
+    ]
+
+
 def test_it_tells_what_the_document_says() -> None:
     document = (ROOT / "docs/PEOPLE.md").read_text(encoding="utf-8").split("\n## watch\n")[1]
     text, first, rest = re.findall(r"^```\n(.*?)^```$", document, re.S | re.M)
@@ -369,6 +491,27 @@ def test_a_file_is_followed_while_it_is_edited(path: Path, watching: Watching) -
     assert watching.end(signal.SIGINT) == 0
 
 
+def test_what_comes_into_the_place_of_a_file_is_told_in_lines(path: Path, watching: Watching) -> None:
+    """Each of them, one after another, by the command itself. Behind each the file is followed again."""
+    watching.until("show c end: c 4 8 12 16\n")
+    for number, (put, words) in enumerate(OTHERS.values()):
+        path.unlink()
+        put(path)
+        assert watching.until("of its last text\n") == f"{words}; what was told last is of its last text\n"
+        put_away(path)
+        path.write_text(TEXT.replace("1 2 3 4", f"1 2 3 {number + 5}"))
+        watching.until(f"show c end: c 4 8 12 {4 * (number + 5)}\n")
+    assert watching.end(signal.SIGINT) == 0
+
+
+def test_a_file_that_comes_back_as_it_was_is_told_of(path: Path, watching: Watching) -> None:
+    watching.until("show c end: c 4 8 12 16\n")
+    path.rename(path.with_name("kept"))
+    watching.until("the file isn't there; what was told last is of its last text\n")
+    path.with_name("kept").rename(path)
+    assert watching.until("was\n") == "the file is there again, as it was\n"
+
+
 def test_it_ends_when_it_is_told_to(watching: Watching) -> None:
     watching.until("show c end")
     assert watching.end(signal.SIGTERM) == 0
@@ -410,6 +553,35 @@ def test_a_file_on_a_terminal(path: Path, tmp_path: Path) -> None:
         assert terminal.wait() == 0
 
 
+def test_rows_that_are_taken_out_or_replaced_on_a_terminal(path: Path, tmp_path: Path) -> None:
+    path.write_text(GONE)
+    with Terminal(tmp_path, str(path), command="watch", is_quiet=False, columns=120) as terminal:
+        first = terminal.until("q ends")
+        assert "- u-add-3-1L b a a 8           taken out by line 9" in first
+        assert "- u-add-3-1L c b b 8           replaced by line 10" in first
+        assert "- delete 1                     takes out the row of line 6" in first
+        assert "▶ replace 2 u-max-3-1L c a b 8 c 1 2 3 4" in first
+        terminal.press("q")
+        assert terminal.wait() == 0
+
+
+def test_a_fifo_in_the_place_of_a_file_on_a_terminal(path: Path, tmp_path: Path) -> None:
+    """The keys go on, and so does the view."""
+    with Terminal(tmp_path, str(path), command="watch", is_quiet=False, columns=120) as terminal:
+        terminal.until("q ends")
+        path.unlink()
+        fifo(path)
+        assert " sum.paris: a fifo stands in the place of the file; what" in terminal.until("q ends")
+        terminal.press("j")
+        assert "b 2 4 6 8" in terminal.until("q ends")
+        path.unlink()
+        path.write_text(TEXT.replace("1 2 3 4", "1 2 3 5"))
+        while "b 2 4 6 10*" not in terminal.until("q ends"):
+            pass
+        terminal.press("q")
+        assert terminal.wait() == 0
+
+
 def test_a_terminal_without_a_program(path: Path, tmp_path: Path) -> None:
     with Terminal(
         tmp_path, "--workers", "1", str(path), command="watch", is_quiet=False, program=Path("/bin/false")
@@ -444,3 +616,18 @@ def test_what_cannot_be_watched(words: tuple[str, ...], said: str) -> None:
     watching = Watching(*words)
     out, errors = watching.child.communicate(timeout=PATIENCE)
     assert (watching.child.returncode, out) == (2, b"") and errors.decode().endswith(said)
+
+
+@pytest.mark.parametrize("other", ["a fifo", "a folder", "a device by a link"])
+@pytest.mark.parametrize("words", [("watch",), ("live", "--follow")], ids=" ".join)
+def test_what_is_no_file_is_not_followed(other: str, words: tuple[str, ...], tmp_path: Path) -> None:
+    path = tmp_path / "other.paris"
+    OTHERS[other][0](path)
+    environment = {**os.environ, "PARIS_FRONT": str(find()), "PYTHONPATH": str(ROOT / "python")}
+    line = [sys.executable, "-P", "-m", "pevudlo", *words, str(path)]
+    ran = subprocess.run(
+        line, env=environment, stdin=subprocess.DEVNULL, capture_output=True, text=True, timeout=PATIENCE
+    )
+    kind = other.removesuffix(" by a link")
+    said = f"paris {words[0]}: can't read {path}: {kind} stands there, and no file\n"
+    assert (ran.returncode, ran.stdout, ran.stderr) == (2, "", said)

@@ -13,7 +13,7 @@ from pevudlo.document.plain import Plain
 from pevudlo.document.screen import Screen, drawn
 from pevudlo.document.watched import PERIOD, Watched
 from pevudlo.draw.visible import visible
-from pevudlo.files import path_of, read_lines, why
+from pevudlo.files import path_of, read_regular, why
 from pevudlo.wire.peers import peer_of
 from pevudlo.wire.pipe import PipeError
 from pevudlo.wire.program import NotFound
@@ -44,7 +44,7 @@ def view_of(document: Document, name: str, is_plain: bool) -> ContextManager[Vie
 
 def watch(file: Watched, document: Document, view: View) -> None:
     """Follows the file until the view ends it. Raises NotFound and NoReply."""
-    is_going = True
+    is_going, missing = True, ""
     while is_going:
         text = file.news()
         try:
@@ -52,8 +52,12 @@ def watch(file: Watched, document: Document, view: View) -> None:
                 view.show(document.update(text))
         except (PipeError, MemoryError) as error:
             view.trouble(f"{error}; the next text begins anew")
-        if file.is_lost():
-            view.trouble("the file isn't there; what was told last is of its last text")
+        if file.missing != missing:
+            missing = file.missing
+            if missing:
+                view.trouble(f"{missing}; what was told last is of its last text")
+            elif text is None:
+                view.trouble("the file is there again, as it was")
         is_going = view.rest(PERIOD)
 
 
@@ -64,7 +68,7 @@ def main(words: list[str]) -> int:
     name = visible(path.name)
     signal.signal(signal.SIGTERM, signal.default_int_handler)
     try:
-        read_lines(path)
+        read_regular(path)
     except (OSError, ValueError) as error:
         return ends_badly(f"can't read {visible(said.file)}: {why(error)}")
     try:

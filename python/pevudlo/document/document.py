@@ -284,11 +284,6 @@ class Document:
         board.is_begun = first is not None and first < number
         return board
 
-    def look(self, number: int) -> Numbers:
-        """The numbers of the look of this index."""
-        shown = self.shown[number]
-        return self.book.look(shown.key, shown.anchor)
-
     def written(self, row: FileRow) -> dict[str, Numbers]:
         """What a row leaves in the keys that it writes. It is asked once for each edition of the row."""
         edition, found = self.book.editions[row.book], dict[str, Numbers]()

@@ -1,4 +1,4 @@
-"""What stands beside a line: short values, the state, the refusal. For terminals and editors."""
+"""What stands beside lines in few letters: values, a refusal, and what an update did. For terminals and editors."""
 
 from __future__ import annotations
 
@@ -40,25 +40,8 @@ def short(numbers: Sequence[int], before: Numbers | None, width: int, most: int 
     return f"{' '.join(words)} … {len(numbers):,} from {least} to {greatest}{more}"
 
 
-def mark_of(document: Document, number: int, done: Update, most: int = MOST) -> Mark:
-    """What stands beside the line of an index behind an update. Rows are looked at again that it touched."""
-    shown = document.shown[number]
-    if shown.refused:
-        return Mark(State.REFUSED, refusal_text(document, number))
-    if shown.row is not None:
-        return row_mark(document, shown.row, done, most)
-    if shown.kind is Kind.SHOW:
-        width = width_of(document.book.board, shown.key)
-        return Mark(State.LOOK, f"{shown.key} {short(document.look(number), None, width, most)}")
-    if shown.kind is Kind.TIME:
-        return Mark(State.PASSED, "rows run by themselves here")
-    if note := note_on(document, number):
-        return Mark(State.NOTE, note)
-    return Mark(State.NONE, "")
-
-
 def refusal_text(document: Document, number: int) -> str:
-    """Why a line is refused, with the hint first, and what stays where it is held."""
+    """Why a line is refused, the hint first, and what stays where it is held: the words of all views that are narrow."""
     told = document.explanation(number)
     assert told is not None
     return "; ".join(part for part in (told.in_one_line(), document.stays(number)) if part)

@@ -5,6 +5,7 @@ from __future__ import annotations
 from bisect import bisect_left
 from collections.abc import Mapping, Sequence
 from dataclasses import dataclass, field
+from enum import Enum
 from typing import NamedTuple
 
 from pevudlo.document.pieces import DECLARING, HEADING, Kind, Piece, piece_of, pieces_of
@@ -24,16 +25,34 @@ class FileRow:
     is_alive: bool = True
 
 
-class Shown(NamedTuple):
-    """What a line is: its piece, its refusal where it has one, and the row that it puts in or replaces.
+class Change(Enum):
+    """What became of a row further down in the text."""
 
-    `anchor` is the row behind which a look is taken, None for the start.
+    TAKEN_OUT = "taken out"
+    REPLACED = "replaced"
+
+
+class Former(NamedTuple):
+    """What became of the row that a line says, and the line further down that took it out or replaced it."""
+
+    change: Change
+    by: int
+
+
+class Shown(NamedTuple):
+    """What a line is: its piece, its refusal where it has one, and the row of the program that it says.
+
+    No row is said by two lines. Where a line further down took the row out or replaced it, `former` says so, and there
+    is no `row`. `anchor` is the row behind which a look is taken, or a former row stood, None for the start. `taken` is
+    the line whose row a `delete` takes out.
     """
 
     piece: Piece
     refused: str = ""
     row: FileRow | None = None
     anchor: FileRow | None = None
+    former: Former | None = None
+    taken: int | None = None
 
     @property
     def kind(self) -> Kind:
@@ -91,6 +110,8 @@ class Reader:
     def __init__(self, verdicts: Verdicts, refused: Mapping[int, str], header: str = "") -> None:
         self._verdicts, self._refused, self._header = verdicts, refused, header
         self._order, self._rows = RowOrder(), dict[int, FileRow]()
+        # The line that says a row, and what became of the lines that said it.
+        self._said, self._former = dict[FileRow, int](), dict[int, Former]()
         self._above: set[str] = set()
         self._alive = self._declared = 0
         self._is_full = False
@@ -98,11 +119,10 @@ class Reader:
     def read(self, lines: list[str]) -> Meaning:
         """What these lines mean. Raises NewBook where only a fresh run can say it."""
         pieces = pieces_of(lines)
-        shown = [self._line(piece) for piece in pieces]
+        shown = [self._line(at, piece) for at, piece in enumerate(pieces)]
         order = [(row, self._rows[row]) for row in self._order]
-        if self._alive < len(order):
-            stands = standing([row for _, row in order])
-            shown = [each if each.anchor is None else each._replace(anchor=stands[each.anchor]) for each in shown]
+        if self._former:
+            shown = as_they_ended(shown, self._former, [row for _, row in order])
             order = [(at, row) for at, row in order if row.is_alive]
         meaning = Meaning(lines, shown, [row for _, row in order], [at for at, _ in order])
         meaning.head = 1 + max((at for at, piece in enumerate(pieces) if piece.kind in HEADING), default=-1)
@@ -111,15 +131,15 @@ class Reader:
         meaning.is_full = self._is_full
         return meaning
 
-    def _line(self, piece: Piece) -> Shown:
-        """What a line is, below those that were read."""
+    def _line(self, at: int, piece: Piece) -> Shown:
+        """What the line of an index is, below those that were read."""
         match piece.kind:
             case Kind.ROW:
-                return self._row(piece)
+                return self._row(at, piece)
             case Kind.SET | Kind.FIELD:
                 return self._declaration(piece)
             case Kind.DELETE | Kind.REPLACE:
-                return self._edit(piece)
+                return self._edit(at, piece)
             case Kind.SHOW:
                 return self._look(piece)
             case Kind.PROFILE:
@@ -128,7 +148,7 @@ class Reader:
                 return Shown(piece, self._verdicts.of(piece, self._above))
         return Shown(piece)
 
-    def _row(self, piece: Piece) -> Shown:
+    def _row(self, at: int, piece: Piece) -> Shown:
         """A row that is put in."""
         if piece.place == "after" and not self._is_alive(piece.row):
             return Shown(piece, NO_ROW)
@@ -138,7 +158,7 @@ class Reader:
         if refused := self._verdicts.of(piece, self._above):
             return Shown(piece, refused)
         row, number = FileRow(piece.text), len(self._rows) + 1
-        self._rows[number] = row
+        self._rows[number], self._said[row] = row, at
         self._alive += 1
         if piece.place == "after":
             self._order.put_after(piece.row, number)
@@ -156,18 +176,21 @@ class Reader:
             self._above.add(piece.name)
         return Shown(piece, refused)
 
-    def _edit(self, piece: Piece) -> Shown:
+    def _edit(self, at: int, piece: Piece) -> Shown:
         """A row that is taken out, or gets another instruction."""
         if not self._is_alive(piece.row):
             return Shown(piece, NO_ROW)
         row = self._rows[piece.row]
+        said = self._said[row]
         if piece.kind is Kind.DELETE:
             row.is_alive = False
             self._alive -= 1
-            return Shown(piece)
+            self._former[said] = Former(Change.TAKEN_OUT, at)
+            return Shown(piece, taken=said)
         if refused := self._verdicts.of(piece, self._above):
             return Shown(piece, refused)
         row.text = piece.text
+        self._former[said], self._said[row] = Former(Change.REPLACED, at), at
         return Shown(piece, row=row)
 
     def _look(self, piece: Piece) -> Shown:
@@ -185,14 +208,23 @@ class Reader:
         return row in self._rows and self._rows[row].is_alive
 
 
-def standing(rows: Sequence[FileRow]) -> dict[FileRow, FileRow | None]:
-    """For each row itself, or the one before it that is left where it was taken out further down."""
+def as_they_ended(shown: Sequence[Shown], former: Mapping[int, Former], order: Sequence[FileRow]) -> list[Shown]:
+    """What lines are at the end of the text, where some rows that they say were taken out or replaced.
+
+    `order` has the rows in program order, and those that were taken out where they stood.
+    """
     last: FileRow | None = None
-    stands: dict[FileRow, FileRow | None] = {}
-    for row in rows:
-        last = row if row.is_alive else last
+    before, stands = dict[FileRow, FileRow | None](), dict[FileRow, FileRow | None]()
+    for row in order:
+        before[row], last = last, row if row.is_alive else last
         stands[row] = last
-    return stands
+    ended = list(shown)
+    for at, each in enumerate(shown):
+        if at in former and each.row is not None:
+            ended[at] = each._replace(row=None, anchor=before[each.row], former=former[at])
+        elif each.anchor is not None:
+            ended[at] = each._replace(anchor=stands[each.anchor])
+    return ended
 
 
 def spliced(

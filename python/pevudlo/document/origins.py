@@ -8,7 +8,7 @@ from pevudlo.document.pieces import Kind
 
 
 def lines_of_rows(document: Document) -> dict[FileRow, int]:
-    """The line of each row: the last one that puts it in or replaces it."""
+    """The line of each row: the one that says its instruction."""
     return {shown.row: number for number, shown in enumerate(document.shown) if shown.row is not None}
 
 
@@ -21,14 +21,6 @@ def row_before(document: Document, row: FileRow) -> FileRow | None:
 def row_above(document: Document, number: int) -> FileRow | None:
     """The row of the last line above one that has a row."""
     return next((shown.row for shown in reversed(document.shown[:number]) if shown.row is not None), None)
-
-
-def place_before(document: Document, number: int) -> FileRow | None:
-    """The row behind which the values stand that a line reads. None for the start."""
-    shown = document.shown[number]
-    if shown.row is not None:
-        return row_before(document, shown.row)
-    return shown.anchor if shown.kind is Kind.SHOW else row_above(document, number)
 
 
 def writer(document: Document, key: str, last: FileRow | None) -> FileRow | None:

@@ -3,10 +3,13 @@
 from __future__ import annotations
 
 import time
+from collections import Counter
 from collections.abc import Callable, Iterator
 
+from pevudlo.document.answers import mark_of
 from pevudlo.document.document import Document
-from pevudlo.document.marks import headline, mark_of, note_on
+from pevudlo.document.marks import headline, note_on
+from pevudlo.document.meaning import Shown
 from pevudlo.document.pieces import Kind
 from pevudlo.document.states import State
 from pevudlo.document.update import Update
@@ -17,11 +20,13 @@ MOST_TOLD = 200
 
 
 class Plain:
-    """Tells of each row that was touched, each line that is refused newly, or looks at other values than before."""
+    """Tells of each row that was touched, each line that is refused newly or whose row is gone newly, or looks at other
+    values than before.
+    """
 
     def __init__(self, document: Document, say: Callable[[str], None]) -> None:
         self._document, self._say = document, say
-        self._refused: set[tuple[str, str]] = set()
+        self._fates = Counter[tuple[str, str]]()
         self._noted: set[str] = set()
         self._looks: dict[tuple[str, int], str] = {}
 
@@ -36,9 +41,8 @@ class Plain:
                 self._say(f"  lines from {number + 1} on aren't told of, since they are too many")
                 break
             self._say(f"  {number + 1}: {visible(document.lines[number])}: {visible(words)}")
-        self._refused = {
-            (document.lines[at], shown.refused) for at, shown in enumerate(document.shown) if shown.refused
-        }
+        fates = ((line, fate_of(shown)) for line, shown in zip(document.lines, document.shown))
+        self._fates = Counter(each for each in fates if each[1])
 
     def trouble(self, words: str) -> None:
         """Tells why there is nothing new."""
@@ -54,9 +58,12 @@ class Plain:
         document = self._document
         looks, self._looks = self._looks, {}
         noted, self._noted = self._noted, set()
+        known = Counter() if done.fresh else self._fates.copy()
         for number, shown in enumerate(document.shown):
-            if shown.refused:
-                if (document.lines[number], shown.refused) not in self._refused or done.fresh:
+            if fate := fate_of(shown):
+                at_all = document.lines[number], fate
+                known[at_all] -= 1
+                if known[at_all] < 0:
                     yield number, mark_of(document, number, done).text
             elif shown.row is not None and shown.row.book in done.touched:
                 mark = mark_of(document, number, done)
@@ -71,3 +78,8 @@ class Plain:
                 self._looks[at] = words = mark_of(document, number, done).text
                 if looks.get(at) != words or done.fresh:
                     yield number, words
+
+
+def fate_of(shown: Shown) -> str:
+    """Why a line isn't in the program as it stands: its refusal, or what became of its row. Else nothing."""
+    return shown.refused or (shown.former.change.value if shown.former is not None else "")

@@ -11,20 +11,22 @@ import tty
 from collections.abc import Iterator
 from contextlib import contextmanager
 
+from pevudlo.document.answers import mark_of
 from pevudlo.document.document import Document
-from pevudlo.document.marks import headline, mark_of
+from pevudlo.document.marks import headline
 from pevudlo.document.pieces import Kind
 from pevudlo.document.states import Mark, State
 from pevudlo.document.update import Update
 from pevudlo.draw.visible import visible
 from pevudlo.progress import Later
 
-FEET = "▶ new values, * other than before, = touched, with the same values, ✗ refused; arrows move, q ends"
+FEET = "▶ new values, * other than before, = touched, with the same values, ✗ refused, - taken out; arrows move, q ends"
 TONES = {
     State.NEW: "1;33",
     State.SAME: "36",
     State.REFUSED: "31",
     State.FAULT: "35",
+    State.GONE: "2",
     State.LOOK: "32",
     State.PASSED: "2",
     State.NOTE: "34",

@@ -14,6 +14,7 @@ class State(Enum):
     KEPT = " "
     REFUSED = "✗"
     FAULT = "!"
+    GONE = "-"
     LOOK = "→"
     PASSED = "·"
     NOTE = "i"

@@ -11,7 +11,7 @@ from types import FrameType
 
 from pevudlo.arguments import Arguments, add_program, add_quiet, file_name
 from pevudlo.draw.visible import visible
-from pevudlo.files import read_lines, why
+from pevudlo.files import lines_in, read_lines, read_regular, why
 from pevudlo.live.followed import FollowedSession
 from pevudlo.live.running import RunningSession
 from pevudlo.live.server import Server
@@ -64,6 +64,11 @@ def serve(session: Session, title: str, port: int) -> None:
         server.serve_forever(poll_interval=0.2)
 
 
+def lines_of(path: Path, is_followed: bool) -> list[str]:
+    """The lines of a script. Where it is followed it has to be a regular file. Raises OSError and ValueError."""
+    return lines_in(read_regular(path)) if is_followed else read_lines(path)
+
+
 def begun(said: Namespace, lines: list[str]) -> Session:
     """A session of a script, or of a file that is followed. Raises NotFound, Stopped and PipeError.
 
@@ -101,7 +106,7 @@ def main(words: list[str]) -> int:
     signal.signal(signal.SIGTERM, interrupt)
     session = None
     try:
-        lines = read_lines(path) if path is not None else []
+        lines = lines_of(path, said.follow) if path is not None else []
     except (OSError, ValueError) as error:
         print(f"paris live: can't read {visible(str(path))}: {why(error)}", file=sys.stderr)
         return 2

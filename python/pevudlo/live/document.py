@@ -94,6 +94,6 @@ _TEXT = """
 <div id="text-answer" aria-live="assertive"></div>
 <p class="quiet">What is typed here is written into the file. A row that isn't right while it is typed stays as it was,
 until the text is left or saved by Ctrl-S. <b>▶</b> new values, <b>*</b> other than before, <b>=</b> touched, with
-the same values, <b>✗</b> refused, <b>!</b> refused for its data.</p>
+the same values, <b>✗</b> refused, <b>!</b> refused for its data, <b>-</b> taken out or replaced further down.</p>
 </section>
 """

@@ -6,13 +6,14 @@ import threading
 from collections.abc import Sequence
 from pathlib import Path
 
+from pevudlo.document.answers import mark_of
 from pevudlo.document.document import Document
 from pevudlo.document.edits import edited
-from pevudlo.document.marks import headline, mark_of
+from pevudlo.document.marks import headline
 from pevudlo.document.pieces import Kind, first_command, piece_of
 from pevudlo.document.update import Update
-from pevudlo.document.watched import PERIOD, Watched
-from pevudlo.files import write_text
+from pevudlo.document.watched import PERIOD, Glimpse, Watched
+from pevudlo.files import put_text
 from pevudlo.lang.grammar import PROFILE_COMMAND, wrong_column
 from pevudlo.lang.replies import NoReply, parse
 from pevudlo.live.session import CHANGING, LISTED_A_STEP, Session, Stopped
@@ -72,7 +73,7 @@ class FollowedSession(Session):
         self._is_inside = is_inside
         super().__init__(place, workers, is_quiet)
         self.file = Watched(path)
-        self.text, self.done, self.is_away = "", Update(), False
+        self.text, self.done, self.missing = "", Update(), ""
         self.document = Document(lambda: SessionPeer(self), begin_second=self._begun_second)
         self._is_new = True
         self._over = threading.Event()
@@ -89,14 +90,25 @@ class FollowedSession(Session):
                 self.changed()
 
     def look(self) -> None:
-        """Takes the file's text where it is another."""
-        with self.lock:
-            text = self.file.news()
-            if text is not None and (text != self.text or not self.number):
-                self.take(text)
-            if self.file.is_lost() or (self.is_away and self.file.is_there):
-                self.is_away = not self.file.is_there
-                self.changed()
+        """Takes the file's text where it is another. No lock is held while the file is read.
+
+        Where what was seen is late twice, another thread has seen the file meanwhile.
+        """
+        for _ in range(2):
+            glimpse = self.file.look()
+            with self.lock:
+                if not self.file.is_late(glimpse):
+                    self._take_in(glimpse)
+                    return
+
+    def _take_in(self, glimpse: Glimpse) -> None:
+        """Takes in what was seen of the file. The lock is held."""
+        text = self.file.take(glimpse)
+        if text is not None and (text != self.text or not self.number):
+            self.take(text)
+        if self.file.missing != self.missing:
+            self.missing = self.file.missing
+            self.changed()
 
     def take(self, text: str, hold: bool = False) -> None:
         """Brings the program in step with a text."""
@@ -118,8 +130,8 @@ class FollowedSession(Session):
         Raises OtherText where the text isn't that of the number any more, ValueError where it has no such part, and
         OSError where the file can't be written.
         """
+        self.look()
         with self.lock:
-            self.look()
             if was != self.number:
                 raise OtherText
             raw = self.text.encode("utf-16-le", "surrogatepass")
@@ -131,8 +143,13 @@ class FollowedSession(Session):
     def _write(self, text: str, hold: bool) -> None:
         """Writes the file, and takes the text."""
         if text != self.text:
-            write_text(self.file.path, text)
+            self._put(text)
         self.take(text, hold)
+
+    def _put(self, text: str) -> None:
+        """Writes the file. What was seen of it before isn't taken in any more. Raises OSError."""
+        put_text(self.file.path, text)
+        self.file.was_written()
 
     # What is done on the page.
 
@@ -141,8 +158,8 @@ class FollowedSession(Session):
         word = line.split(" ")[0]
         if is_comment(line) or "\n" in line or word in LOOKS:
             return super().run(line, was)
+        self.look()
         with self.lock:
-            self.look()
             self._check_row(line, was)
             if word in CHANGING and word not in (PROFILE_COMMAND, *EDITING):
                 raise ValueError(BY_THEMSELVES)
@@ -175,7 +192,7 @@ class FollowedSession(Session):
             self.take(before)
             return Step(0, line, (refused,), parse([refused]), explanation=told)
         try:
-            write_text(self.file.path, self.text)
+            self._put(self.text)
         except OSError:
             self.take(before)
             raise
@@ -211,7 +228,7 @@ class FollowedSession(Session):
                     for number in range(max(0, first), min(last + 1, len(document.lines), first + MOST_LINES)):
                         mark = mark_of(document, number, self.done)
                         told.append([mark.state.name.lower(), mark.state.value, mark.text])
-                    away = "; the file isn't there, and this is its last text" if self.is_away else ""
+                    away = f"; {self.missing}, and this is its last text" if self.missing else ""
                     return {"number": self.number, "lines": told, "head": headline(document, self.done) + away}
             except (PipeError, NoReply):
                 pass

@@ -34,7 +34,7 @@ def send(data: bytes) -> None:
 def main(words: list[str]) -> int:
     """Serves until the editor ends it.
 
-    The exit status is 0 where it was shut down before, 1 where not, and 2 where words are wrong or no message comes.
+    The exit status is 0 where it was shut down before, 1 where not, and 2 where words are wrong or no frame comes.
     """
     said = arguments().parse_args(words)
     signal.signal(signal.SIGTERM, signal.default_int_handler)
@@ -43,7 +43,7 @@ def main(words: list[str]) -> int:
     try:
         with Server(sys.stdin.fileno(), send, lambda: peer_of(said.workers, is_large=True)) as server:
             return server.serve()
-    except KeyboardInterrupt:
+    except (KeyboardInterrupt, BrokenPipeError):
         return 1
     except NoFrame as error:
         print(f"paris lsp: {error}; an editor starts it, and talks with it", file=sys.stderr)

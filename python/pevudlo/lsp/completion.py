@@ -10,19 +10,16 @@ from pevudlo.lang.board import Board
 from pevudlo.lang.grammar import COMMANDS, commands
 from pevudlo.lang.instructions import INSTRUCTIONS
 from pevudlo.lsp.opened import Opened
-from pevudlo.lsp.positions import letter_at, units
 
 FUNCTION, FIELD, CLASS, VALUE, KEYWORD = 3, 5, 7, 12, 14
 
 
 def completion(file: Opened, params: dict[str, Any]) -> dict[str, Any]:
     """The words that may stand in the place of the one that the cursor is at."""
-    number, line = params["position"]["line"], file.line(params["position"]["line"])
-    before = line[: letter_at(line, params["position"]["character"])]
-    *words, begun = before.split(" ")
+    number, at = file.place(params["position"])
+    *words, begun = file.line(number)[:at].split(" ")
     board = file.document.board_above(number)
-    start = {"line": number, "character": units(before[: len(before) - len(begun)])}
-    where = {"start": start, "end": params["position"]}
+    where = file.span(number, at - len(begun), at)
     found = [word for word in offers(words, board) if word.startswith(begun)]
     return {"isIncomplete": False, "items": [item(word, board, where) for word in found]}
 

@@ -6,13 +6,13 @@ import re
 from collections.abc import Iterator
 from typing import Any, NamedTuple
 
+from pevudlo.document.answers import line_name, words_of
 from pevudlo.document.document import Document
+from pevudlo.document.lines import FormerRow, PassedOver, line_at
 from pevudlo.document.marks import note_on
-from pevudlo.document.pieces import Kind
 from pevudlo.hints.explanation import Explanation
 from pevudlo.lang.replies import Cause
 from pevudlo.lsp.opened import Opened
-from pevudlo.lsp.positions import span
 from pevudlo.lsp.spots import WORD, spots
 
 ERROR, WARNING, INFORMATION, HINT = 1, 2, 3, 4
@@ -37,38 +37,48 @@ class Mend(NamedTuple):
 def diagnostics(file: Opened, tells_pale: bool) -> list[dict[str, Any]]:
     """What is told of all lines. `tells_pale`: lines that are passed over are told too, for who draws them pale."""
     document, found, more = file.document, list[dict[str, Any]](), 0
-    lines, faults = document.lines, document.book.faults
+    faults = document.book.faults
     for number, shown in enumerate(document.shown):
         is_wrong = shown.refused or (faults and shown.row is not None and shown.row.book in faults)
         if is_wrong and len(found) >= MOST_TOLD:
             more += 1
         elif shown.refused:
-            found.append(refusal(document, number))
+            found.append(refusal(file, number))
         elif is_wrong:
-            found.append(told_of(number, lines[number], WARNING, fault_words(document, number)))
+            found.append(told_of(file, number, WARNING, fault_words(document, number)))
         elif (note := note_on(document, number)) and len(found) < MOST_TOLD:
-            found.append(told_of(number, lines[number], INFORMATION, note))
-        elif tells_pale and shown.kind is Kind.TIME and len(found) < MOST_TOLD:
-            said = told_of(number, lines[number], HINT, "rows run by themselves here, so this line is passed over")
-            found.append({**said, "tags": [UNNECESSARY]})
+            found.append(told_of(file, number, INFORMATION, note))
+        elif tells_pale and (words := pale_words(document, number)) and len(found) < MOST_TOLD:
+            found.append({**told_of(file, number, HINT, words), "tags": [UNNECESSARY]})
     if more:
-        found.append(told_of(len(lines) - 1, lines[-1], ERROR, f"{more:,} more lines are wrong"))
+        found.append(told_of(file, len(document.lines) - 1, ERROR, f"{more:,} more lines are wrong"))
     return found
 
 
-def told_of(number: int, line: str, severity: int, words: str) -> dict[str, Any]:
+def pale_words(document: Document, number: int) -> str:
+    """Why a line does nothing in the present program, though it is right; else nothing."""
+    match line_at(document, number):
+        case FormerRow() as line:
+            return f"this row is {words_of(line, line_name)}"
+        case PassedOver() as line:
+            return f"{words_of(line, line_name)}, so this line is passed over"
+        case _:
+            return ""
+
+
+def told_of(file: Opened, number: int, severity: int, words: str) -> dict[str, Any]:
     """What is told of a whole line."""
-    return {"range": span(number, line), "severity": severity, "source": "paris", "message": words}
+    return {"range": file.span(number), "severity": severity, "source": "paris", "message": words}
 
 
-def refusal(document: Document, number: int) -> dict[str, Any]:
+def refusal(file: Opened, number: int) -> dict[str, Any]:
     """Why a line is refused, at the word that is wrong where one is."""
+    document = file.document
     told = document.explanation(number)
     assert told is not None
-    line = document.lines[number]
     start, end = wrong_part(document, number, told)
     words = "\n".join(part for part in (told.hint, told.text, document.stays(number)) if part)
-    return {**told_of(number, line, ERROR, words), "range": span(number, line, start, end), "code": told.number}
+    return {**told_of(file, number, ERROR, words), "range": file.span(number, start, end), "code": told.number}
 
 
 def fault_words(document: Document, number: int) -> str:
@@ -109,14 +119,11 @@ def part_at(line: str, column: int) -> tuple[int, int]:
 
 def actions(file: Opened, params: dict[str, Any]) -> list[dict[str, Any]]:
     """What mends the lines of a range, where something is wrong there and it is known."""
-    asked = params["range"]
-    last = min(asked["end"]["line"], len(file.document.lines) - 1, asked["start"]["line"] + MOST_TOLD)
-    found = []
-    for number in range(asked["start"]["line"], last + 1):
-        line = file.document.lines[number]
-        theirs = [each for each in params["context"]["diagnostics"] if each["range"]["start"]["line"] == number]
+    found, told = [], params["context"]["diagnostics"]
+    for number in file.range_of(params["range"])[: MOST_TOLD + 1]:
+        theirs = [each for each in told if file.place(each["range"]["start"])[0] == number]
         for mend in mends(file.document, number):
-            edits = [{"range": span(number, line, *part), "newText": mend.text} for part in mend.parts]
+            edits = [{"range": file.span(number, *part), "newText": mend.text} for part in mend.parts]
             action = {"title": mend.title, "kind": "quickfix", "edit": {"changes": {file.uri: edits}}}
             found.append({**action, "diagnostics": theirs, "isPreferred": True})
     return found

@@ -4,11 +4,11 @@ from __future__ import annotations
 
 from typing import Any
 
-from pevudlo.document.origins import input_lines, lines_of_rows, place_before, writer
+from pevudlo.document.answers import instruction_at, sources_of
+from pevudlo.document.lines import RowTaker, line_at
 from pevudlo.lang.grammar import is_name
 from pevudlo.lsp.failures import INVALID_PARAMS, Failed
 from pevudlo.lsp.opened import Opened
-from pevudlo.lsp.positions import Range, span
 from pevudlo.lsp.spots import all_spots, declaration_of, name_at, place_of
 
 Location = dict[str, Any]
@@ -17,7 +17,7 @@ TEXT, READ, WRITE = 1, 2, 3
 
 def location(file: Opened, number: int, start: int = 0, end: int | None = None) -> Location:
     """A part of a line of the file."""
-    return {"uri": file.uri, "range": span(number, file.line(number), start, end)}
+    return {"uri": file.uri, "range": file.span(number, start, end)}
 
 
 def declaration(file: Opened, params: dict[str, Any]) -> list[Location]:
@@ -27,16 +27,19 @@ def declaration(file: Opened, params: dict[str, Any]) -> list[Location]:
 
 
 def definition(file: Opened, params: dict[str, Any]) -> list[Location]:
-    """The row that the value under the cursor comes from; at the start its input data, or its declaration."""
+    """The row that the value under the cursor comes from; at the start its input data, or its declaration. Of a line
+    that takes out a row it is that row's line.
+    """
     place, document = place_of(file, params), file.document
-    if place.number >= len(document.lines) or not name_at(place) or document.book.board.set_of(place.word) is None:
+    if place.number >= len(document.lines):
+        return []
+    line = line_at(document, place.number)
+    if isinstance(line, RowTaker):
+        return [location(file, line.of)]
+    if not name_at(place) or document.book.board.set_of(place.word) is None:
         return declaration(file, params)
-    row = writer(document, place.word, place_before(document, place.number))
-    number = None if row is None else lines_of_rows(document).get(row)
-    if number is not None:
-        return [location(file, number)]
-    given = [location(file, each) for each in input_lines(document, place.word) if each != place.number]
-    return given or declaration(file, params)
+    found = [location(file, each) for each in sources_of(document, place.number, place.word) if each != place.number]
+    return found or declaration(file, params)
 
 
 def references(file: Opened, params: dict[str, Any]) -> list[Location]:
@@ -56,9 +59,9 @@ def highlights(file: Opened, params: dict[str, Any]) -> list[dict[str, Any]]:
     found = []
     for number, spot in all_spots(file.document):
         if spot.name == name:
-            row = file.document.shown[number].row
-            is_written = spot.is_declared_here or (row is not None and name in board.keys_written(row.text))
-            where = span(number, file.document.lines[number], spot.start, spot.end)
+            text = instruction_at(file.document, number)
+            is_written = spot.is_declared_here or (text and name in board.keys_written(text))
+            where = file.span(number, spot.start, spot.end)
             found.append({"range": where, "kind": WRITE if is_written else READ})
     return found
 
@@ -69,8 +72,7 @@ def prepare_rename(file: Opened, params: dict[str, Any]) -> dict[str, Any] | Non
     name = name_at(place)
     if declaration_of(file.document, name) is None:
         return None
-    where: Range = span(place.number, place.line, place.start, place.start + len(name))
-    return {"range": where, "placeholder": name}
+    return {"range": file.span(place.number, place.start, place.start + len(name)), "placeholder": name}
 
 
 def rename(file: Opened, params: dict[str, Any]) -> dict[str, Any]:
@@ -84,7 +86,7 @@ def rename(file: Opened, params: dict[str, Any]) -> dict[str, Any]:
     if new != old and (new in board.fields or new in board.sets):
         raise Failed(INVALID_PARAMS, f"`{new}` is declared already")
     edits = [
-        {"range": span(number, file.document.lines[number], spot.start, spot.end), "newText": new}
+        {"range": file.span(number, spot.start, spot.end), "newText": new}
         for number, spot in all_spots(file.document)
         if spot.name == old
     ]

@@ -2,12 +2,12 @@
 
 from __future__ import annotations
 
-from collections.abc import Callable
+from collections.abc import Callable, Sequence
 from typing import Any
 
 from pevudlo.document.document import Document
 from pevudlo.document.update import Update
-from pevudlo.lsp.positions import edited, paired
+from pevudlo.lsp.positions import Letter, Position, Range, laid_out
 from pevudlo.progress import PROGRESS, Progress
 from pevudlo.wire.peers import Peer
 
@@ -20,19 +20,24 @@ class Opened:
 
     def __init__(self, uri: str, text: str, version: int, begin: Callable[[], Peer], told: Progress = PROGRESS) -> None:
         self.uri, self.version = uri, version
-        self.lines = paired(text).split("\n")
+        self._layout = laid_out(text)
         self.document = Document(begin, told)
         self.done = Update()
         self.told: object = None
         self.is_old, self.is_saved = True, False
         self.trouble = ""
 
+    @property
+    def lines(self) -> Sequence[str]:
+        """The lines of the text. Behind a line feed at its end there is an empty one."""
+        return self._layout.lines
+
     def change(self, changes: list[dict[str, Any]], version: int) -> None:
         """Takes in what was typed, all of it or nothing."""
-        lines = self.lines
+        layout = self._layout
         for change in changes:
-            lines = edited(lines, change)
-        self.lines, self.version, self.is_old = lines, version, True
+            layout = layout.edited(change)
+        self._layout, self.version, self.is_old = layout, version, True
 
     def save(self) -> None:
         """The text is as it is meant: no row is held."""
@@ -40,11 +45,34 @@ class Opened:
 
     def renew(self) -> None:
         """Brings the document in step. Raises as its update does."""
-        lines = self.lines[:-1] if self.lines[-1] == "" else self.lines
+        lines = self.lines
         is_saved, self.is_saved, self.is_old = self.is_saved, False, False
-        self.done = self.document.update_lines(list(lines), hold=not is_saved)
+        self.done = self.document.update_lines(list(lines[:-1] if lines[-1] == "" else lines), hold=not is_saved)
 
     def line(self, number: int) -> str:
         """A line of the text that the document has; an empty one behind it."""
         lines = self.document.lines
         return lines[number] if 0 <= number < len(lines) else ""
+
+    # Positions in the text, which are also those of the document once it is in step.
+
+    def place(self, position: Position) -> Letter:
+        """The letter at a position."""
+        return self._layout.place(position)
+
+    def position(self, number: int, letter: int) -> Position:
+        """The position of a letter of a line."""
+        return self._layout.position(number, letter)
+
+    def span(self, number: int, start: int = 0, end: int | None = None) -> Range:
+        """A part of a line, by its letters; without them all of it."""
+        return self._layout.span(number, start, end)
+
+    def range_of(self, asked: Range) -> range:
+        """The lines of the document that a range has a part of."""
+        (first, _), (last, _) = (self.place(asked[side]) for side in ("start", "end"))
+        return range(first, min(last + 1, len(self.document.lines)))
+
+    def row_of(self, number: int) -> int:
+        """The first line of the protocol in a line."""
+        return self._layout.first(number)

@@ -2,9 +2,16 @@
 
 from __future__ import annotations
 
+from bisect import bisect_right
+from collections.abc import Sequence
+from itertools import accumulate
 from typing import Any
 
-Range = dict[str, dict[str, int]]
+Position = dict[str, int]
+Range = dict[str, Position]
+Letter = tuple[int, int]
+"""A line of a script, and a letter in it."""
+
 PAIR = 0xFFFF
 """A letter above it takes two units."""
 
@@ -26,33 +33,72 @@ def letter_at(text: str, character: int) -> int:
     return len(text)
 
 
-def span(number: int, text: str, start: int = 0, end: int | None = None) -> Range:
-    """A part of a line, by its letters; without them all of it."""
-    stop = len(text) if end is None else end
-    return {
-        "start": {"line": number, "character": units(text[:start])},
-        "end": {"line": number, "character": units(text[:stop])},
-    }
-
-
 def paired(text: str) -> str:
     """The text in which halves of pairs of UTF-16 are pairs, and one that is alone is a sign for that."""
     return text.encode("utf-16-le", "surrogatepass").decode("utf-16-le", "replace")
 
 
-def edited(lines: list[str], change: dict[str, Any]) -> list[str]:
-    """The lines of a text behind a change: of a range of it, or of all. Positions behind the text are its end."""
-    put = paired(change["text"])
-    if "range" not in change:
-        return put.split("\n")
-    start, end = (place_in(lines, change["range"][side]) for side in ("start", "end"))
-    text = lines[start[0]][: start[1]] + put + lines[end[0]][end[1] :]
-    return [*lines[: start[0]], *text.split("\n"), *lines[end[0] + 1 :]]
+class Layout:
+    """The lines of a script, with the positions in them that the protocol counts.
+
+    A line of a script ends at a line feed alone. One of the protocol ends at a carriage return too, and at both
+    together. `may_return` says whether some line may have a carriage return.
+    """
+
+    def __init__(self, lines: Sequence[str], may_return: bool = True) -> None:
+        self.lines, self.may_return = lines, may_return
+        counts = [len(self.parts(at)) for at in range(len(lines))] if may_return else []
+        # How many lines of the protocol stand above each line, where they aren't as many as those of the script.
+        self._above = list(accumulate(counts, initial=0)) if sum(counts) > len(lines) else None
+
+    def parts(self, number: int) -> list[str]:
+        """The lines of the protocol in a line of the script."""
+        line = self.lines[number]
+        if "\r" not in line:
+            return [line]
+        is_ended = number < len(self.lines) - 1
+        return (line.removesuffix("\r") if is_ended else line).split("\r")
+
+    def first(self, number: int) -> int:
+        """The first line of the protocol in a line of the script."""
+        return number if self._above is None else self._above[number]
+
+    def position(self, number: int, letter: int) -> Position:
+        """The position of a letter of a line. That of the carriage return before a line feed is the line's end."""
+        row, (part, *rest) = self.first(number), self.parts(number)
+        for other in rest:
+            if letter <= len(part):
+                break
+            row, letter, part = row + 1, letter - len(part) - 1, other
+        return {"line": row, "character": units(part[:letter])}
+
+    def span(self, number: int, start: int = 0, end: int | None = None) -> Range:
+        """A part of a line, by its letters; without them all of it."""
+        stop = len(self.lines[number]) if end is None else end
+        return {"start": self.position(number, start), "end": self.position(number, stop)}
+
+    def place(self, position: Position) -> Letter:
+        """The letter at a position. One behind its line is at the line's end, and one behind the text at its end."""
+        row = position["line"]
+        number = row if self._above is None else bisect_right(self._above, row) - 1
+        parts = self.parts(number) if number < len(self.lines) else []
+        at = row - self.first(number) if parts else 0
+        if at >= len(parts):
+            return len(self.lines) - 1, len(self.lines[-1])
+        return number, sum(len(part) + 1 for part in parts[:at]) + letter_at(parts[at], position["character"])
+
+    def edited(self, change: dict[str, Any]) -> Layout:
+        """The lines behind a change: of a range of the text, or of all. A range may be said from its end."""
+        put = paired(change["text"])
+        may_return = "\r" in put
+        if "range" not in change:
+            return Layout(put.split("\n"), may_return)
+        start, end = sorted(self.place(change["range"][side]) for side in ("start", "end"))
+        text = self.lines[start[0]][: start[1]] + put + self.lines[end[0]][end[1] :]
+        lines = [*self.lines[: start[0]], *text.split("\n"), *self.lines[end[0] + 1 :]]
+        return Layout(lines, may_return or self.may_return)
 
 
-def place_in(lines: list[str], position: dict[str, int]) -> tuple[int, int]:
-    """A line, and a letter in it. There is a line at least."""
-    number = position["line"]
-    if number >= len(lines):
-        return len(lines) - 1, len(lines[-1])
-    return number, letter_at(lines[number], position["character"])
+def laid_out(text: str) -> Layout:
+    """The lines of a whole text."""
+    return Layout(paired(text).split("\n"), "\r" in text)

@@ -7,7 +7,6 @@ one update.
 
 from __future__ import annotations
 
-import json
 import os
 import select
 import threading
@@ -18,7 +17,7 @@ from typing import Any
 
 from pevudlo.document.marks import headline
 from pevudlo.lang.replies import NoReply
-from pevudlo.lsp.answers import ANSWERS, CAPABILITIES, Client, client_of
+from pevudlo.lsp.client import CAPABILITIES, Client, client_of
 from pevudlo.lsp.diagnostics import diagnostics, told_of, ERROR
 from pevudlo.lsp.failures import (
     CANCELLED,
@@ -27,11 +26,12 @@ from pevudlo.lsp.failures import (
     INVALID_REQUEST,
     METHOD_NOT_FOUND,
     NOT_INITIALIZED,
-    PARSE_ERROR,
     REQUEST_FAILED,
     Failed,
 )
-from pevudlo.lsp.frames import Frames, Message, framed
+from pevudlo.lsp.frames import Frames, NoFrame, framed
+from pevudlo.lsp.messages import Identity, NoMessage, Notice, Reply, Request, read_message
+from pevudlo.lsp.methods import METHODS, Answer, Role
 from pevudlo.lsp.opened import Opened
 from pevudlo.lsp.told import Told
 from pevudlo.progress import DELAY, PROGRESS, Later
@@ -50,9 +50,6 @@ CHUNK = 1 << 20
 SAID = (PipeError, NotFound, NoReply)
 """Why there is no book of a text, in words of their own."""
 
-WRONG = (KeyError, TypeError, ValueError, IndexError, AttributeError)
-"""What is raised where parameters aren't those of the protocol."""
-
 
 class Server:
     """A server that reads from a file descriptor. `send` writes bytes, and `begin` starts a peer."""
@@ -60,10 +57,11 @@ class Server:
     def __init__(self, source: int, send: Callable[[bytes], object], begin: Callable[[], Peer]) -> None:
         self.files: dict[str, Opened] = {}
         self._source, self._write, self._begin = source, send, begin
-        self._frames, self._queue = Frames(), deque[Message]()
-        self._cancelled: set[object] = set()
+        self._frames, self._queue = Frames(), deque[Request | Notice]()
+        self._cancelled: set[Identity] = set()
         self._client = Client()
         self._is_begun = self._is_shut = self._is_ended = False
+        self._broken: NoFrame | None = None
         self._asked, self._lock = 0, threading.Lock()
         self.status: int | None = None
 
@@ -82,6 +80,8 @@ class Server:
             if self._queue:
                 self._take(self._queue.popleft())
                 self._read(0.0)
+            elif self._broken is not None:
+                raise self._broken
             elif self._is_ended:
                 self.status = 1
             elif not self._read(PAUSE if self._has_old() else None):
@@ -90,36 +90,44 @@ class Server:
         return self.status
 
     def _read(self, seconds: float | None) -> bool:
-        """Takes in what comes within so many seconds. False where nothing does."""
-        if self._is_ended or not select.select([self._source], [], [], seconds)[0]:
+        """Takes in what comes within so many seconds. False where nothing does, or it can't be read any more."""
+        if self._is_ended or self._broken is not None or not select.select([self._source], [], [], seconds)[0]:
             return False
         data = os.read(self._source, CHUNK)
         self._is_ended = not data
         self._frames.feed(data)
-        while (body := self._frames.body()) is not None:
-            self._arrive(body)
+        try:
+            while (body := self._frames.body()) is not None:
+                self._arrive(body)
+        except NoFrame as error:
+            # What came before it is answered first.
+            self._broken = error
         return True
 
     def _arrive(self, body: bytes) -> None:
         """Puts a message behind those that wait. A request that is cancelled while it waits is marked."""
         try:
-            message = json.loads(body)
-        except (ValueError, RecursionError):
-            self._send(id=None, error={"code": PARSE_ERROR, "message": "a body is no JSON"})
+            message = read_message(body)
+        except NoMessage as failed:
+            self._send(id=failed.identity, error={"code": failed.code, "message": str(failed)})
             return
-        if not isinstance(message, dict):
-            self._send(id=None, error={"code": INVALID_REQUEST, "message": "a message is an object"})
-        elif message.get("method") == "$/cancelRequest":
-            number = (message.get("params") or {}).get("id")
-            if any(waiting.get("id") == number for waiting in self._queue if "method" in waiting):
-                self._cancelled.add(number)
-        else:
-            self._queue.append(message)
+        match message:
+            case Notice("$/cancelRequest", {"id": number}, ""):
+                if any(isinstance(waiting, Request) and waiting.identity == number for waiting in self._queue):
+                    self._cancelled.add(number)
+            case Request() | Notice():
+                self._queue.append(message)
+            case Reply():
+                pass
 
     def _send(self, **message: Any) -> None:
         """Sends a message, whole, from any thread."""
+        self._put(framed(message))
+
+    def _put(self, frame: bytes) -> None:
+        """Writes a frame, whole, from any thread."""
         with self._lock:
-            self._write(framed(message))
+            self._write(frame)
 
     def _tell(self, method: str, **params: Any) -> None:
         """Tells the client something."""
@@ -130,85 +138,93 @@ class Server:
         self._asked += 1
         self._send(id=f"paris-{self._asked}", method=method, params=params)
 
-    def _take(self, message: Message) -> None:
-        """Answers a request, or does what is told. An answer of the client says nothing."""
-        method, params = message.get("method"), message.get("params") or {}
-        if not isinstance(method, str):
-            return
-        if "id" not in message:
-            self._note(method, params)
-            return
+    def _take(self, message: Request | Notice) -> None:
+        """Answers a request, or does what is told."""
+        if isinstance(message, Notice):
+            self._note(message)
+        else:
+            self._put(self._answered(message))
+
+    def _answered(self, request: Request) -> bytes:
+        """The answer to a request, in its frame. One request may fail, and the server goes on."""
         try:
-            self._send(id=message["id"], result=self._answer(method, params, message["id"]))
+            return framed({"id": request.identity, "result": self._result(request)})
         except Failed as failed:
-            self._send(id=message["id"], error={"code": failed.code, "message": str(failed)})
-
-    def _answer(self, method: str, params: Any, number: object) -> Any:
-        """The result of a request. Raises Failed where it has none."""
-        if number in self._cancelled:
-            self._cancelled.discard(number)
-            raise Failed(CANCELLED, "the request was cancelled")
-        if method == "initialize" and not self._is_begun:
-            return self._initialize(params)
-        if not self._is_begun:
-            raise Failed(NOT_INITIALIZED, "the first request is `initialize`")
-        if self._is_shut or method == "initialize":
-            raise Failed(INVALID_REQUEST, "the server is shut down" if self._is_shut else "it is initialized already")
-        if method == "shutdown":
-            self._is_shut = True
-            return None
-        if method not in ANSWERS:
-            raise Failed(METHOD_NOT_FOUND, f"there is no method {method}")
-        try:
-            return self._of_file(method, params)
-        except WRONG as error:
-            raise Failed(INVALID_PARAMS, f"{method}: {type(error).__name__}: {error}") from error
+            code, words = failed.code, str(failed)
         except Exception as error:
-            if isinstance(error, Failed):
-                raise
-            raise Failed(INTERNAL_ERROR, f"{method}: {type(error).__name__}: {error}") from error
+            code, words = INTERNAL_ERROR, f"{request.method}: {type(error).__name__}: {error}"
+        return framed({"id": request.identity, "error": {"code": code, "message": words}})
 
-    def _of_file(self, method: str, params: Any) -> Any:
+    def _result(self, request: Request) -> Any:
+        """The result of a request. Raises Failed where it has none."""
+        if request.identity in self._cancelled:
+            self._cancelled.discard(request.identity)
+            raise Failed(CANCELLED, "the request was cancelled")
+        is_first = request.method == "initialize"
+        if not self._is_begun and not is_first:
+            raise Failed(NOT_INITIALIZED, "the first request is `initialize`")
+        if self._is_shut or (self._is_begun and is_first):
+            raise Failed(INVALID_REQUEST, "the server is shut down" if self._is_shut else "it is initialized already")
+        known = METHODS.get(request.method)
+        if known is None or known.role is not Role.REQUEST:
+            raise Failed(METHOD_NOT_FOUND, f"there is no method {request.method} that is answered")
+        if request.wrong:
+            raise Failed(INVALID_PARAMS, f"{request.method}: {request.wrong}")
+        if known.answer is not None:
+            return self._of_file(known.answer, request.params)
+        if is_first:
+            return self._initialize(request.params or {})
+        self._is_shut = True
+        return None
+
+    def _of_file(self, answer: Answer, params: Any) -> Any:
         """The result of a request about a file. Where the program has ended since, it is begun anew, once."""
         file = self._file(params)
         self._renew(file)
         try:
-            return ANSWERS[method](file, params, self._client)
+            return answer(file, params, self._client)
         except PipeError:
             file.is_old = True
             self._renew(file)
             try:
-                return ANSWERS[method](file, params, self._client)
+                return answer(file, params, self._client)
             except PipeError as error:
                 raise Failed(REQUEST_FAILED, str(error)) from error
 
-    def _initialize(self, params: Any) -> dict[str, Any]:
+    def _initialize(self, params: dict[str, Any]) -> dict[str, Any]:
         """What this server can do."""
-        capabilities = params.get("capabilities") if isinstance(params, dict) else None
-        self._client = client_of(capabilities or {})
+        self._client = client_of(params.get("capabilities"))
         self._is_begun = True
         return {"serverInfo": {"name": "paris", "version": release()}, "capabilities": CAPABILITIES}
 
     # Files.
 
-    def _note(self, method: str, params: Any) -> None:
+    def _note(self, notice: Notice) -> None:
         """Does what the client tells. What isn't of the protocol is said to it, and changes nothing."""
-        if method == "exit":
+        if notice.method == "exit":
             self.status = 0 if self._is_shut else 1
         if self._is_shut or not self._is_begun:
             return
         try:
-            match method:
-                case "textDocument/didOpen":
-                    self._open(params["textDocument"])
-                case "textDocument/didChange":
-                    self._file(params).change(params["contentChanges"], params["textDocument"].get("version", 0))
-                case "textDocument/didSave":
-                    self._file(params).save()
-                case "textDocument/didClose":
-                    self._close(self._file(params))
-        except (Failed, *WRONG) as error:
-            self._tell("window/logMessage", type=ERROR, message=f"{method}: {type(error).__name__}: {error}")
+            if notice.wrong:
+                raise Failed(INVALID_PARAMS, notice.wrong)
+            self._do(notice.method, notice.params)
+        except Failed as failed:
+            self._tell("window/logMessage", type=ERROR, message=f"{notice.method}: {failed}")
+        except Exception as error:
+            self._tell("window/logMessage", type=ERROR, message=f"{notice.method}: {type(error).__name__}: {error}")
+
+    def _do(self, method: str, params: Any) -> None:
+        """Does what a notice in its shape tells. Of methods that aren't known nothing is done. Raises Failed."""
+        match method:
+            case "textDocument/didOpen":
+                self._open(params["textDocument"])
+            case "textDocument/didChange":
+                self._file(params).change(params["contentChanges"], params["textDocument"].get("version") or 0)
+            case "textDocument/didSave":
+                self._file(params).save()
+            case "textDocument/didClose":
+                self._close(self._file(params))
 
     def _file(self, params: Any) -> Opened:
         """The open file that a message is about. Raises Failed where it isn't open."""
@@ -250,7 +266,7 @@ class Server:
                 found = diagnostics(file, self._client.draws_pale)
             except Exception as error:
                 file.trouble = str(error) if isinstance(error, SAID) else f"{type(error).__name__}: {error}"
-                found = [told_of(0, file.lines[0], ERROR, f"no values: {file.trouble}")]
+                found = [told_of(file, 0, ERROR, f"no values: {file.trouble}")]
             self._publish(file, found)
             if not file.trouble:
                 self._tell_values(file)

@@ -12,7 +12,6 @@ from pevudlo.document.document import Document
 from pevudlo.document.pieces import DECLARING, Kind, Piece, piece_of
 from pevudlo.lang.instructions import FIELDS, INSTRUCTIONS, NONE, Operand
 from pevudlo.lsp.opened import Opened
-from pevudlo.lsp.positions import letter_at
 
 WORD = re.compile(r"[^ ]+")
 MOST_WORDS = 16
@@ -53,9 +52,8 @@ class Place(NamedTuple):
 
 def place_of(file: Opened, params: dict[str, Any]) -> Place:
     """The word that a request is about; an empty one where the cursor is at none."""
-    number = int(params["position"]["line"])
+    number, at = file.place(params["position"])
     line = file.line(number)
-    at = letter_at(line, params["position"]["character"])
     for word in WORD.finditer(line):
         if word.start() <= at <= word.end():
             return Place(number, line, word.start(), word.end())

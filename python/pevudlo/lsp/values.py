@@ -5,10 +5,10 @@ from __future__ import annotations
 from collections.abc import Iterator
 from typing import Any, NamedTuple
 
+from pevudlo.document.answers import mark_of, place_read, row_at, words_at
 from pevudlo.document.document import Document
-from pevudlo.document.marks import mark_of
 from pevudlo.document.meaning import FileRow
-from pevudlo.document.origins import input_lines, lines_of_rows, place_before, row_before, writer
+from pevudlo.document.origins import input_lines, lines_of_rows, row_before, writer
 from pevudlo.document.pieces import Kind
 from pevudlo.document.states import State
 from pevudlo.draw.arrays import differing
@@ -16,7 +16,6 @@ from pevudlo.draw.grids import Grid, shape_text, text_of
 from pevudlo.lang.instructions import INSTRUCTIONS, read
 from pevudlo.lang.keys import axes_of, context_of, width_of
 from pevudlo.lsp.opened import Opened
-from pevudlo.lsp.positions import span, units
 from pevudlo.lsp.spots import Place, name_at, place_of
 from pevudlo.record.earlier import Numbers
 from pevudlo.reference.entry import Entry
@@ -27,31 +26,32 @@ MOST_LINES = 400
 """So many lines have values where more are asked for, as for a whole file."""
 
 COLUMNS = 96
-SIGNS = {State.NEW: "▶ ", State.SAME: "= "}
+SIGNS = {State.NEW: "▶ ", State.SAME: "= ", State.KEPT: "", State.GONE: "- ", State.LOOK: ""}
+"""What stands before short values. Lines in other states have none."""
+
 STORES_NOTHING = "! it stores nothing"
 
 
 def hints(file: Opened, params: dict[str, Any]) -> list[dict[str, Any]]:
     """The short values of the lines of a range."""
-    first, last = params["range"]["start"]["line"], params["range"]["end"]["line"]
     found: list[dict[str, Any]] = []
-    for number in range(first, min(last + 1, len(file.document.lines))):
+    for number in file.range_of(params["range"]):
         text = hint(file, number) if len(found) < MOST_LINES else ""
         if text:
-            place = {"line": number, "character": units(file.document.lines[number])}
+            place = file.position(number, len(file.document.lines[number]))
             found.append({"position": place, "label": text, "paddingLeft": True})
     return found
 
 
 def hint(file: Opened, number: int) -> str:
-    """The short values of a line, or nothing."""
+    """The short values of a line, or what became of its row. Why a line is refused is told elsewhere."""
     shown = file.document.shown[number]
-    if shown.refused or not (shown.row is not None or shown.kind is Kind.SHOW):
+    if shown.refused:
         return ""
     if shown.row is not None and shown.row.book in file.document.book.faults:
         return STORES_NOTHING
     mark = mark_of(file.document, number, file.done)
-    return SIGNS.get(mark.state, "") + mark.text
+    return SIGNS[mark.state] + mark.text if mark.state in SIGNS else ""
 
 
 class Part(NamedTuple):
@@ -69,7 +69,7 @@ def hover(file: Opened, params: dict[str, Any], is_marked: bool) -> dict[str, An
         return None
     texts = [marked(part) if is_marked else f"{part.words}\n{part.block}".rstrip() for part in parts]
     contents = {"kind": "markdown" if is_marked else "plaintext", "value": "\n\n".join(texts)}
-    return {"contents": contents, "range": span(place.number, place.line, place.start, place.end)}
+    return {"contents": contents, "range": file.span(place.number, place.start, place.end)}
 
 
 def marked(part: Part) -> str:
@@ -79,25 +79,22 @@ def marked(part: Part) -> str:
 
 def parts_of(document: Document, place: Place) -> Iterator[Part]:
     """What is said of a word."""
-    shown, board = document.shown[place.number], document.book.board
-    told = document.explanation(place.number)
-    if told is not None:
-        yield Part(". ".join(part for part in (told.text, told.hint) if part))
+    board, row = document.book.board, row_at(document, place.number)
+    said = words_at(document, place.number)
+    if said and place.word:
+        yield Part(said)
     is_first = place.start == 0
     if place.word in INSTRUCTIONS or (is_first and place.word):
         yield from (of_reference(entry) for entry in find(place.word))
     name = name_at(place)
-    key = place.word if name and board.set_of(place.word) is not None else ""
-    if shown.refused and shown.row is None:
-        return
-    if key:
-        yield from of_key(document, place.number, key)
+    if name and board.set_of(place.word) is not None:
+        yield from of_key(document, place.number, place.word)
     elif name in board.sets:
         yield Part(f"set `{name}`: {shape_text(board.sets[name])}")
-        if shown.row is not None:
-            yield from behind(document, shown.row)
-    elif place.word in INSTRUCTIONS and shown.row is not None:
-        yield from behind(document, shown.row)
+        if row is not None:
+            yield from behind(document, row)
+    elif place.word in INSTRUCTIONS and row is not None:
+        yield from behind(document, row)
 
 
 def of_reference(entry: Entry) -> Part:
@@ -109,23 +106,21 @@ def of_reference(entry: Entry) -> Part:
 
 def of_key(document: Document, number: int, key: str) -> Iterator[Part]:
     """The values of a key at a line: what is read there, where it comes from, and what the row leaves."""
-    shown, board = document.shown[number], document.book.board
+    board, row = document.book.board, row_at(document, number)
     head = f"`{key}`: {bits_text(width_of(board, key))} in `{board.set_of(key)}`"
-    if shown.kind in (Kind.FIELD, Kind.INPUT):
-        yield Part(f"{head}, at the start", grid(document, key, document.book.look(key, None)))
-        return
-    at = place_before(document, number)
-    yield Part(f"{head}, {came_from(document, key, at)}", grid(document, key, document.book.look(key, at)))
-    if shown.row is not None and key in board.keys_written(shown.row.text):
-        yield from behind(document, shown.row, key)
+    last = place_read(document, number)
+    is_start = document.shown[number].kind in (Kind.FIELD, Kind.INPUT)
+    origin = "at the start" if is_start else came_from(document, key, last)
+    yield Part(f"{head}, {origin}", grid(document, key, document.book.look(key, last)))
+    if row is not None and key in board.keys_written(row.text):
+        yield from behind(document, row, key)
 
 
 def came_from(document: Document, key: str, last: FileRow | None) -> str:
     """Where a value comes from, in words."""
     row = writer(document, key, last)
     if row is not None:
-        number = lines_of_rows(document).get(row)
-        return f"from the row `{row.text}`" + ("" if number is None else f" in line {number + 1}")
+        return f"from the row `{row.text}` in line {lines_of_rows(document)[row] + 1}"
     given = [str(number + 1) for number in input_lines(document, key)]
     if not given:
         return "as it was declared"

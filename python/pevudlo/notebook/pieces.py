@@ -4,14 +4,13 @@ from __future__ import annotations
 
 from collections.abc import Callable
 
+from pevudlo.document.answers import mark_of, values_at
 from pevudlo.document.document import Document, library_or_program
-from pevudlo.document.marks import mark_of, refusal_text
-from pevudlo.document.pieces import BARE, Kind
-from pevudlo.document.states import Mark, State
+from pevudlo.document.pieces import BARE
+from pevudlo.document.states import State
 from pevudlo.document.update import Update
 from pevudlo.files import lines_of_text
 from pevudlo.notebook.drawn import Drawn, Line
-from pevudlo.record.earlier import Numbers
 from pevudlo.wire.peers import Peer
 
 Known = tuple[object, ...]
@@ -74,30 +73,31 @@ class Pieces:
         drawn: dict[str, Drawn] = {}
         at = 0
         for name, lines in pieces.items():
-            numbers = range(at, at + len(lines))
+            told = [self._line(number, name) for number in range(at, at + len(lines))]
             at += len(lines)
-            marks = [mark_of(self.document, number, self.done) for number in numbers]
-            self._known[name] = [self._known_of(number) for number in numbers]
-            is_other = self._known[name] != before.get(name) or any(mark.state is State.NEW for mark in marks)
+            self._known[name] = [known_of(line) for line in told]
+            is_other = self._known[name] != before.get(name) or any(line.mark.state is State.NEW for line in told)
             if name == asked or is_other:
-                told = [self._line(number, mark) for number, mark in zip(numbers, marks)]
                 drawn[name] = Drawn(name, name == asked, told, self.document, self.done)
         return drawn
 
-    def _known_of(self, number: int) -> Known:
-        """What a line is and gives, but for the rows that ran."""
-        shown, why = self.document.shown[number], ""
-        if shown.refused:
-            why = refusal_text(self.document, number)
-        elif shown.row is not None and shown.row.book in self.document.book.faults:
-            why = self.document.book.cause(shown.row)
-        return self.document.lines[number], why, self._look(number)
+    def _line(self, number: int, name: str) -> Line:
+        """A line of the piece of a name, to be drawn."""
+        document = self.document
+        mark = mark_of(document, number, self.done, named=lambda other: self._name_of(other, name))
+        key = document.shown[number].key
+        return Line(document.lines[number], mark, key, values_at(document, number).get(key) if key else None)
 
-    def _look(self, number: int) -> Numbers | None:
-        """The numbers of a look."""
-        shown = self.document.shown[number]
-        return self.document.look(number) if shown.kind is Kind.SHOW and not shown.refused else None
+    def _name_of(self, number: int, here: str) -> str:
+        """A line of all of them, as it is named in the piece of a name: by its place in its own piece."""
+        for name, lines in self._pieces.items():
+            if number < len(lines):
+                return f"line {number + 1}" + (f" of {name}" if name != here else "")
+            number -= len(lines)
+        raise IndexError(number)
 
-    def _line(self, number: int, mark: Mark) -> Line:
-        """A line, to be drawn."""
-        return Line(self.document.lines[number], mark, self.document.shown[number].key, self._look(number))
+
+def known_of(line: Line) -> Known:
+    """What a line is and gives, but for the rows that ran."""
+    has_values = line.mark.state in (State.NEW, State.SAME, State.KEPT, State.LOOK)
+    return line.text, "" if has_values else line.mark.text, line.numbers
