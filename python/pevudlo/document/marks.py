@@ -41,7 +41,7 @@ def short(numbers: Sequence[int], before: Numbers | None, width: int, most: int 
 
 
 def refusal_text(document: Document, number: int) -> str:
-    """Why a line is refused, the hint first, and what stays where it is held: the words of all views that are narrow."""
+    """Why a line is refused, the hint first, and what stays where it is held: the words of all narrow views."""
     told = document.explanation(number)
     assert told is not None
     return "; ".join(part for part in (told.in_one_line(), document.stays(number)) if part)
