@@ -19,7 +19,7 @@ LOW = {
     "draw": "",
     "values": "draw lang",
     "wire": "interrupts lang values",
-    "hints": "draw lang",
+    "hints": "draw lang reference",
     "record": "draw hints lang progress values wire",
     "reference": "lang",
 }
