@@ -6,13 +6,16 @@ import os
 import re
 import subprocess
 import sys
-from collections.abc import Callable
+from collections.abc import Callable, Iterator
+from pathlib import Path
 from random import Random
 
 import pytest
 from lessons import Block, expected, parts, scripts
 from paris_model_book import Book
 
+from pevudlo.prompt.help import help_for
+from pevudlo.reference import idioms
 from pevudlo.reference.idioms import Idiom, find, page, sections
 from pevudlo.wire.pipe import Pipe
 from pevudlo.wire.program import ROOT, find as find_program
@@ -128,6 +131,32 @@ def test_the_loop_in_python_writes_what_the_page_says() -> None:
     words = [sys.executable, "-c", program]
     ran = subprocess.run(words, capture_output=True, text=True, timeout=60, env=environment)
     assert (ran.stdout, ran.stderr, ran.returncode) == (written, "", 0)
+
+
+@pytest.fixture
+def places(monkeypatch: pytest.MonkeyPatch, tmp_path: Path) -> Iterator[list[Path]]:
+    """Two folders in the place of those in which the page may stand."""
+    places = [tmp_path / "installed", tmp_path / "repository"]
+    monkeypatch.setattr(idioms, "PLACES", tuple(places))
+    sections.cache_clear()
+    yield places
+    sections.cache_clear()
+
+
+def test_the_page_is_that_of_the_first_place_that_has_it(places: list[Path]) -> None:
+    for place, said in zip(reversed(places), ("far", "near")):
+        place.mkdir()
+        (place / PAGE).write_text(f"# Idioms\n\n## Reverse\n\nIt is {said}.\n")
+        sections.cache_clear()
+        assert sections() == {"Reverse": f"It is {said}."}
+        assert help_for("Reverse")[-2:] == ["Reverse", f"  It is {said}."]
+
+
+def test_help_says_what_is_meant_where_the_page_is_not_at_hand(places: list[Path]) -> None:
+    assert page() is None and sections() == {}
+    said = help_for("reverse")
+    assert said[0].startswith("reverse: there is none: `get-1L D B A L`") and said[-1] == "Reverse"
+    assert help_for("if and else") == ["If and else"]
 
 
 def test_sections_are_found_by_their_titles() -> None:
