@@ -243,6 +243,9 @@ def test_a_name_is_read_by_its_parts_where_a_line_begins_with_it() -> None:
         ("a+=b", "`input a FROM VALUE ..`"),
         ("help shift", "Shift bits"),
         ("help if", "If and else"),
+        ("get c a b 8", "`insert end get-1L c a b 8`"),
+        ("insert end settle", "`settle` is a command of its own, and begins a line"),
+        ("insert end show a end", "`show` is a command of its own, and begins a line"),
     ],
 )
 def test_a_hint_says_how_it_is_written(line: str, phrase: str) -> None:

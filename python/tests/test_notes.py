@@ -12,7 +12,10 @@ import pytest
 from editors import Editor
 
 from pevudlo.document.document import Document
+from pevudlo.document.marks import mark_of
 from pevudlo.document.plain import Plain
+from pevudlo.document.states import Mark, State
+from pevudlo.document.update import Update
 from pevudlo.hints.notes import note_of
 from pevudlo.lang.board import Board
 from pevudlo.wire.pipe import Pipe
@@ -105,6 +108,7 @@ def test_watch_tells_of_it_once() -> None:
     view = Plain(document, said.append)
     for text in (TEXT, f"{TEXT}# A comment.\n", TEXT):
         view.show(document.update(text))
+    assert mark_of(document, 6, Update()) == Mark(State.NOTE, NOTE)
     document.close()
     assert said.count(f"  7: {SHIFTED}: {NOTE}") == 1
 

@@ -11,6 +11,7 @@ from pevudlo.hints.odd import ASSIGNED, EQUALS, odd_bytes, odd_constant, odd_equ
 from pevudlo.hints.words import listed, nearest
 from pevudlo.lang.grammar import (
     ADDRESSES,
+    COMMANDS,
     MOST_BYTES,
     OPERANDS,
     PROFILE_COMMAND,
@@ -88,7 +89,7 @@ def begin_hint(line: str, where: Where, is_first: bool) -> str:
         return said
     if assigned := ASSIGNED.match(line):
         return odd_equals(assigned[1])
-    if "-" in word and (name := instruction_meant(word)):
+    if name := instruction_meant(word):
         return named_hint(name, rest, where)
     if said := meaning_of(word):
         return said if where is Where.FILE or not names_instruction(said) else f"{said}; {row_hint('INSTR')}"
@@ -172,6 +173,8 @@ def meaning_hint(words: list[str], word: str, slots: tuple[Slot, ...]) -> str | 
     """The hint for a word that means an instruction or a direction elsewhere, where such a one may stand, or None."""
     kinds = {slot.kind for slot in slots}
     if Kind.INSTRUCTION in kinds:
+        if word in COMMANDS:
+            return f"`{word}` is a command of its own, and begins a line"
         if said := meaning_of(word):
             return said
         near = nearest_instruction(word)
