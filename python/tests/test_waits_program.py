@@ -118,6 +118,29 @@ def test_a_call_in_a_handler_of_signals(tmp_path: Path, name: str, said: str) ->
     assert ran.stdout == said, ran.stderr
 
 
+IN_A_SETTLE = """
+import os, signal, sys, threading, time
+from pathlib import Path
+sys.path.insert(0, sys.argv[1])
+from pevudlo import Pipe
+pipe = Pipe(Path(sys.argv[2]))
+threading.Timer(0.5, lambda: os.kill(os.getpid(), signal.SIGINT)).start()
+try:
+    pipe.settle_line()
+except KeyboardInterrupt:
+    print("interrupted", pipe.close())
+"""
+
+
+@pytest.mark.parametrize("begun", ["", "settl", "rows 5\\n"])
+def test_ctrl_c_in_a_settle_of_which_a_part_is_answered(tmp_path: Path, begun: str) -> None:
+    """The program doesn't say the rest of its reply. Nothing waits for that with Ctrl-C put off."""
+    program = fake(tmp_path, f"sys.stdin.readline(); os.write(1, b'{begun}'); time.sleep(600)")
+    words = [sys.executable, "-c", IN_A_SETTLE, str(ROOT / "python"), str(program)]
+    ran = subprocess.run(words, capture_output=True, text=True, timeout=LIMIT)
+    assert ran.stdout == f"interrupted {-signal.SIGKILL}\n", ran.stderr
+
+
 def test_close_while_calls_are_under_way(library: bool) -> None:
     """Threads make calls of all kinds when the machine is closed: each comes back, by its answer or by Ended."""
     for _ in range(15):

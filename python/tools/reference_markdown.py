@@ -17,7 +17,7 @@ HEAD = (
     "each command and of each fault are here too. Behind a line stands as a comment what is answered to it, where "
     "that is more than `ok`, the id of a row, or how many rows were settled. [MACHINE.md](MACHINE.md) says what all "
     "of it means, and [SCRIPTS.md](SCRIPTS.md) how it is written. In `./paris prompt`, `help u-add-3-1L` has the same "
-    "text.",
+    "text, and in Python `help(paris.u_add)`.",
     "",
     "In most examples a processor isn't selected: its context is 0, and it keeps what it has. The results were "
     "computed from the definitions by a model in Python, and the tests in `python/tests` compare the program's "

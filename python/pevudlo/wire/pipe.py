@@ -152,7 +152,7 @@ class Pipe:
             with undisturbed():
                 try:
                     self._rest += self._more()
-                    if b"\n" in self._rest:
+                    if self._has_reply():
                         self._is_owed = False
                         return self._read()
                 except BaseException:
@@ -313,6 +313,11 @@ class Pipe:
         lines = self._read_reply()
         self._check_rest()
         return lines
+
+    def _has_reply(self) -> bool:
+        """Whether a whole reply was read, so that nothing waits for more of it."""
+        first, feed, rest = self._rest.partition(b"\n")
+        return bool(feed) and rest.count(b"\n") >= count_of_lines(bytes(first))
 
     def _read_reply(self) -> list[str]:
         """Reads the lines of one reply."""
