@@ -58,7 +58,7 @@ class RandomEditor:
         instruction = f"u-{chance.choice(('add', 'max', 'subtract'))}-3-1L {' '.join(chance.choices('abc', k=3))} 8"
         lines = [f"delete {row}", f"delete {row}", f"replace {row} {instruction}", f"insert after {row} {instruction}"]
         lines += [f"show {self.made.key()} after {row}", *[f"show {self.made.key()} end"] * 2]
-        lines += [f"insert start {instruction}", *[instruction] * 3]
+        lines += [f"insert start {instruction}", f"input {chance.choice('abc')} 1 {row}", *[instruction] * 3]
         line = chance.choice(lines)
         at = chance.choice((chance.randrange(len(line)), len(line)))
         return f"{line[:at]}\r{line[at:]}" if chance.random() < 0.05 else line
