@@ -12,7 +12,7 @@ import pytest
 from editors import Editor
 
 from pevudlo.document.document import Document
-from pevudlo.document.marks import mark_of
+from pevudlo.document.answers import mark_of
 from pevudlo.document.plain import Plain
 from pevudlo.document.states import Mark, State
 from pevudlo.document.update import Update
