@@ -21,7 +21,8 @@ EDITS = ROOT / "checks" / "gate" / "edits"
 # The words before the braces of a clause, which stands before a function's body.
 CLAUSE = re.compile(rb"\b(?:requires|ensures)(?:\s*\*)?(?:\s+\w+)?\s*$|\bghost\s+\w+\s*:\s*$")
 FUNCTION = re.compile(rb"\b(const\s+)?fn\s+\w+")
-COMMENT = re.compile(rb"^\s*//[^\n]*\n", re.M)
+# Lines that decide no proof: comments, and what says how code is laid out.
+UNPROVED = re.compile(rb"^\s*(?://[^\n]*|#\[inline(?:\(\w+\))?\]|#\[cold\])\n", re.M)
 # The line of an edit that names the function which isn't proved with it. (rt passes over it.)
 NAMED = re.compile(r"^# function: (\S+)\n", re.M)
 
@@ -83,8 +84,8 @@ def body_of(code: bytes, at: int) -> tuple[int, int] | None:
 
 
 def without_bodies(text: bytes, code: bytes) -> bytes:
-    """A file of src/ without the bodies of its functions, but for those that the compiler may run, and without comments. The code is the
-    text with blanks for comments and literals."""
+    """A file of src/ without the bodies of its functions, but for those that the compiler may run, and without lines that decide no proof.
+    The code is the text with blanks for comments and literals."""
     kept, done, at = b"", 0, 0
     while found := FUNCTION.search(code, at):
         body = body_of(code, found.end())
@@ -92,7 +93,7 @@ def without_bodies(text: bytes, code: bytes) -> bytes:
         if body and not found[1]:
             kept += text[done : body[0]]
             done = at
-    return COMMENT.sub(b"", kept + text[done:])
+    return UNPROVED.sub(b"", kept + text[done:])
 
 
 def source_of(crate: str, path: str, text: str) -> Source:
