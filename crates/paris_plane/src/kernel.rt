@@ -1,8 +1,9 @@
 //! Loops over words: four at a time by lanes, and the words that are left one by one.
 
-ghost use Rattle.std.specs.Prelude.{◌≡◌, ◌↔◌, ◌≤◌, IfOk, IsTrue, ℕ, ◌<◌, ◌^◌, ◌-◌, ◌+◌, ◌*◌, Bool, cond, ◌&&◌, ◌||◌, length, slice_index, bit_and};
+ghost use Rattle.std.specs.Prelude.{◌≡◌, ◌↔◌, ◌≤◌, IfOk, IsTrue, ℕ, ◌<◌, ◌^◌, ◌-◌, ◌+◌, ◌*◌, Bool, cond, ◌&&◌, ◌||◌, length, slice_index, bit_and, ◌++◌};
 ghost use Rattle.std.specs.Int.Bits.{bit_or, bit_xor};
 ghost use Rattle.std.specs.Simd.Lanes.{zip2};
+ghost use Rattle.std.specs.Vec.{vec_len, vec_capacity};
 ghost use Rattle.paris_plane.specs.Bits.{word_bit, ByBit, ByBit3, borrow_bit, borrow_word, carry_word, differ, sum_word};
 ghost use Rattle.paris_plane.specs.Laws.{and_by_bit, borrow_by_bit, or_by_bit, xor_by_bit, select_by_bit};
 
@@ -279,6 +280,22 @@ pub(crate) fn many_stripes(alloc: Global, k: u32, count: usize) -> Result<Vec<u6
     Ok(made)
 }
 
+/// Puts the four words of a vector behind the words that are there. There is room for them.
+#[inline(always)]
+fn push_lanes(made: &mut Vec<u64>, lanes: u64x4)
+    requires four { length lanes ≡ 4 }
+    requires room { vec_len made.old + 4 ≤ vec_capacity made.old }
+    ensures items { made.new.items ≡ made.old.items ++ lanes }
+    ensures len { vec_len made.new ≡ vec_len made.old + 4 }
+    ensures capacity { vec_capacity made.new ≡ vec_capacity made.old }
+{
+    let [first, second, third, fourth] = lanes.to_array();
+    made.push_reserved(first);
+    made.push_reserved(second);
+    made.push_reserved(third);
+    made.push_reserved(fourth);
+}
+
 /// What the operation makes of each two words, in new words.
 pub(crate) fn many_words<O: WordOp>(
     alloc: Global,
@@ -291,7 +308,14 @@ pub(crate) fn many_words<O: WordOp>(
 {
     let count = xs.len();
     let mut made = Vec::with_capacity(alloc, count)?;
-    for i in 0..count {
+    let whole = count / 4;
+    for k in 0..whole {
+        let at = 4 * k;
+        let x = u64x4::from_slice(&xs[at..]);
+        let y = u64x4::from_slice(&ys[at..]);
+        push_lanes(&mut made, O::lanes(x, y));
+    }
+    for i in 4 * whole..count {
         made.push_reserved(O::word(xs[i], ys[i]));
     }
     Ok(made)
@@ -311,7 +335,15 @@ pub(crate) fn many_triples<O: TripleOp>(
 {
     let count = xs.len();
     let mut made = Vec::with_capacity(alloc, count)?;
-    for i in 0..count {
+    let whole = count / 4;
+    for k in 0..whole {
+        let at = 4 * k;
+        let x = u64x4::from_slice(&xs[at..]);
+        let y = u64x4::from_slice(&ys[at..]);
+        let z = u64x4::from_slice(&zs[at..]);
+        push_lanes(&mut made, O::lanes(x, y, z));
+    }
+    for i in 4 * whole..count {
         made.push_reserved(O::word(xs[i], ys[i], zs[i]));
     }
     Ok(made)
@@ -324,7 +356,13 @@ pub(crate) fn many_inverted(alloc: Global, xs: &[u64]) -> Result<Vec<u64>, Alloc
 {
     let count = xs.len();
     let mut made = Vec::with_capacity(alloc, count)?;
-    for i in 0..count {
+    let whole = count / 4;
+    for k in 0..whole {
+        let at = 4 * k;
+        let x = u64x4::from_slice(&xs[at..]);
+        push_lanes(&mut made, x ^ u64x4::splat(u64::MAX));
+    }
+    for i in 4 * whole..count {
         made.push_reserved(xs[i] ^ u64::MAX);
     }
     Ok(made)
@@ -346,7 +384,17 @@ pub(crate) fn many_sums(
 {
     let count = xs.len();
     let mut sum = Vec::with_capacity(alloc, count)?;
-    for i in 0..count {
+    let whole = count / 4;
+    for k in 0..whole {
+        let at = 4 * k;
+        let x = u64x4::from_slice(&xs[at..]);
+        let y = u64x4::from_slice(&ys[at..]);
+        let c = u64x4::from_slice(&carry[at..]);
+        let t = x ^ y;
+        push_lanes(&mut sum, t ^ c);
+        ((x & y) | (t & c)).copy_to_slice(&mut carry[at..]);
+    }
+    for i in 4 * whole..count {
         let x = xs[i];
         let y = ys[i];
         let c = carry[i];
@@ -373,7 +421,17 @@ pub(crate) fn many_differences(
 {
     let count = xs.len();
     let mut difference = Vec::with_capacity(alloc, count)?;
-    for i in 0..count {
+    let whole = count / 4;
+    for k in 0..whole {
+        let at = 4 * k;
+        let x = u64x4::from_slice(&xs[at..]);
+        let y = u64x4::from_slice(&ys[at..]);
+        let b = u64x4::from_slice(&borrow[at..]);
+        let t = x ^ y;
+        push_lanes(&mut difference, t ^ b);
+        (b ^ ((b ^ y) & t)).copy_to_slice(&mut borrow[at..]);
+    }
+    for i in 4 * whole..count {
         let x = xs[i];
         let y = ys[i];
         let b = borrow[i];
