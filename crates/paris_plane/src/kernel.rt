@@ -267,19 +267,6 @@ fn stripe_word(k: u32, block: usize) -> u64
     }
 }
 
-/// So many new words, in which each place has bit `k` of its number.
-pub(crate) fn many_stripes(alloc: Global, k: u32, count: usize) -> Result<Vec<u64>, AllocError>
-    requires { k < 64 }
-    ensures count { IfOk result (λ made. length made.items ≡ count) }
-    ensures words { IfOk result (λ made. (i j : ℕ) → i < count → j < 64 → word_bit (slice_index made.items i) j ≡ word_bit (64 * i + j) k) }
-{
-    let mut made = Vec::with_capacity(alloc, count)?;
-    for i in 0..count {
-        made.push_reserved(stripe_word(k, i));
-    }
-    Ok(made)
-}
-
 /// Puts the four words of a vector behind the words that are there. There is room for them.
 #[inline(always)]
 fn push_lanes(made: &mut Vec<u64>, lanes: u64x4)
@@ -294,6 +281,38 @@ fn push_lanes(made: &mut Vec<u64>, lanes: u64x4)
     made.push_reserved(second);
     made.push_reserved(third);
     made.push_reserved(fourth);
+}
+
+/// The same in each of four lanes, of which each is a block above the last.
+fn stripe_lanes(k: u32, block: usize) -> u64x4
+    requires small { k < 64 }
+    requires room { block + 4 ≤ 2 ^ 64 }
+    ensures four { length result ≡ 4 }
+    ensures words { (i j : ℕ) → i < 4 → j < 64 → word_bit (slice_index result i) j ≡ word_bit (64 * (block + i) + j) k }
+{
+    if k < 6 {
+        return u64x4::splat(stripe_word(k, block));
+    }
+    let blocks = u64x4::splat(block as u64) + u64x4::from_array([0, 1, 2, 3]);
+    let bits = (blocks >> u64x4::splat((k - 6) as u64)) & u64x4::splat(1);
+    u64x4::splat(0) - bits
+}
+
+/// So many new words, in which each place has bit `k` of its number.
+pub(crate) fn many_stripes(alloc: Global, k: u32, count: usize) -> Result<Vec<u64>, AllocError>
+    requires { k < 64 }
+    ensures count { IfOk result (λ made. length made.items ≡ count) }
+    ensures words { IfOk result (λ made. (i j : ℕ) → i < count → j < 64 → word_bit (slice_index made.items i) j ≡ word_bit (64 * i + j) k) }
+{
+    let mut made = Vec::with_capacity(alloc, count)?;
+    let whole = count / 4;
+    for n in 0..whole {
+        push_lanes(&mut made, stripe_lanes(k, 4 * n));
+    }
+    for i in 4 * whole..count {
+        made.push_reserved(stripe_word(k, i));
+    }
+    Ok(made)
 }
 
 /// What the operation makes of each two words, in new words.
@@ -446,7 +465,15 @@ pub(crate) fn many_differences(
 pub(crate) fn are_full(xs: &[u64]) -> bool
     ensures { IsTrue result → (i : ℕ) → i < length xs.now → slice_index xs.now i ≡ 2 ^ 64 - 1 }
 {
-    for i in 0..xs.len() {
+    let whole = xs.len() / 4;
+    for k in 0..whole {
+        let at = 4 * k;
+        let x = u64x4::from_slice(&xs[at..]);
+        if (x ^ u64x4::splat(u64::MAX)).reduce_or() != 0 {
+            return false;
+        }
+    }
+    for i in 4 * whole..xs.len() {
         if xs[i] != u64::MAX {
             return false;
         }
