@@ -2,7 +2,7 @@
 
 ghost use Rattle.std.specs.Prelude.{◌≡◌, ◌↔◌, ◌≤◌, IfOk, IsTrue, ℕ, ◌<◌, ◌^◌, ◌-◌, ◌+◌, ◌*◌, Bool, cond, ◌&&◌, ◌||◌, length, slice_index, bit_and, ◌++◌};
 ghost use Rattle.std.specs.Int.Bits.{bit_or, bit_xor};
-ghost use Rattle.std.specs.Simd.Lanes.{zip2};
+ghost use Rattle.std.specs.Simd.Lanes.{put_chunk, zip2};
 ghost use Rattle.std.specs.Vec.{vec_len, vec_capacity};
 ghost use Rattle.paris_plane.specs.Bits.{word_bit, ByBit, ByBit3, borrow_bit, borrow_word, carry_word, differ, sum_word};
 ghost use Rattle.paris_plane.specs.Laws.{and_by_bit, borrow_by_bit, or_by_bit, xor_by_bit, select_by_bit};
@@ -246,7 +246,7 @@ pub(crate) fn same_words(xs: &[u64], ys: &[u64], count: usize) -> bool
 }
 
 /// Bit `k` of each of the 64 numbers from `64 * block` on, the first of them lowest.
-fn stripe_word(k: u32, block: usize) -> u64
+pub(crate) fn stripe_word(k: u32, block: usize) -> u64
     requires { k < 64 }
     ensures { (i : ℕ) → i < 64 → word_bit result i ≡ word_bit (64 * block + i) k }
 {
@@ -283,24 +283,39 @@ fn push_lanes(made: &mut Vec<u64>, lanes: u64x4)
     made.push_reserved(fourth);
 }
 
-/// The same in each of four lanes, of which each is a block above the last.
+/// Puts the four words of a vector into `out` from `at` on, the first of them first. By `copy_to_slice` the second half is
+/// stored before the first, which costs up to a third more where a store goes over the end of a cache line.
+#[inline(always)]
+pub(crate) fn put_lanes(lanes: u64x4, out: &mut [u64], at: usize)
+    requires four { length lanes ≡ 4 }
+    requires room { at + 4 ≤ length out.old }
+    ensures { out.new ≡ put_chunk at out.old lanes }
+{
+    let [first, second, third, fourth] = lanes.to_array();
+    out[at] = first;
+    out[at + 1] = second;
+    out[at + 2] = third;
+    out[at + 3] = fourth;
+}
+
+/// The same of four blocks from `block` on, one in each lane, where the bit is that of a block's own number.
+#[inline(always)]
 fn stripe_lanes(k: u32, block: usize) -> u64x4
+    requires far { 6 ≤ k }
     requires small { k < 64 }
     requires room { block + 4 ≤ 2 ^ 64 }
     ensures four { length result ≡ 4 }
     ensures words { (i j : ℕ) → i < 4 → j < 64 → word_bit (slice_index result i) j ≡ word_bit (64 * (block + i) + j) k }
 {
-    if k < 6 {
-        return u64x4::splat(stripe_word(k, block));
-    }
     let blocks = u64x4::splat(block as u64) + u64x4::from_array([0, 1, 2, 3]);
     let bits = (blocks >> u64x4::splat((k - 6) as u64)) & u64x4::splat(1);
     u64x4::splat(0) - bits
 }
 
-/// So many new words, in which each place has bit `k` of its number.
+/// So many new words, in which each place has bit `k` of its number, where that is the same throughout each word.
 pub(crate) fn many_stripes(alloc: Global, k: u32, count: usize) -> Result<Vec<u64>, AllocError>
-    requires { k < 64 }
+    requires far { 6 ≤ k }
+    requires small { k < 64 }
     ensures count { IfOk result (λ made. length made.items ≡ count) }
     ensures words { IfOk result (λ made. (i j : ℕ) → i < count → j < 64 → word_bit (slice_index made.items i) j ≡ word_bit (64 * i + j) k) }
 {

@@ -12,9 +12,11 @@ loop-k-preserved c =
     let made = c.exchanged_lanes.ensures in
     record {
       low = λ i j below e h.
-          stored_each (λ i w. word_bit w j ≡ word_bit (X i) (j + s)) at 4 _ c.loop-k.out _ made.four (omega arith) (omega arith)
+          ap (λ l. word_bit (get_or l i 0) j) c.put_lanes.ensures
+          ∙ stored_each (λ i w. word_bit w j ≡ word_bit (X i) (j + s)) at 4 _ c.loop-k.out _ made.four (omega arith) (omega arith)
           (λ i four. made.low i j four e h ∙ ap (λ w. word_bit w (j + s)) (loaded.at i four)) (λ i b. c.loop-k.invariant.low i j b e h) i below;
       high = λ i j below e h.
-          stored_each (λ i w. word_bit w (j + s) ≡ word_bit (X i) j) at 4 _ c.loop-k.out _ made.four (omega arith) (omega arith)
+          ap (λ l. word_bit (get_or l i 0) (j + s)) c.put_lanes.ensures
+          ∙ stored_each (λ i w. word_bit w (j + s) ≡ word_bit (X i) j) at 4 _ c.loop-k.out _ made.four (omega arith) (omega arith)
           (λ i four. made.high i j four e h ∙ ap (λ w. word_bit w j) (loaded.at i four)) (λ i b. c.loop-k.invariant.high i j b e h) i below;
     }

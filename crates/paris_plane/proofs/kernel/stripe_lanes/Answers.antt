@@ -1,16 +1,10 @@
-use Rattle.std.proofs.Common.{◌≡◌, ℕ, ◌+◌, ◌-◌, ◌*◌, ◌/◌, ◌%◌, ◌^◌, ◌∙◌, ap, arith, refl, bit_and}
+use Rattle.std.proofs.Common.{◌≡◌, ℕ, ◌+◌, ◌-◌, ◌/◌, ◌%◌, ◌^◌, ◌∙◌, ap, arith, refl, bit_and}
 use Rattle.std.specs.List.{range_with_len}
 use Rattle.std.proofs.lemmas.List.FromFn.{get_or-range_with_len}
 use Rattle.paris_plane.specs.Bits.{word_bit}
 use Rattle.paris_plane.proofs.Blocks.{Lanes, lanes_splat, lanes_op}
-use Rattle.paris_plane.proofs.Stripes.{near_above, far_word}
+use Rattle.paris_plane.proofs.Stripes.{far_word}
 use Rattle.paris_plane.proofs.kernel.stripe_lanes.Goals as goal
-
-pub returns-then-k-lt6-clause-words : goal.returns-then-k-lt6-clause-words
-returns-then-k-lt6-clause-words c =
-    λ i j four h.
-    ap (λ w. word_bit w j) ((lanes_splat 4 c.stripe_word.result).at i four)
-    ∙ near_above c.stripe_word.result c.args.block i j c.args.k c.if-k-lt6.true (c.stripe_word.ensures j h)
 
 pub returns-clause-words : goal.returns-clause-words
 returns-clause-words c =
@@ -24,4 +18,4 @@ returns-clause-words c =
     let fits : (b + i) % 2 ^ 64 ≡ b + i = omega (arith, four, c.requires.room) in
     ap (λ w. word_bit w j) (r.at i four)
     ∙ ap (λ n. word_bit ((0 + (2 ^ 64 - bit_and (n / 2 ^ (k - 6)) 1)) % 2 ^ 64) j) fits
-    ∙ far_word (b + i) k j c.if-k-lt6.false h
+    ∙ far_word (b + i) k j c.requires.far h

@@ -13,4 +13,4 @@ loop-k-preserved c =
     let high : Lanes 4 (chunk (i + 1) 4 c.args.xs.now) (λ j. X (i + j + 1)) = record { long = above.long; at = λ j h. above.at j h ∙ ap X (omega arith) } in
     let low = lanes_load i 4 c.args.xs.now c.args.xs.now (omega arith) (λ _ _. refl) in
     let r = lanes_op2 join c.joined_lanes.result c.joined_lanes.ensures.0 c.joined_lanes.ensures.1 high low in
-    stored (λ j. join (X (j + 1)) (X j)) i 4 _ c.loop-k.out _ r (omega arith) (omega arith) c.loop-k.invariant
+    λ j h. ap (λ l. get_or l j 0) c.put_lanes.ensures ∙ stored (λ j. join (X (j + 1)) (X j)) i 4 _ c.loop-k.out _ r (omega arith) (omega arith) c.loop-k.invariant j h

@@ -13,9 +13,11 @@ loop-k-preserved c =
     let made = c.turned_lanes.ensures in
     record {
       inside = λ i j below h e.
-          stored_each (λ i w. word_bit w j ≡ word_bit (X i) (j + by)) at 4 _ c.loop-k.out _ made.four (omega arith) (omega arith)
+          ap (λ l. word_bit (get_or l i 0) j) c.put_lanes.ensures
+          ∙ stored_each (λ i w. word_bit w j ≡ word_bit (X i) (j + by)) at 4 _ c.loop-k.out _ made.four (omega arith) (omega arith)
           (λ i four. made.inside i j four h e ∙ ap (λ w. word_bit w (j + by)) (loaded.at i four)) (λ i b. c.loop-k.invariant.inside i j b h e) i below;
       round = λ i j below h e.
-          stored_each (λ i w. word_bit w j ≡ word_bit (X i) (j + by - period)) at 4 _ c.loop-k.out _ made.four (omega arith) (omega arith)
+          ap (λ l. word_bit (get_or l i 0) j) c.put_lanes.ensures
+          ∙ stored_each (λ i w. word_bit w j ≡ word_bit (X i) (j + by - period)) at 4 _ c.loop-k.out _ made.four (omega arith) (omega arith)
           (λ i four. made.round i j four h e ∙ ap (λ w. word_bit w (j + by - period)) (loaded.at i four)) (λ i b. c.loop-k.invariant.round i j b h e) i below;
     }
