@@ -245,6 +245,20 @@ pub(crate) fn same_words(xs: &[u64], ys: &[u64], count: usize) -> bool
     true
 }
 
+/// Bit `k` of each of the 64 numbers from `64 * block` on, where it is the block's and so the same in all of them.
+#[inline(always)]
+fn far_stripe_word(k: u32, block: usize) -> u64
+    requires far { 6 ≤ k }
+    requires small { k < 64 }
+    ensures { (i : ℕ) → i < 64 → word_bit result i ≡ word_bit (64 * block + i) k }
+{
+    if (block >> (k - 6)) & 1 == 1 {
+        u64::MAX
+    } else {
+        0
+    }
+}
+
 /// Bit `k` of each of the 64 numbers from `64 * block` on, the first of them lowest.
 pub(crate) fn stripe_word(k: u32, block: usize) -> u64
     requires { k < 64 }
@@ -257,13 +271,7 @@ pub(crate) fn stripe_word(k: u32, block: usize) -> u64
         3 => 0xFF00_FF00_FF00_FF00,
         4 => 0xFFFF_0000_FFFF_0000,
         5 => 0xFFFF_FFFF_0000_0000,
-        _ => {
-            if (block >> (k - 6)) & 1 == 1 {
-                u64::MAX
-            } else {
-                0
-            }
-        }
+        _ => far_stripe_word(k, block),
     }
 }
 
@@ -298,18 +306,20 @@ pub(crate) fn put_lanes(lanes: u64x4, out: &mut [u64], at: usize)
     out[at + 3] = fourth;
 }
 
-/// The same of four blocks from `block` on, one in each lane, where the bit is that of a block's own number.
+/// The same of the four blocks from `4 * quad` on, one in each lane.
 #[inline(always)]
-fn stripe_lanes(k: u32, block: usize) -> u64x4
+fn stripe_lanes(k: u32, quad: usize) -> u64x4
     requires far { 6 ≤ k }
     requires small { k < 64 }
-    requires room { block + 4 ≤ 2 ^ 64 }
+    requires room { 4 * quad < 2 ^ 64 }
     ensures four { length result ≡ 4 }
-    ensures words { (i j : ℕ) → i < 4 → j < 64 → word_bit (slice_index result i) j ≡ word_bit (64 * (block + i) + j) k }
+    ensures words { (i j : ℕ) → i < 4 → j < 64 → word_bit (slice_index result i) j ≡ word_bit (64 * (4 * quad + i) + j) k }
 {
-    let blocks = u64x4::splat(block as u64) + u64x4::from_array([0, 1, 2, 3]);
-    let bits = (blocks >> u64x4::splat((k - 6) as u64)) & u64x4::splat(1);
-    u64x4::splat(0) - bits
+    match k {
+        6 => u64x4::from_array([0, u64::MAX, 0, u64::MAX]),
+        7 => u64x4::from_array([0, 0, u64::MAX, u64::MAX]),
+        _ => u64x4::splat(far_stripe_word(k, 4 * quad)),
+    }
 }
 
 /// So many new words, in which each place has bit `k` of its number, where that is the same throughout each word.
@@ -322,7 +332,7 @@ pub(crate) fn many_stripes(alloc: Global, k: u32, count: usize) -> Result<Vec<u6
     let mut made = Vec::with_capacity(alloc, count)?;
     let whole = count / 4;
     for n in 0..whole {
-        push_lanes(&mut made, stripe_lanes(k, 4 * n));
+        push_lanes(&mut made, stripe_lanes(k, n));
     }
     for i in 4 * whole..count {
         made.push_reserved(stripe_word(k, i));

@@ -1,4 +1,4 @@
-use Rattle.std.proofs.Common.{◌≡◌, ℕ, ◌+◌, ◌*◌, ◌-◌, ◌^◌, get_or, arith, bit_xor, refl, subst, inl, inr}
+use Rattle.std.proofs.Common.{◌≡◌, ℕ, ◌*◌, ◌-◌, ◌^◌, get_or, arith, bit_xor, refl, subst, inl, inr}
 use Rattle.std.proofs.lemmas.Bool.{cases_lt}
 use Rattle.paris_plane.specs.Equal.{same_words}
 use Rattle.paris_plane.proofs.Blocks.{lanes_load, lanes_op, lanes_splat, lanes_none}

@@ -1,4 +1,4 @@
-use Rattle.std.proofs.Common.{◌≡◌, ℕ, ◌+◌, ◌-◌, ◌*◌, ◌%◌, ◌<◌, ◌≤◌, ◌∙◌, ap, get_or, arith, refl}
+use Rattle.std.proofs.Common.{◌≡◌, ℕ, ◌+◌, ◌-◌, ◌*◌, ◌∙◌, ap, get_or, arith, refl}
 use Rattle.paris_plane.specs.Bits.{word_bit}
 use Rattle.paris_plane.proofs.Blocks.{lanes_load, stored_each}
 use Rattle.paris_plane.proofs.turns.turn_within.Goals as goal
