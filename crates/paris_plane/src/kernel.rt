@@ -1,8 +1,9 @@
 //! Loops over words: four at a time by lanes, and the words that are left one by one.
 
-ghost use Rattle.std.specs.Prelude.{◌≡◌, ◌↔◌, ◌≤◌, IfOk, IsTrue, ℕ, ◌<◌, ◌^◌, ◌-◌, ◌+◌, ◌*◌, Bool, cond, ◌&&◌, ◌||◌, length, slice_index, bit_and};
+ghost use Rattle.std.specs.Prelude.{◌≡◌, ◌↔◌, ◌≤◌, IfOk, IsTrue, ℕ, ◌<◌, ◌^◌, ◌-◌, ◌+◌, ◌*◌, Bool, cond, ◌&&◌, ◌||◌, length, slice_index, bit_and, ◌++◌};
 ghost use Rattle.std.specs.Int.Bits.{bit_or, bit_xor};
-ghost use Rattle.std.specs.Simd.Lanes.{zip2};
+ghost use Rattle.std.specs.Simd.Lanes.{put_chunk, zip2};
+ghost use Rattle.std.specs.Vec.{vec_len, vec_capacity};
 ghost use Rattle.paris_plane.specs.Bits.{word_bit, ByBit, ByBit3, borrow_bit, borrow_word, carry_word, differ, sum_word};
 ghost use Rattle.paris_plane.specs.Laws.{and_by_bit, borrow_by_bit, or_by_bit, xor_by_bit, select_by_bit};
 
@@ -244,8 +245,22 @@ pub(crate) fn same_words(xs: &[u64], ys: &[u64], count: usize) -> bool
     true
 }
 
+/// Bit `k` of each of the 64 numbers from `64 * block` on, where it is the block's and so the same in all of them.
+#[inline(always)]
+fn far_stripe_word(k: u32, block: usize) -> u64
+    requires far { 6 ≤ k }
+    requires small { k < 64 }
+    ensures { (i : ℕ) → i < 64 → word_bit result i ≡ word_bit (64 * block + i) k }
+{
+    if (block >> (k - 6)) & 1 == 1 {
+        u64::MAX
+    } else {
+        0
+    }
+}
+
 /// Bit `k` of each of the 64 numbers from `64 * block` on, the first of them lowest.
-fn stripe_word(k: u32, block: usize) -> u64
+pub(crate) fn stripe_word(k: u32, block: usize) -> u64
     requires { k < 64 }
     ensures { (i : ℕ) → i < 64 → word_bit result i ≡ word_bit (64 * block + i) k }
 {
@@ -256,24 +271,70 @@ fn stripe_word(k: u32, block: usize) -> u64
         3 => 0xFF00_FF00_FF00_FF00,
         4 => 0xFFFF_0000_FFFF_0000,
         5 => 0xFFFF_FFFF_0000_0000,
-        _ => {
-            if (block >> (k - 6)) & 1 == 1 {
-                u64::MAX
-            } else {
-                0
-            }
-        }
+        _ => far_stripe_word(k, block),
     }
 }
 
-/// So many new words, in which each place has bit `k` of its number.
+/// Puts the four words of a vector behind the words that are there. There is room for them.
+#[inline(always)]
+fn push_lanes(made: &mut Vec<u64>, lanes: u64x4)
+    requires four { length lanes ≡ 4 }
+    requires room { vec_len made.old + 4 ≤ vec_capacity made.old }
+    ensures items { made.new.items ≡ made.old.items ++ lanes }
+    ensures len { vec_len made.new ≡ vec_len made.old + 4 }
+    ensures capacity { vec_capacity made.new ≡ vec_capacity made.old }
+{
+    let [first, second, third, fourth] = lanes.to_array();
+    made.push_reserved(first);
+    made.push_reserved(second);
+    made.push_reserved(third);
+    made.push_reserved(fourth);
+}
+
+/// Puts the four words of a vector into `out` from `at` on, the first of them first. By `copy_to_slice` the second half is
+/// stored before the first, which costs up to a third more where a store goes over the end of a cache line.
+#[inline(always)]
+pub(crate) fn put_lanes(lanes: u64x4, out: &mut [u64], at: usize)
+    requires four { length lanes ≡ 4 }
+    requires room { at + 4 ≤ length out.old }
+    ensures { out.new ≡ put_chunk at out.old lanes }
+{
+    let [first, second, third, fourth] = lanes.to_array();
+    out[at] = first;
+    out[at + 1] = second;
+    out[at + 2] = third;
+    out[at + 3] = fourth;
+}
+
+/// The same of the four blocks from `4 * quad` on, one in each lane.
+#[inline(always)]
+fn stripe_lanes(k: u32, quad: usize) -> u64x4
+    requires far { 6 ≤ k }
+    requires small { k < 64 }
+    requires room { 4 * quad < 2 ^ 64 }
+    ensures four { length result ≡ 4 }
+    ensures words { (i j : ℕ) → i < 4 → j < 64 → word_bit (slice_index result i) j ≡ word_bit (64 * (4 * quad + i) + j) k }
+{
+    match k {
+        6 => u64x4::from_array([0, u64::MAX, 0, u64::MAX]),
+        7 => u64x4::from_array([0, 0, u64::MAX, u64::MAX]),
+        _ => u64x4::splat(far_stripe_word(k, 4 * quad)),
+    }
+}
+
+/// So many new words, in which each place has bit `k` of its number, where that is the same throughout each word.
 pub(crate) fn many_stripes(alloc: Global, k: u32, count: usize) -> Result<Vec<u64>, AllocError>
-    requires { k < 64 }
+    requires far { 6 ≤ k }
+    requires small { k < 64 }
     ensures count { IfOk result (λ made. length made.items ≡ count) }
     ensures words { IfOk result (λ made. (i j : ℕ) → i < count → j < 64 → word_bit (slice_index made.items i) j ≡ word_bit (64 * i + j) k) }
 {
     let mut made = Vec::with_capacity(alloc, count)?;
-    for i in 0..count {
+    let whole = count / 4;
+    for n in 0..whole {
+        push_lanes(&mut made, stripe_lanes(k, n));
+    }
+    for i in 4 * whole..count {
         made.push_reserved(stripe_word(k, i));
     }
     Ok(made)
@@ -291,7 +352,14 @@ pub(crate) fn many_words<O: WordOp>(
 {
     let count = xs.len();
     let mut made = Vec::with_capacity(alloc, count)?;
-    for i in 0..count {
+    let whole = count / 4;
+    for k in 0..whole {
+        let at = 4 * k;
+        let x = u64x4::from_slice(&xs[at..]);
+        let y = u64x4::from_slice(&ys[at..]);
+        push_lanes(&mut made, O::lanes(x, y));
+    }
+    for i in 4 * whole..count {
         made.push_reserved(O::word(xs[i], ys[i]));
     }
     Ok(made)
@@ -311,7 +379,15 @@ pub(crate) fn many_triples<O: TripleOp>(
 {
     let count = xs.len();
     let mut made = Vec::with_capacity(alloc, count)?;
-    for i in 0..count {
+    let whole = count / 4;
+    for k in 0..whole {
+        let at = 4 * k;
+        let x = u64x4::from_slice(&xs[at..]);
+        let y = u64x4::from_slice(&ys[at..]);
+        let z = u64x4::from_slice(&zs[at..]);
+        push_lanes(&mut made, O::lanes(x, y, z));
+    }
+    for i in 4 * whole..count {
         made.push_reserved(O::word(xs[i], ys[i], zs[i]));
     }
     Ok(made)
@@ -324,7 +400,13 @@ pub(crate) fn many_inverted(alloc: Global, xs: &[u64]) -> Result<Vec<u64>, Alloc
 {
     let count = xs.len();
     let mut made = Vec::with_capacity(alloc, count)?;
-    for i in 0..count {
+    let whole = count / 4;
+    for k in 0..whole {
+        let at = 4 * k;
+        let x = u64x4::from_slice(&xs[at..]);
+        push_lanes(&mut made, x ^ u64x4::splat(u64::MAX));
+    }
+    for i in 4 * whole..count {
         made.push_reserved(xs[i] ^ u64::MAX);
     }
     Ok(made)
@@ -346,7 +428,17 @@ pub(crate) fn many_sums(
 {
     let count = xs.len();
     let mut sum = Vec::with_capacity(alloc, count)?;
-    for i in 0..count {
+    let whole = count / 4;
+    for k in 0..whole {
+        let at = 4 * k;
+        let x = u64x4::from_slice(&xs[at..]);
+        let y = u64x4::from_slice(&ys[at..]);
+        let c = u64x4::from_slice(&carry[at..]);
+        let t = x ^ y;
+        push_lanes(&mut sum, t ^ c);
+        ((x & y) | (t & c)).copy_to_slice(&mut carry[at..]);
+    }
+    for i in 4 * whole..count {
         let x = xs[i];
         let y = ys[i];
         let c = carry[i];
@@ -373,7 +465,17 @@ pub(crate) fn many_differences(
 {
     let count = xs.len();
     let mut difference = Vec::with_capacity(alloc, count)?;
-    for i in 0..count {
+    let whole = count / 4;
+    for k in 0..whole {
+        let at = 4 * k;
+        let x = u64x4::from_slice(&xs[at..]);
+        let y = u64x4::from_slice(&ys[at..]);
+        let b = u64x4::from_slice(&borrow[at..]);
+        let t = x ^ y;
+        push_lanes(&mut difference, t ^ b);
+        (b ^ ((b ^ y) & t)).copy_to_slice(&mut borrow[at..]);
+    }
+    for i in 4 * whole..count {
         let x = xs[i];
         let y = ys[i];
         let b = borrow[i];
@@ -388,7 +490,15 @@ pub(crate) fn many_differences(
 pub(crate) fn are_full(xs: &[u64]) -> bool
     ensures { IsTrue result → (i : ℕ) → i < length xs.now → slice_index xs.now i ≡ 2 ^ 64 - 1 }
 {
-    for i in 0..xs.len() {
+    let whole = xs.len() / 4;
+    for k in 0..whole {
+        let at = 4 * k;
+        let x = u64x4::from_slice(&xs[at..]);
+        if (x ^ u64x4::splat(u64::MAX)).reduce_or() != 0 {
+            return false;
+        }
+    }
+    for i in 4 * whole..xs.len() {
         if xs[i] != u64::MAX {
             return false;
         }

@@ -100,6 +100,7 @@ impl Plane {
 
     /// What the operation makes of each two bits. Fails only for want of memory.
     #[tactic(auto, using(crate::proofs::Rules::plane))]
+    #[inline(always)]
     pub fn combined<O: WordOp>(alloc: Global, x: &Plane, y: &Plane) -> Result<Plane, AllocError>
         requires { length x.now ≡ length y.now }
         ensures { IfOk result (λ p. p ≡ zip2 O.bit x.now y.now) }
@@ -148,6 +149,7 @@ impl Plane {
 
     /// Adds three bits in each place, as one step of an addition of numbers whose bits lie in planes: their sums, and in `carry`
     /// what they carry. Fails only for want of memory; the carries then mean nothing.
+    #[inline(always)]
     pub fn summed(
         alloc: Global,
         x: &Plane,
