@@ -8,6 +8,7 @@ from __future__ import annotations
 import re
 from collections.abc import Sequence
 from dataclasses import dataclass
+from math import prod
 
 from paris_model import Board
 from paris_model_book import keys_of
@@ -19,6 +20,8 @@ START = 0
 """The place before all rows."""
 
 LIVING_SIGNS = ("▶", "=", "")
+SYNTAX = "20"
+"""The fault that has a column."""
 
 
 @dataclass(frozen=True)
@@ -132,7 +135,7 @@ class Reading:
         """What has to be seen of a line."""
         line = self.lines[at]
         if is_comment(line) or self.is_refused(at):
-            refused = "" if is_comment(line) else self.fresh.refused[at]
+            refused = "" if is_comment(line) else self._fault(at)
             return Wanted("✗" if refused else "", refused, place=self._above(at))
         row, word = self._row_said(at), told(line).split(" ")[0]
         if at in self._ends:
@@ -146,7 +149,26 @@ class Reading:
         if word == "delete":
             taken = next(other for other, end in self._ends.items() if end == ("taken out", at))
             return Wanted("-", f"takes out the row of line {taken + 1}", place=self._above(at), by=taken)
+        if note := self._note(line):
+            return Wanted("i", note)
         return Wanted("·" if word in TIME else "", place=self._above(at) if word in TIME else START)
+
+    def _fault(self, at: int) -> str:
+        """The reply to a refused line. A column is that of the line as it stands, without what a script has before it."""
+        words = self.fresh.refused[at].split(" ")
+        if words[1] == SYNTAX:
+            words[2] = str(int(words[2]) - len(told(self.lines[at])) + len(self.lines[at]))
+        return " ".join(words)
+
+    def _note(self, line: str) -> str:
+        """The note on input data with as many numbers as its set has processors, of which the first is no value."""
+        command, *words = line.split(" ")
+        if command != "input" or len(words) < 4:
+            return ""
+        axes = self.board.axes[self.board.set_of(words[0])]
+        if prod(axes) != len(words) - 1:
+            return ""
+        return f"{words[1]} is the first processor here, and {len(words) - 2} values go from there on"
 
     def _above(self, at: int) -> int:
         """The row of the last line above one that says a row of the program."""
@@ -195,6 +217,9 @@ def check_mark(reading: Reading, at: int, sign: str, words: str, where: str = ""
         key, numbers = words.split(" ", 1)
         assert (sign, key) == ("→", reading.lines[at].split(" ")[1])
         assert reads_as(numbers, reading.values[key, wanted.place]), (at, words)
+    elif wanted.sign == "✗":
+        # A hint comes first, and then the fault behind it.
+        assert sign == "✗" and re.search(rf"(?:^|\(){wanted.words}: ", words), (at, words, wanted)
     else:
         expected = re.sub(r"line \d+$", where, wanted.words) if where else wanted.words
         assert sign == wanted.sign and words.startswith(expected), (at, sign, words, wanted)

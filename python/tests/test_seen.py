@@ -28,7 +28,7 @@ from pevudlo.draw.visible import visible
 from pevudlo.lang.instructions import FLAGS
 from pevudlo.live.followed import FollowedSession
 from pevudlo.lsp import completion, names, outline, values
-from pevudlo.lsp.diagnostics import ERROR, HINT, WARNING, actions, diagnostics
+from pevudlo.lsp.diagnostics import ERROR, HINT, INFORMATION, WARNING, actions, diagnostics
 from pevudlo.lsp.opened import Opened
 from pevudlo.lsp.positions import paired
 from pevudlo.notebook.pieces import Pieces
@@ -145,7 +145,7 @@ def check_plain(views: Views, reading: Reading) -> None:
         check_mark(reading, at, "" if reading.wanted[at].row and sign != "!" else sign, words.removesuffix(SAME))
     if done.fresh and len(reading.lines) < MOST_TOLD:
         touched = {at for at, shown in enumerate(document.shown) if shown.row and shown.row.book in done.touched}
-        others = {at for at, wanted in enumerate(reading.wanted) if wanted.gone or wanted.sign in ("✗", "→")}
+        others = {at for at, wanted in enumerate(reading.wanted) if wanted.gone or wanted.sign in ("✗", "→", "i")}
         assert found.keys() == touched | others
 
 
@@ -225,7 +225,8 @@ def check_diagnostics(views: Views, reading: Reading) -> None:
         if each["severity"] == ERROR:
             assert each["code"] == int(reading.fresh.refused[at].split(" ")[1])
     for at, wanted in enumerate(reading.wanted):
-        severity = {"✗": ERROR, "!": WARNING, "·": HINT}.get(wanted.sign, HINT if wanted.gone else 0)
+        known = {"✗": ERROR, "!": WARNING, "i": INFORMATION, "·": HINT}
+        severity = known.get(wanted.sign, HINT if wanted.gone else 0)
         assert [each for each, _ in told.pop(at, [])] == ([severity] if severity else []), at
     assert told == {}
     actions(views.opened, everywhere() | {"context": {"diagnostics": []}})
