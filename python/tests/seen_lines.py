@@ -154,7 +154,7 @@ class Reading:
         return Wanted("·" if word in TIME else "", place=self._above(at) if word in TIME else START)
 
     def _fault(self, at: int) -> str:
-        """The reply to a refused line. A column is that of the line as it stands, without what a script has before it."""
+        """The reply to a refused line. A column is that of the line as it stands in its file."""
         words = self.fresh.refused[at].split(" ")
         if words[1] == SYNTAX:
             words[2] = str(int(words[2]) - len(told(self.lines[at])) + len(self.lines[at]))
