@@ -1,5 +1,6 @@
 //! The kernels of `crates/paris_plane`, `crates/paris_field` and `crates/paris_alu`, and of the crates for what is between processors, in
-//! plain Rust, measured: the same algorithms on the same planes, as loops over words, which the compiler vectorizes.
+//! plain Rust, measured: the same algorithms on the same planes, as loops over words, which the compiler vectorizes. Here a plane has its
+//! words also where it has one bit throughout.
 //!
 //! Compiled by `rustc -O`. It prints a line for each thing that is measured: its name, the width in bits, the count of
 //! processors, picoseconds a call (the least of several rounds), and a checksum of what the last call left.
@@ -20,6 +21,12 @@ const NEW_WORDS: usize = 4_000_000;
 const NUMBERS_WORDS: usize = 1_000_000;
 const BETWEEN_WORDS: usize = 500_000;
 
+/// How many planes of narrow numbers differ.
+const DIFFERING: usize = 10;
+
+/// The number that all processors have beside a field.
+const NUMBER: u64 = 201;
+
 const FACTOR: u64 = 6_364_136_223_846_793_005;
 const STEP: u64 = 1_442_695_040_888_963_407;
 
@@ -37,6 +44,18 @@ impl Generator {
 fn random_planes(seed: u64, width: usize, vps: usize) -> Vec<Plane> {
     let mut generator = Generator { state: seed };
     (0..width).map(|_| (0..vps / 64).map(|_| generator.next()).collect()).collect()
+}
+
+/// Random planes below, and zeros above.
+fn narrow_planes(seed: u64, width: usize, vps: usize) -> Vec<Plane> {
+    let mut planes = random_planes(seed, width.min(DIFFERING), vps);
+    planes.resize(width, vec![0; vps / 64]);
+    planes
+}
+
+/// The planes of one number that all processors have.
+fn constant_planes(width: usize, vps: usize) -> Vec<Plane> {
+    (0..width).map(|k| vec![(NUMBER >> k & 1).wrapping_neg(); vps / 64]).collect()
 }
 
 /// For each number below two to the `width` another one.
@@ -612,14 +631,23 @@ fn measure_kernel(operator: Operator, name: &str, size: &Size) {
     print(&format!("kernel-{name}"), size, time, checksum(&out));
 }
 
-fn measure_new(operator: Operator, name: &str, size: &Size) {
-    let x = random_planes(1, size.width, size.vps);
-    let y = random_planes(2, size.width, size.vps);
+fn measure_new(operator: Operator, name: &str, size: &Size, x: &[Plane], y: &[Plane]) {
     let mut last = Vec::new();
     let time = least(size.calls(NEW_WORDS), || {
-        last = made(operator, black_box(&x), black_box(&y));
+        last = made(operator, black_box(x), black_box(y));
     });
-    print(&format!("new-{name}"), size, time, checksum(&last));
+    print(name, size, time, checksum(&last));
+}
+
+/// An operator on random numbers, on narrow ones, and beside a constant.
+fn measure_results(operator: Operator, name: &str, size: &Size) {
+    let Size { width, vps } = *size;
+    let (x, y) = (random_planes(1, width, vps), random_planes(2, width, vps));
+    measure_new(operator, &format!("new-{name}"), size, &x, &y);
+    let constant = constant_planes(width, vps);
+    measure_new(operator, &format!("constant-{name}"), size, &x, &constant);
+    let (x, y) = (narrow_planes(1, width, vps), narrow_planes(2, width, vps));
+    measure_new(operator, &format!("narrow-{name}"), size, &x, &y);
 }
 
 fn checksum_of_numbers(list: &[u128]) -> u64 {
@@ -676,7 +704,7 @@ fn measure_all(size: &Size) {
         if !matches!(operator, Operator::Subtract) {
             measure_kernel(operator, name, size);
         }
-        measure_new(operator, name, size);
+        measure_results(operator, name, size);
     }
     measure_numbers(size);
     measure_lines(size);

@@ -71,6 +71,23 @@ function operations() {
     compared_rows("`FieldValue::from_numbers`", "from-numbers")
 }
 
+# Numbers of which few planes differ, and a number that all processors have.
+function layers() {
+    print ""
+    print "| Rattle / rustc | processors | 8 bits | 32 bits | 64 bits |"
+    print "|---|---|---|---|---|"
+    compared_rows("`u-add`, of which 10 planes differ", "narrow-add")
+    compared_rows("`u-subtract`, of which 10 planes differ", "narrow-subtract")
+    compared_rows("`s-lt`, of which 10 planes differ", "narrow-less")
+    compared_rows("`logxor`, of which 10 planes differ", "narrow-xor")
+    compared_rows("`u-max`, of which 10 planes differ", "narrow-maximum")
+    compared_rows("`u-add` of a constant", "constant-add")
+    compared_rows("`u-subtract` of a constant", "constant-subtract")
+    compared_rows("`s-lt` beside a constant", "constant-less")
+    compared_rows("`logxor` with a constant", "constant-xor")
+    compared_rows("`u-max` beside a constant", "constant-maximum")
+}
+
 function between() {
     print ""
     print "| Rattle / rustc | processors | 8 bits | 32 bits | 64 bits |"
@@ -169,6 +186,7 @@ function scripts() {
 END {
     if (failed) exit 1
     operations()
+    layers()
     between()
     shifts()
     scans()

@@ -17,8 +17,11 @@ from typing import Any
 ROOT = Path(__file__).resolve().parent.parent.parent
 # In a library's folder: the sum of all that it was proved and built from, by the gate or by what stands beside this file.
 MARK = "proved"
-# What a proof of a library for C keeps, in the crate's folder.
-CHECKED = "out/checked"
+# The crates that are compiled for two processors, and the second of these. rt compiles for the first, x86-64-v2, of itself.
+COMPILED_TWICE = ("paris_front", "paris_c")
+BETTER = "x86-64-v3"
+# Words of the prover's call with a value that a call which proves nothing doesn't take.
+PROVING = ("--logic-built", "--jobs")
 # What the last run of the gate took, crate by crate.
 COSTS = ROOT / "checks" / "gate" / "out" / "costs.json"
 # What each crate may take.
@@ -55,21 +58,59 @@ def load_gate() -> ModuleType:
     return gate
 
 
-def keep_checked(gate: ModuleType) -> None:
-    """Has the proof of a library for C keep what it checked, as rt has it with programs, so that bindings/c/archive compiles just that."""
+def keep_checked(gate: ModuleType, *more: str) -> None:
+    """Has the proofs of the program and of the library for C keep what they checked, so that compile_checked compiles just that. The prover
+    takes what was checked for one processor for no other, so either crate is checked once more for each that is named."""
     plain = gate.Crate.ci
 
     def prove(crate: Any, flags: list[str], tests: bool) -> Any:
-        if tests or not crate.is_static:
+        if tests or crate.name not in COMPILED_TWICE:
             return plain(crate, flags, tests)
-        stamp, mark = crate.stamp(), Path(crate.folder, f"{CHECKED}.{MARK}")
-        mark.unlink(missing_ok=True)
-        status = crate.prove(["check", *crate.words(flags, keeps=False), "-o", CHECKED])
-        if not status:
-            mark.write_text(stamp)
+        status = check(crate, flags, None) if crate.is_static else plain(crate, flags, tests)
+        for cpu in more:
+            status = status or check(crate, flags, cpu)
         return status
 
     gate.Crate.ci = prove
+
+
+def check(crate: Any, flags: list[str], cpu: str | None) -> Any:
+    """Proves a crate from nothing, for a processor or for rt's own, and keeps what was checked."""
+    stamp, mark = crate.stamp(), mark_of_checked(crate, cpu)
+    mark.unlink(missing_ok=True)
+    status = crate.prove(["check", *crate.words(flags, keeps=False), *words_of(cpu), "-o", checked(cpu)])
+    if not status:
+        mark.write_text(stamp)
+    return status
+
+
+def compile_checked(gate: ModuleType, crate: Any, cpu: str | None, made: str) -> Any:
+    """Compiles a program's object file, or a library for C, of what its proof kept. Where that isn't of the present sources, the crate
+    itself is proved, by the prover's own call, once for all processors. What is below it is taken as it stands."""
+    words = [*crate.words(["--jobs", "2"], keeps=False), *words_of(cpu)]
+    if is_checked(crate, cpu):
+        for flag in PROVING:
+            at = words.index(flag)
+            words = [*words[:at], *words[at + 2 :]]
+        words += ["--crate-checked", checked(cpu)]
+    else:
+        words += gate.rtlib.KEPT
+    os.makedirs(Path(crate.folder, made).parent, exist_ok=True)
+    words += ["--toolchain", f"{gate.KIT}/toolchain", "--backend", "llvm"]
+    return crate.call(gate.rtlib.RATTLE, "build", *words, "-o", made)
+
+
+def words_of(cpu: str | None) -> list[str]:
+    return ["--cpu", cpu] if cpu else []
+
+
+def checked(cpu: str | None) -> str:
+    """What a check for a processor keeps, in the crate's folder."""
+    return f"out/checked-{cpu}" if cpu else "out/checked"
+
+
+def mark_of_checked(crate: Any, cpu: str | None) -> Path:
+    return Path(crate.folder, f"{checked(cpu)}.{MARK}")
 
 
 def remembered(stamp: Callable[[Any], str]) -> Callable[[Any], str]:
@@ -89,10 +130,20 @@ def crates_here(gate: ModuleType) -> list[Any]:
     return sorted(gate.rtlib.crates_below(os.getcwd()), key=lambda crate: len(crate.below()))
 
 
-def is_checked(crate: Any) -> bool:
-    """Whether what a proof of a library for C keeps stands, of the sources as they are."""
-    mark = Path(crate.folder, f"{CHECKED}.{MARK}")
+def is_checked(crate: Any, cpu: str | None) -> bool:
+    """Whether what a check for a processor keeps stands, of the sources as they are."""
+    mark = mark_of_checked(crate, cpu)
     return mark.is_file() and mark.read_text() == crate.stamp()
+
+
+def crate_to_compile(gate: ModuleType, name: str) -> Any:
+    """A crate of the current folder, to be compiled over the libraries that stand built. Where one of them is missing, the process ends."""
+    crate = next(it for it in gate.rtlib.crates_below(os.getcwd()) if it.name == name)
+    missing = [it.name for it in crate.below() if not os.path.isdir(it.rlib)]
+    if missing:
+        sys.exit(f"{sys.argv[0]}: {', '.join(missing)} isn't built: run the gate, or `rt lib` in crates/{name}")
+    crate.out = sys.stdout
+    return crate
 
 
 def mark_of(crate: Any) -> Path:

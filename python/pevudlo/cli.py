@@ -10,11 +10,12 @@ import importlib
 import os
 import sys
 from pathlib import Path
+from typing import Any
 
 from pevudlo.draw.visible import visible
 from pevudlo.hints.words import nearest
 from pevudlo.script import add_words, run_script
-from pevudlo.version import release
+from pevudlo.version import build, release
 
 COMMANDS = {
     "explain": "pevudlo.explain.command",
@@ -29,6 +30,18 @@ COMMANDS = {
 NAMES = ("pevudlo", "paris")
 
 
+class Version(argparse.Action):
+    """Says the release, and which build runs here."""
+
+    def __call__(self, parser: argparse.ArgumentParser, *_: Any) -> None:
+        try:
+            found = build()
+        except ValueError as error:
+            parser.exit(2, f"{parser.prog}: {error}\n")
+        print(f"{parser.prog} {release()}" + (f" ({found.value})" if found else ""))
+        parser.exit()
+
+
 def arguments() -> argparse.ArgumentParser:
     """The reader of the words that aren't a command's."""
     called = Path(sys.argv[0]).name
@@ -40,7 +53,7 @@ def arguments() -> argparse.ArgumentParser:
         epilog=f"`{name} COMMAND --help` says what it does and takes. A script of such a name is run as ./explain.",
         allow_abbrev=False,
     )
-    parser.add_argument("--version", action="version", version=f"%(prog)s {release()}")
+    parser.add_argument("--version", action=Version, nargs=0, help="say the release and the build that runs here")
     add_words(parser)
     parser.add_argument("files", nargs="*", metavar="FILE", help="a script")
     return parser

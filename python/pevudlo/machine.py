@@ -71,7 +71,8 @@ class Machine:
     With `library=True`, or a library's path, it is a session of the library in this process, found by `find_library`.
     Numbers go in and out as arrays, and threads may share it. Rows run in the background where `start` was called, in
     1 to 16 `workers`, 1 where nothing is said. `steps` says how many edits can be taken back: 100 where `workers` are
-    given, else none.
+    given, else none. `undo_bytes` is how many bytes they may take, about: a quarter of the machine's memory where
+    nothing is said.
 
     With `profile=2` fields have up to 128 bits, else up to 64. Any other profile than 1 and 2 is a ValueError.
     """
@@ -83,6 +84,7 @@ class Machine:
         library: bool | str | os.PathLike[str] = False,
         profile: int = USUAL,
         steps: int | None = None,
+        undo_bytes: int | None = None,
     ) -> None:
         self.program: Path | None = None
         self.library: Path | None = None
@@ -95,8 +97,8 @@ class Machine:
         elif program is not None:
             raise ValueError("a machine is over a program or over the library, and not over both")
         else:
-            usual = 0 if workers is None else MOST_STEPS
-            self._open(None if library is True else library, profile, workers or 1, usual if steps is None else steps)
+            kept = (0 if workers is None else MOST_STEPS) if steps is None else steps
+            self._open(None if library is True else library, profile, workers or 1, kept, undo_bytes)
         if library is False and profile != USUAL:
             self._talk.ask(f"paris {profile}", Ok)
 
@@ -106,19 +108,21 @@ class Machine:
         self._talk = Talk(Pipe(self.program, workers))
         self._data = data_of(self._talk)
 
-    def _open(self, path: str | os.PathLike[str] | None, profile: int, workers: int, steps: int) -> None:
+    def _open(
+        self, path: str | os.PathLike[str] | None, profile: int, workers: int, steps: int, undo_bytes: int | None
+    ) -> None:
         """Opens a session of the library in a profile. In another one than the usual no line of it chooses one."""
         self.library = find_library(path)
         is_chosen = profile != USUAL
         book = Book(self.library, profile if is_chosen else None)
-        self._hold(book, Board(profile=profile, is_begun=is_chosen), workers, steps)
+        self._hold(book, Board(profile=profile, is_begun=is_chosen), workers, steps, undo_bytes)
 
-    def _hold(self, book: Book, board: Board, workers: int, steps: int) -> None:
+    def _hold(self, book: Book, board: Board, workers: int, steps: int, undo_bytes: int | None) -> None:
         """Takes a session of the library, of which this board is."""
         talk = self._talk = Talk(book)
         talk.board = board
         self._data = data_of(talk)
-        self._background = Background(book, lambda: talk.board, workers, steps)
+        self._background = Background(book, lambda: talk.board, workers, steps, undo_bytes)
 
     def __enter__(self) -> Machine:
         return self
@@ -400,7 +404,8 @@ class Machine:
         machine = Machine.__new__(Machine)
         machine.program, machine.library = None, self.library
         with self._talk.lock:
-            machine._hold(inside.book.copy(), self._board.copy(), inside.workers, inside.steps)
+            most_bytes = inside.history.most_bytes
+            machine._hold(inside.book.copy(), self._board.copy(), inside.workers, inside.steps, most_bytes)
         return machine
 
     def unsettled(self) -> tuple[int, ...]:

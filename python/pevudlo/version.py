@@ -1,6 +1,7 @@
-"""The release of this package."""
+"""The release of this package, and the build that runs here."""
 
-from pevudlo.wire.program import PACKAGE, ROOT
+from pevudlo.wire.builds import Build, allowed
+from pevudlo.wire.program import NAME, NATIVE, PACKAGE, ROOT, is_program
 
 
 def release() -> str:
@@ -12,3 +13,14 @@ def release() -> str:
         if file.is_file() and (file.parent == PACKAGE or (ROOT / "dist" / "sums").is_file()):
             return file.read_text(encoding="ascii").strip()
     return "unknown"
+
+
+def build() -> Build | None:
+    """The build that runs here, of those that this package or its repository has. Where neither has one there is none.
+
+    Raises ValueError where PEVUDLO_CPU is wrong.
+    """
+    kept = [
+        it for it in allowed() if is_program(it.below(NATIVE) / NAME) or (it.below(ROOT / "dist") / "SUMS").is_file()
+    ]
+    return kept[0] if kept else None

@@ -2,49 +2,15 @@
 
 from __future__ import annotations
 
-import os
-import shutil
-import subprocess
 import time
 from pathlib import Path
 
 import pytest
+from front_tree import REPOSITORY, Tree
 
-REPOSITORY = Path(__file__).resolve().parents[2]
 FIRST = REPOSITORY / "examples/first-sum.paris"
 TRANSCRIPT = (REPOSITORY / "examples/first-sum.expected").read_text()
 SOURCE = "crates/paris_alu/src/lib.rt"
-
-
-class Tree:
-    """A copy of what ./paris reads, in which no toolchain is found."""
-
-    def __init__(self, root: Path) -> None:
-        self.root, self.stamp = root, root / "dist/out/stamp"
-        (root / "bin").mkdir(parents=True)
-        (root / "bin/rt").write_text("#!/bin/sh\nexit 1\n")
-        (root / "bin/rt").chmod(0o755)
-        for name in ("paris", "crates.txt"):
-            shutil.copy2(REPOSITORY / name, root / name)
-        shutil.copytree(REPOSITORY / "dist", root / "dist", ignore=shutil.ignore_patterns("out"))
-        shutil.copytree(
-            REPOSITORY / "crates", root / "crates", ignore=shutil.ignore_patterns("out", "tests", "must-fail")
-        )
-
-    def run(self, *words: str | Path) -> subprocess.CompletedProcess[str]:
-        environment = {**os.environ, "PATH": f"{self.root}/bin:{os.environ['PATH']}"}
-        return subprocess.run(
-            [self.root / "paris", *words], capture_output=True, text=True, timeout=60, env=environment
-        )
-
-    def turn_a_byte(self, name: str) -> None:
-        """Changes a byte of a file. Its size and the time of its last write are those of before."""
-        path = self.root / name
-        before, content = path.stat(), bytearray(path.read_bytes())
-        content[-2] ^= 1
-        path.write_bytes(content)
-        os.utime(path, ns=(before.st_atime_ns, before.st_mtime_ns))
-        assert path.stat().st_size == before.st_size and path.stat().st_mtime_ns == before.st_mtime_ns
 
 
 @pytest.fixture()

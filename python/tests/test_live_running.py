@@ -23,6 +23,8 @@ from pevudlo.live.seen import Seen
 from pevudlo.live.server import Server
 from pevudlo.record.looks import PICTURE_COUNTS, Looker
 from pevudlo.record.recorder import Recorder
+from pevudlo.wire.book import Book
+from pevudlo.wire.library import Held
 
 PATIENCE = 60.0
 SLOW_ROWS = 16
@@ -219,6 +221,41 @@ def test_the_history_is_gone_through_by_its_places(small: Server) -> None:
     assert seen == ["1", "20", "30", "10"]
     tab.command("input a 0 40")
     assert 'max="2" value="2"' in tab.settled()
+
+
+def test_a_script_is_loaded_with_one_snapshot_and_edits_behind_it_are_taken_back(
+    libparis: Path, monkeypatch: pytest.MonkeyPatch
+) -> None:
+    snapshot, made = Book.snapshot, list[Book]()
+
+    def counted(book: Book) -> Held:
+        made.append(book)
+        return snapshot(book)
+
+    monkeypatch.setattr(Book, "snapshot", counted)
+    session = RunningSession(libparis, 1)
+    lines = ["set S 4", "field a S 8", "input a 0 1 2 3 4", *["insert end u-add-3-1L a a a 8"] * 100, "insert end none"]
+    assert [step.text for step in session.load(lines)] == ["insert end none"]
+    assert len(made) == 1
+    with pytest.raises(ValueError, match="nothing to undo"):
+        session.undo()
+    assert session.run("delete 100").is_refused is False
+    assert len(session.rows) == 99
+    session.undo()
+    assert len(session.rows) == 100 and session.taken == lines[:-1]
+    with pytest.raises(ValueError, match="nothing to undo"):
+        session.undo()
+    session.close()
+
+
+def test_a_row_of_a_script_is_unsettled_since_an_edit_and_not_since_a_look(libparis: Path) -> None:
+    session = RunningSession(libparis, 1)
+    edits = ["set S 4", "field a S 8", "insert end u-add-3-1L a a a 8"]
+    session.load([*edits, "show a end", "list", "insert end none", "insert end u-move-1L a a 8"])
+    told = [*edits, "insert end u-move-1L a a 8"]
+    assert session.edit_lines == dict(enumerate(told, 1))
+    assert [session.edit_lines[row.edition] for row in session.rows] == told[2:]
+    session.close()
 
 
 def test_one_row_is_settled(libparis: Path) -> None:

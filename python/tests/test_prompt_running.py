@@ -80,6 +80,15 @@ def test_edits_are_taken_back_and_made_again(prompt: Prompt, shown: list[str], t
     assert told(prompt, shown, "input a 0 7", "undo", "input a 1 7", "redo")[-1] == "there is nothing to redo"
 
 
+def test_what_is_told_again_is_no_step(prompt: Prompt, shown: list[str]) -> None:
+    told(prompt, shown, *DECLARED, "insert end u-add-3-1L b a a 8")
+    assert told(prompt, shown, "again") == ["the program is started again, and 5 accepted commands are told"]
+    assert told(prompt, shown, "undo") == ["there is nothing to undo"]
+    assert told(prompt, shown, "input a 0 9", "undo")[-1] == "taken back: input a 0 9"
+    assert told(prompt, shown, "undo") == ["there is nothing to undo"]
+    assert told(prompt, shown, "settle", "line b")[-1] == "values 2 4 6 8"
+
+
 def test_what_ran_by_itself_is_saved_settled(prompt: Prompt, shown: list[str], tmp_path: Path) -> None:
     told(prompt, shown, *DECLARED, "start", "insert end u-add-3-1L b a a 8")
     until_settled(prompt)

@@ -11,6 +11,7 @@ from pathlib import Path
 
 import pevudlo
 import pytest
+from pevudlo import version
 
 REPOSITORY = Path(__file__).resolve().parents[2]
 VERSION = (REPOSITORY / "VERSION").read_text()
@@ -25,11 +26,18 @@ def test_the_number_is_one() -> None:
     assert f"\n## {NUMBER}\n" in (REPOSITORY / "CHANGES.md").read_text()
 
 
-def test_the_launcher_says_it_with_the_toolchain() -> None:
+def build() -> str:
+    """The build that runs here."""
+    found = version.build()
+    assert found
+    return found.value
+
+
+def test_the_launcher_says_it_with_the_toolchain_and_the_build() -> None:
     kit = (REPOSITORY / "dist/SUMS").read_text().splitlines()[0].removeprefix("kit ")
     for word in ("--version", "-V"):
         said = subprocess.run([REPOSITORY / "paris", word], capture_output=True, text=True, timeout=60)
-        assert (said.returncode, said.stdout, said.stderr) == (0, f"paris {NUMBER} ({kit})\n", "")
+        assert (said.returncode, said.stdout, said.stderr) == (0, f"paris {NUMBER} ({kit}, {build()})\n", "")
 
 
 @pytest.mark.parametrize("shell", ["paris.bash", "_paris", "paris.fish"])
@@ -63,7 +71,7 @@ def test_the_package_says_it() -> None:
     environment = {**os.environ, "PYTHONPATH": str(REPOSITORY / "python")}
     words = [sys.executable, "-m", "pevudlo", "--version"]
     said = subprocess.run(words, capture_output=True, text=True, timeout=60, env=environment)
-    assert (said.returncode, said.stdout, said.stderr) == (0, f"pevudlo {NUMBER}\n", "")
+    assert (said.returncode, said.stdout, said.stderr) == (0, f"pevudlo {NUMBER} ({build()})\n", "")
 
 
 def test_a_package_that_stands_alone_has_no_number(tmp_path: Path) -> None:

@@ -7,8 +7,9 @@ ghost use Rattle.paris_field.specs.Numbers.{AllOf, value_of_planes};
 ghost use Rattle.paris_alu.specs.Alu.{binary_field, bitwise_operator, unary_field};
 
 use crate::planes::{combined_planes, inverted_planes};
-use paris_field::{FieldValue, copy_planes};
-use paris_plane::{And, Or, Plane, WordOp, Xor};
+use paris_field::{FieldValue, copy_layers};
+use paris_layer::Layer;
+use paris_plane::{And, Or, WordOp, Xor};
 use std::alloc::{AllocError, Global};
 
 /// An operation on two bits.
@@ -22,8 +23,8 @@ pub enum BitOperator {
 /// What an operation makes of each two bits of planes, for `vps` processors.
 fn combined<O: WordOp>(
     alloc: Global,
-    x: &[Plane],
-    y: &[Plane],
+    x: &[Layer],
+    y: &[Layer],
     vps: usize,
 ) -> Result<FieldValue, AllocError>
     requires narrow { length x.now ≤ 128 }
@@ -33,7 +34,7 @@ fn combined<O: WordOp>(
     ensures { IfOk result (λ value. value ≡ value_of_planes vps (zip2 (zip2 O.bit) x.now y.now)) }
 {
     let planes = combined_planes::<O>(alloc, x, y)?;
-    Ok(FieldValue::from_planes(planes, vps))
+    Ok(FieldValue::from_layers(planes, vps))
 }
 
 /// What an operation makes of each two of the low `bits` bits of two fields.
@@ -67,7 +68,7 @@ pub fn invert(alloc: Global, x: &FieldValue, bits: u64) -> Result<FieldValue, Al
     ensures { IfOk result (λ value. value ≡ unary_field BitNot bits x.now) }
 {
     let planes = inverted_planes(alloc, x.low(bits))?;
-    Ok(FieldValue::from_planes(planes, x.len()))
+    Ok(FieldValue::from_layers(planes, x.len()))
 }
 
 /// The low `bits` bits of a field.
@@ -76,6 +77,6 @@ pub fn copy_low(alloc: Global, x: &FieldValue, bits: u64) -> Result<FieldValue, 
     requires x_width { bits ≤ x.now.width }
     ensures { IfOk result (λ value. value ≡ unary_field Move bits x.now) }
 {
-    let planes = copy_planes(alloc, x.low(bits))?;
-    Ok(FieldValue::from_planes(planes, x.len()))
+    let planes = copy_layers(alloc, x.low(bits))?;
+    Ok(FieldValue::from_layers(planes, x.len()))
 }

@@ -8,9 +8,10 @@ ghost use Rattle.paris_field.specs.Numbers.{AllOf, number_at, bits_everywhere};
 ghost use Rattle.paris_alu.specs.Alu.{binary_field, comparison_plane, extreme_operator};
 
 use crate::planes::{below, unlike};
-use paris_field::{FieldValue, chosen_planes};
+use paris_field::{FieldValue, chosen_layers};
+use paris_layer::Layer;
 use paris_model::{Comparison, Sign};
-use paris_plane::{Borrow, Plane};
+use paris_plane::Borrow;
 use std::alloc::{AllocError, Global};
 
 /// Which of two numbers is taken.
@@ -26,10 +27,10 @@ pub enum Extremum {
 fn less(
     alloc: Global,
     sign: Sign,
-    x: &[Plane],
-    y: &[Plane],
+    x: &[Layer],
+    y: &[Layer],
     vps: usize,
-) -> Result<Plane, AllocError>
+) -> Result<Layer, AllocError>
     requires positive { 0 < length x.now }
     requires same { length x.now ≡ length y.now }
     requires x_planes { AllOf vps x.now }
@@ -39,14 +40,14 @@ fn less(
     let top = x.len() - 1;
     let mut less = below(alloc, &x[..top], &y[..top], vps)?;
     match sign {
-        Sign::Unsigned => less.put_triple::<Borrow>(&x[top], &y[top]),
-        Sign::Signed => less.put_triple::<Borrow>(&y[top], &x[top]),
+        Sign::Unsigned => less.put_triple::<Borrow>(alloc, &x[top], &y[top])?,
+        Sign::Signed => less.put_triple::<Borrow>(alloc, &y[top], &x[top])?,
     }
     Ok(less)
 }
 
 /// The plane with every bit turned.
-fn inverted(plane: Plane) -> Plane
+fn inverted(plane: Layer) -> Layer
     ensures { result ≡ map not plane }
 {
     let mut inverted = plane;
@@ -61,7 +62,7 @@ pub fn compare(
     x: &FieldValue,
     y: &FieldValue,
     bits: u64,
-) -> Result<Plane, AllocError>
+) -> Result<Layer, AllocError>
     requires positive { 0 < bits }
     requires x_width { bits ≤ x.now.width }
     requires y_width { bits ≤ y.now.width }
@@ -82,15 +83,15 @@ pub fn compare(
 }
 
 /// The numbers of `y` where the mask is 1, and those of `x` elsewhere.
-fn selected(alloc: Global, mask: &Plane, x: &[Plane], y: &[Plane]) -> Result<FieldValue, AllocError>
+fn selected(alloc: Global, mask: &Layer, x: &[Layer], y: &[Layer]) -> Result<FieldValue, AllocError>
     requires narrow { length x.now ≤ 128 }
     requires same { length x.now ≡ length y.now }
     requires x_planes { AllOf (length mask.now) x.now }
     requires y_planes { AllOf (length mask.now) y.now }
     ensures { IfOk result (λ value. value ≡ record { width = length x.now; numbers = everywhere (length mask.now) (λ v. if slice_index_or mask.now v false then number_at y.now v else number_at x.now v) }) }
 {
-    let planes = chosen_planes(alloc, mask, y, x)?;
-    Ok(FieldValue::from_planes(planes, mask.len()))
+    let planes = chosen_layers(alloc, mask, y, x)?;
+    Ok(FieldValue::from_layers(planes, mask.len()))
 }
 
 /// The greater of the low `bits` bits of two fields.

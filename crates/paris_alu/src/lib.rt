@@ -1,7 +1,7 @@
-//! Arithmetic on fields whose bits lie in planes: what an operator makes of the operands of all processors at once.
+//! Arithmetic on fields whose bits lie in layers: what an operator makes of the operands of all processors at once.
 //!
-//! Each function takes the low `bits` bits of its operands, works on whole planes by lanes, and makes its results in new
-//! planes. It fails only for want of memory.
+//! Each function takes the low `bits` bits of its operands, works on whole layers, those in words by lanes, and makes its results in new
+//! layers. It fails only for want of memory.
 #![tactic(auto)]
 
 mod bitwise;

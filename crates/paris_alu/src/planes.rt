@@ -5,17 +5,18 @@ ghost use Rattle.std.specs.Simd.Lanes.{zip2};
 ghost use Rattle.paris_field.specs.Numbers.{AllOf, bit_in, number_at, plane_at, bits_everywhere};
 
 use crate::kernel::Unlike;
-use paris_field::copy_planes;
-use paris_plane::{Borrow, Plane, WordOp, Xor};
+use paris_field::copy_layers;
+use paris_layer::Layer;
+use paris_plane::{Borrow, Or, WordOp, Xor};
 use std::alloc::{AllocError, Global};
 
 /// The sums of the numbers of `x`, those of `y` and the carried bits. Leaves in `carry` what they carry.
 pub(crate) fn sum_planes(
     alloc: Global,
-    x: &[Plane],
-    y: &[Plane],
-    carry: &mut Plane,
-) -> Result<Vec<Plane>, AllocError>
+    x: &[Layer],
+    y: &[Layer],
+    carry: &mut Layer,
+) -> Result<Vec<Layer>, AllocError>
     requires same { length x.now ≡ length y.now }
     requires x_planes { AllOf (length carry.old) x.now }
     requires y_planes { AllOf (length carry.old) y.now }
@@ -26,7 +27,7 @@ pub(crate) fn sum_planes(
 {
     let mut planes = Vec::with_capacity(alloc, x.len())?;
     for k in 0..x.len() {
-        let plane = Plane::summed(alloc, &x[k], &y[k], carry)?;
+        let plane = Layer::summed(alloc, &x[k], &y[k], carry)?;
         planes.push(plane)?;
     }
     Ok(planes)
@@ -35,10 +36,10 @@ pub(crate) fn sum_planes(
 /// The differences of the numbers of `x` and those of `y` with the borrowed bits. Leaves in `borrow` what they borrow.
 pub(crate) fn difference_planes(
     alloc: Global,
-    x: &[Plane],
-    y: &[Plane],
-    borrow: &mut Plane,
-) -> Result<Vec<Plane>, AllocError>
+    x: &[Layer],
+    y: &[Layer],
+    borrow: &mut Layer,
+) -> Result<Vec<Layer>, AllocError>
     requires same { length x.now ≡ length y.now }
     requires x_planes { AllOf (length borrow.old) x.now }
     requires y_planes { AllOf (length borrow.old) y.now }
@@ -49,7 +50,7 @@ pub(crate) fn difference_planes(
 {
     let mut planes = Vec::with_capacity(alloc, x.len())?;
     for k in 0..x.len() {
-        let plane = Plane::difference(alloc, &x[k], &y[k], borrow)?;
+        let plane = Layer::difference(alloc, &x[k], &y[k], borrow)?;
         planes.push(plane)?;
     }
     Ok(planes)
@@ -59,9 +60,9 @@ pub(crate) fn difference_planes(
 /// it is not 0.
 pub(crate) fn opposite_planes(
     alloc: Global,
-    x: &[Plane],
-    borrow: &mut Plane,
-) -> Result<Vec<Plane>, AllocError>
+    x: &[Layer],
+    borrow: &mut Layer,
+) -> Result<Vec<Layer>, AllocError>
     requires { AllOf (length borrow.old) x.now }
     ensures long { length borrow.new ≡ length borrow.old }
     ensures count { IfOk result (λ planes. length planes.items ≡ length x.now) }
@@ -70,8 +71,8 @@ pub(crate) fn opposite_planes(
 {
     let mut planes = Vec::with_capacity(alloc, x.len())?;
     for k in 0..x.len() {
-        let plane = Plane::combined::<Xor>(alloc, &x[k], borrow)?;
-        borrow.or_in(&x[k]);
+        let plane = Layer::combined::<Xor>(alloc, &x[k], borrow)?;
+        borrow.put::<Or>(alloc, &x[k])?;
         planes.push(plane)?;
     }
     Ok(planes)
@@ -80,28 +81,28 @@ pub(crate) fn opposite_planes(
 /// What the operation makes of each two planes.
 pub(crate) fn combined_planes<O: WordOp>(
     alloc: Global,
-    x: &[Plane],
-    y: &[Plane],
-) -> Result<Vec<Plane>, AllocError>
+    x: &[Layer],
+    y: &[Layer],
+) -> Result<Vec<Layer>, AllocError>
     requires same { length x.now ≡ length y.now }
     requires long { (k : ℕ) → k < length x.now → length (plane_at x.now k) ≡ length (plane_at y.now k) }
     ensures { IfOk result (λ planes. planes.items ≡ zip2 (zip2 O.bit) x.now y.now) }
 {
     let mut planes = Vec::with_capacity(alloc, x.len())?;
     for k in 0..x.len() {
-        let plane = Plane::combined::<O>(alloc, &x[k], &y[k])?;
+        let plane = Layer::combined::<O>(alloc, &x[k], &y[k])?;
         planes.push(plane)?;
     }
     Ok(planes)
 }
 
 /// Each plane with every bit turned.
-pub(crate) fn inverted_planes(alloc: Global, x: &[Plane]) -> Result<Vec<Plane>, AllocError>
+pub(crate) fn inverted_planes(alloc: Global, x: &[Layer]) -> Result<Vec<Layer>, AllocError>
     ensures { IfOk result (λ planes. planes.items ≡ map (map not) x.now) }
 {
     let mut planes = Vec::with_capacity(alloc, x.len())?;
     for plane in x {
-        let inverted = Plane::inverted(alloc, plane)?;
+        let inverted = Layer::inverted(alloc, plane)?;
         planes.push(inverted)?;
     }
     Ok(planes)
@@ -110,18 +111,18 @@ pub(crate) fn inverted_planes(alloc: Global, x: &[Plane]) -> Result<Vec<Plane>, 
 /// Where the numbers of `x` are below those of `y`, for `vps` processors.
 pub(crate) fn below(
     alloc: Global,
-    x: &[Plane],
-    y: &[Plane],
+    x: &[Layer],
+    y: &[Layer],
     vps: usize,
-) -> Result<Plane, AllocError>
+) -> Result<Layer, AllocError>
     requires same { length x.now ≡ length y.now }
     requires x_planes { AllOf vps x.now }
     requires y_planes { AllOf vps y.now }
     ensures { IfOk result (λ plane. plane ≡ bits_everywhere vps (λ v. nat_lt (number_at x.now v) (number_at y.now v))) }
 {
-    let mut below = Plane::zeros(alloc, vps)?;
+    let mut below = Layer::filled(false, vps);
     for k in 0..x.len() {
-        below.put_triple::<Borrow>(&x[k], &y[k]);
+        below.put_triple::<Borrow>(alloc, &x[k], &y[k])?;
     }
     Ok(below)
 }
@@ -129,30 +130,30 @@ pub(crate) fn below(
 /// Where the numbers of `x` and `y` differ, for `vps` processors.
 pub(crate) fn unlike(
     alloc: Global,
-    x: &[Plane],
-    y: &[Plane],
+    x: &[Layer],
+    y: &[Layer],
     vps: usize,
-) -> Result<Plane, AllocError>
+) -> Result<Layer, AllocError>
     requires same { length x.now ≡ length y.now }
     requires x_planes { AllOf vps x.now }
     requires y_planes { AllOf vps y.now }
     ensures { IfOk result (λ plane. plane ≡ bits_everywhere vps (λ v. not (number_at x.now v == number_at y.now v))) }
 {
-    let mut unlike = Plane::zeros(alloc, vps)?;
+    let mut unlike = Layer::filled(false, vps);
     for k in 0..x.len() {
-        unlike.put_triple::<Unlike>(&x[k], &y[k]);
+        unlike.put_triple::<Unlike>(alloc, &x[k], &y[k])?;
     }
     Ok(unlike)
 }
 
 /// Where the planes of `x` are not all `rest`.
-pub(crate) fn unlike_rest(alloc: Global, x: &[Plane], rest: &Plane) -> Result<Plane, AllocError>
+pub(crate) fn unlike_rest(alloc: Global, x: &[Layer], rest: &Layer) -> Result<Layer, AllocError>
     requires { AllOf (length rest.now) x.now }
     ensures { IfOk result (λ plane. plane ≡ bits_everywhere (length rest.now) (λ v. not (number_at x.now v == number_at (replicate (length x.now) rest.now) v))) }
 {
-    let mut unlike = Plane::zeros(alloc, rest.len())?;
+    let mut unlike = Layer::filled(false, rest.len());
     for plane in x {
-        unlike.put_triple::<Unlike>(plane, rest);
+        unlike.put_triple::<Unlike>(alloc, plane, rest)?;
     }
     Ok(unlike)
 }
@@ -160,14 +161,14 @@ pub(crate) fn unlike_rest(alloc: Global, x: &[Plane], rest: &Plane) -> Result<Pl
 /// The planes of `x`, and `rest` above them up to `bits` planes in all.
 pub(crate) fn extended_planes(
     alloc: Global,
-    x: &[Plane],
-    rest: &Plane,
+    x: &[Layer],
+    rest: &Layer,
     bits: usize,
-) -> Result<Vec<Plane>, AllocError>
+) -> Result<Vec<Layer>, AllocError>
     requires { length x.now ≤ bits }
     ensures { IfOk result (λ planes. planes.items ≡ x.now ++ replicate (bits - length x.now) rest.now) }
 {
-    let mut planes = copy_planes(alloc, x)?;
+    let mut planes = copy_layers(alloc, x)?;
     for _ in x.len()..bits {
         planes.push(rest.copy()?)?;
     }

@@ -11,45 +11,43 @@ ghost use Rattle.paris_alu.specs.Alu.{binary_field, carry_plane, difference_oper
 use crate::kernel::{DifferenceOverflow, SumOverflow};
 use crate::planes::{difference_planes, opposite_planes, sum_planes};
 use paris_field::FieldValue;
+use paris_layer::Layer;
 use paris_model::Sign;
-use paris_plane::{Plane, TripleOp};
+use paris_plane::{And, TripleOp};
 use std::alloc::{AllocError, Global};
 
 /// A sum or a difference, with a bit for each processor where it carries or borrows, and where it overflows.
 #[derive(Debug, Drop)]
 pub struct Sum {
     pub value: FieldValue,
-    pub carry: Plane,
-    pub overflow: Plane,
+    pub carry: Layer,
+    pub overflow: Layer,
 }
 
 /// A result, with a bit for each processor where it overflows.
 #[derive(Debug, Drop)]
 pub struct Overflowing {
     pub value: FieldValue,
-    pub overflow: Plane,
+    pub overflow: Layer,
 }
 
 /// Where a sum or a difference overflows: of unsigned numbers where it carries or borrows, and of signed ones by the top
 /// bits of the result and the operands.
 fn overflow<O: TripleOp>(
+    alloc: Global,
     sign: Sign,
-    carry: &Plane,
-    top: &Plane,
-    x_top: &Plane,
-    y_top: &Plane,
-) -> Result<Plane, AllocError>
+    carry: &Layer,
+    top: &Layer,
+    x_top: &Layer,
+    y_top: &Layer,
+) -> Result<Layer, AllocError>
     requires x { length top.now ≡ length x_top.now }
     requires y { length top.now ≡ length y_top.now }
     ensures { IfOk result (λ plane. plane ≡ by_sign sign carry.now (zip3 O.bit top.now x_top.now y_top.now)) }
 {
     match sign {
         Sign::Unsigned => carry.copy(),
-        Sign::Signed => {
-            let mut overflow = top.copy()?;
-            overflow.put_triple::<O>(x_top, y_top);
-            Ok(overflow)
-        }
+        Sign::Signed => Layer::combined_triple::<O>(alloc, top, x_top, y_top),
     }
 }
 
@@ -74,11 +72,11 @@ pub fn add(
     let top = bits as usize - 1;
     let xs = x.low(bits);
     let ys = y.low(bits);
-    let mut carry = Plane::zeros(alloc, vps)?;
+    let mut carry = Layer::filled(false, vps);
     let planes = sum_planes(alloc, xs, ys, &mut carry)?;
-    let overflow = overflow::<SumOverflow>(sign, &carry, &planes[top], &xs[top], &ys[top])?;
+    let overflow = overflow::<SumOverflow>(alloc, sign, &carry, &planes[top], &xs[top], &ys[top])?;
     Ok(Sum {
-        value: FieldValue::from_planes(planes, vps),
+        value: FieldValue::from_layers(planes, vps),
         carry,
         overflow,
     })
@@ -89,7 +87,7 @@ pub fn add_carry(
     alloc: Global,
     x: &FieldValue,
     y: &FieldValue,
-    carry: &Plane,
+    carry: &Layer,
     bits: u64,
 ) -> Result<Sum, AllocError>
     requires positive { 0 < bits }
@@ -109,7 +107,7 @@ pub fn add_carry(
     let planes = sum_planes(alloc, xs, ys, &mut carry)?;
     let overflow = carry.copy()?;
     Ok(Sum {
-        value: FieldValue::from_planes(planes, vps),
+        value: FieldValue::from_layers(planes, vps),
         carry,
         overflow,
     })
@@ -136,11 +134,18 @@ pub fn subtract(
     let top = bits as usize - 1;
     let xs = x.low(bits);
     let ys = y.low(bits);
-    let mut borrow = Plane::zeros(alloc, vps)?;
+    let mut borrow = Layer::filled(false, vps);
     let planes = difference_planes(alloc, xs, ys, &mut borrow)?;
-    let overflow = overflow::<DifferenceOverflow>(sign, &borrow, &planes[top], &xs[top], &ys[top])?;
+    let overflow = overflow::<DifferenceOverflow>(
+        alloc,
+        sign,
+        &borrow,
+        &planes[top],
+        &xs[top],
+        &ys[top],
+    )?;
     Ok(Sum {
-        value: FieldValue::from_planes(planes, vps),
+        value: FieldValue::from_layers(planes, vps),
         carry: borrow,
         overflow,
     })
@@ -157,12 +162,11 @@ pub fn negate(alloc: Global, x: &FieldValue, bits: u64) -> Result<Overflowing, A
     let vps = x.len();
     let top = bits as usize - 1;
     let xs = x.low(bits);
-    let mut borrow = Plane::zeros(alloc, vps)?;
+    let mut borrow = Layer::filled(false, vps);
     let planes = opposite_planes(alloc, xs, &mut borrow)?;
-    let mut overflow = planes[top].copy()?;
-    overflow.and_in(&xs[top]);
+    let overflow = Layer::combined::<And>(alloc, &planes[top], &xs[top])?;
     Ok(Overflowing {
-        value: FieldValue::from_planes(planes, vps),
+        value: FieldValue::from_layers(planes, vps),
         overflow,
     })
 }

@@ -7,16 +7,16 @@ ghost use Rattle.paris_alu.specs.Bits.{by_sign};
 use crate::planes::{extended_planes, unlike_rest};
 use crate::sums::Overflowing;
 use paris_field::FieldValue;
+use paris_layer::Layer;
 use paris_model::Sign;
-use paris_plane::Plane;
 use std::alloc::{AllocError, Global};
 
 /// The bits that stand above the top bit.
-fn rest_above(alloc: Global, sign: Sign, top: &Plane) -> Result<Plane, AllocError>
+fn rest_above(sign: Sign, top: &Layer) -> Result<Layer, AllocError>
     ensures { IfOk result (λ plane. plane ≡ by_sign sign (replicate (length top.now) false) top.now) }
 {
     match sign {
-        Sign::Unsigned => Plane::zeros(alloc, top.len()),
+        Sign::Unsigned => Ok(Layer::filled(false, top.len())),
         Sign::Signed => top.copy(),
     }
 }
@@ -39,11 +39,11 @@ pub fn extend(
     let vps = x.len();
     let xs = x.low(from_bits);
     let kept = from_bits.min(bits) as usize;
-    let rest = rest_above(alloc, sign, &xs[kept - 1])?;
+    let rest = rest_above(sign, &xs[kept - 1])?;
     let overflow = unlike_rest(alloc, &xs[kept..], &rest)?;
     let planes = extended_planes(alloc, &xs[..kept], &rest, bits as usize)?;
     Ok(Overflowing {
-        value: FieldValue::from_planes(planes, vps),
+        value: FieldValue::from_layers(planes, vps),
         overflow,
     })
 }

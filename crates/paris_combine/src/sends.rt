@@ -10,6 +10,7 @@ ghost use Rattle.paris_combine.specs.Combined.{HasJoined, combined_mail};
 
 use crate::operators::{BitAnds, BitOrs, BitXors, Join, Maxima, Minima, Sums, apply};
 use paris_field::FieldValue;
+use paris_layer::Layer;
 use paris_model::{Combiner, Refusal};
 use paris_plane::Plane;
 use paris_router::{Delivery, Inbox, checked_mail, deliver_mail, low_mask, low_numbers, receivers};
@@ -38,7 +39,7 @@ fn combined_numbers(
     addresses: &FieldValue,
     x: &FieldValue,
     old: &FieldValue,
-    selected: &Plane,
+    selected: &Layer,
     bits: u64,
 ) -> Result<Result<Delivery, Refusal>, AllocError>
     requires few { length x.now.numbers ≤ MAX_PROCESSORS }
@@ -95,7 +96,7 @@ fn send_joined<J: Join>(
     addresses: &FieldValue,
     x: &FieldValue,
     old: &FieldValue,
-    selected: &Plane,
+    selected: &Layer,
     bits: u64,
 ) -> Result<Result<Delivery, Refusal>, AllocError>
     requires few { length x.now.numbers ≤ MAX_PROCESSORS }
@@ -123,7 +124,7 @@ fn send_joined<J: Join>(
         return Ok(Err(Refusal::BadAddress(v as u32)));
     }
     let value = FieldValue::from_words(alloc, bits, &joined.words)?;
-    let receivers = joined.receivers;
+    let receivers = Layer::from_plane(joined.receivers);
     Ok(Ok(Delivery { value, receivers }))
 }
 
@@ -134,7 +135,7 @@ fn send_words_with(
     addresses: &FieldValue,
     x: &FieldValue,
     old: &FieldValue,
-    selected: &Plane,
+    selected: &Layer,
     bits: u64,
 ) -> Result<Result<Delivery, Refusal>, AllocError>
     requires few { length x.now.numbers ≤ MAX_PROCESSORS }
@@ -167,7 +168,7 @@ pub fn send_with(
     addresses: &FieldValue,
     x: &FieldValue,
     old: &FieldValue,
-    selected: &Plane,
+    selected: &Layer,
     bits: u64,
 ) -> Result<Result<Delivery, Refusal>, AllocError>
     requires few { length x.now.numbers ≤ MAX_PROCESSORS }

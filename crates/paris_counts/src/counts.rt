@@ -4,10 +4,11 @@ ghost use Rattle.std.specs.Prelude.{◌≡◌, ◌≤◌, ◌+◌, ◌%◌, ℕ,
 ghost use Rattle.paris_field.specs.Numbers.{bit_in, has};
 ghost use Rattle.paris_counts.specs.Masked.{masked_sum};
 
+use paris_layer::Layer;
 use paris_plane::Plane;
 
 /// In how many of the `count` processors from `start` on both bits are 1.
-pub(crate) fn count_with(x: &Plane, mask: &Plane, start: usize, count: usize) -> u64
+pub(crate) fn count_with(x: &Layer, mask: &Plane, start: usize, count: usize) -> u64
     requires same { length x.now ≡ length mask.now }
     requires start { start % 64 ≡ 0 }
     requires whole { count % 64 ≡ 0 }
@@ -24,7 +25,7 @@ pub(crate) fn count_with(x: &Plane, mask: &Plane, start: usize, count: usize) ->
 }
 
 /// Of the candidates among the `count` processors from `start` on, those stay that have a 1 in `x`.
-fn keep_with(candidates: &mut Plane, x: &Plane, start: usize, count: usize)
+fn keep_with(candidates: &mut Plane, x: &Layer, start: usize, count: usize)
     requires same { length x.now ≡ length candidates.old }
     requires start { start % 64 ≡ 0 }
     requires whole { count % 64 ≡ 0 }
@@ -42,7 +43,7 @@ fn keep_with(candidates: &mut Plane, x: &Plane, start: usize, count: usize)
 
 /// Whether a bit of `x` is 1 in one of the candidates among the `count` processors from `start` on. Where it is, those of them with
 /// a 0 fall out.
-pub(crate) fn narrowed(candidates: &mut Plane, x: &Plane, start: usize, count: usize) -> bool
+pub(crate) fn narrowed(candidates: &mut Plane, x: &Layer, start: usize, count: usize) -> bool
     requires same { length x.now ≡ length candidates.old }
     requires start { start % 64 ≡ 0 }
     requires whole { count % 64 ≡ 0 }

@@ -8,10 +8,11 @@ ghost use Rattle.paris_model.specs.Lines.{values_where};
 ghost use Rattle.paris_field.specs.Numbers.{AllOf, has, number_at};
 
 use crate::counts::{count_with, narrowed};
+use paris_layer::Layer;
 use paris_plane::Plane;
 
 /// The sum of the numbers of the processors of the mask among the `count` from `start` on.
-pub fn sum_of(planes: &[Plane], mask: &Plane, start: usize, count: usize) -> u128
+pub fn sum_of(planes: &[Layer], mask: &Plane, start: usize, count: usize) -> u128
     requires narrow { length planes.now ≤ 96 }
     requires long { AllOf (length mask.now) planes.now }
     requires start { start % 64 ≡ 0 }
@@ -29,7 +30,7 @@ pub fn sum_of(planes: &[Plane], mask: &Plane, start: usize, count: usize) -> u12
 }
 
 /// A 1 in each digit where a number of the processors of the mask among the `count` from `start` on has one.
-pub fn or_of(planes: &[Plane], mask: &Plane, start: usize, count: usize) -> u128
+pub fn or_of(planes: &[Layer], mask: &Plane, start: usize, count: usize) -> u128
     requires narrow { length planes.now ≤ 128 }
     requires long { AllOf (length mask.now) planes.now }
     requires start { start % 64 ≡ 0 }
@@ -47,7 +48,7 @@ pub fn or_of(planes: &[Plane], mask: &Plane, start: usize, count: usize) -> u128
 }
 
 /// A 1 in each digit where an odd number of the processors of the mask among the `count` from `start` on have one.
-pub fn xor_of(planes: &[Plane], mask: &Plane, start: usize, count: usize) -> u128
+pub fn xor_of(planes: &[Layer], mask: &Plane, start: usize, count: usize) -> u128
     requires narrow { length planes.now ≤ 128 }
     requires long { AllOf (length mask.now) planes.now }
     requires start { start % 64 ≡ 0 }
@@ -66,7 +67,7 @@ pub fn xor_of(planes: &[Plane], mask: &Plane, start: usize, count: usize) -> u12
 
 /// The greatest number of the candidates among the `count` processors from `start` on, and 0 where there are none. From the highest plane
 /// down, those of them fall out that have a 0 where others have a 1.
-pub fn maximum_of(planes: &[Plane], candidates: &mut Plane, start: usize, count: usize) -> u128
+pub fn maximum_of(planes: &[Layer], candidates: &mut Plane, start: usize, count: usize) -> u128
     requires narrow { length planes.now ≤ 128 }
     requires long { AllOf (length candidates.old) planes.now }
     requires start { start % 64 ≡ 0 }

@@ -3,6 +3,7 @@ use Rattle.std.proofs.Common.{◌≡◌, ℕ, zero, suc, ◌<◌, ◌==◌, Bool
 use Rattle.std.specs.Prelude.{not, ◌&&◌}
 use Rattle.std.specs.Simd.Lanes.{zip2}
 use Rattle.std.proofs.Math.Nat.{mod-eq_of_lt}
+use Rattle.std.proofs.lemmas.Simd.{length-zip2}
 use Rattle.std.proofs.lemmas.List.Elements.{All-get_or}
 use Rattle.std.proofs.lemmas.List.{length-map, length-replicate, get_or-replicate}
 use lib.Pow.{pow_pos}
@@ -58,20 +59,19 @@ where_same t k new who other same =
     ap (field_of t.plan k) (everywhere-same (processor_count t.plan.axes) _ _ (λ v below.
     ap (λ b. if b then put (slice_index (seen_at t k) v) (slice_index new.numbers v) new.width else slice_index (seen_at t k) v) (same v below)))
 
-without_at : (flags mask : List Bool) (v : ℕ) → v < length flags → length flags ≡ length mask → slice_index_or (zip2 (λ a b. a && b) (map not flags) mask) v false ≡ (not (slice_index_or flags v false) && slice_index_or mask v false)
+without_at : (flags mask : List Bool) (v : ℕ) → v < length flags → length flags ≡ length mask → slice_index_or (zip2 (λ a b. cond b false a) mask flags) v false ≡ (not (slice_index_or flags v false) && slice_index_or mask v false)
 without_at [] mask v h e = absurd (omega (arith, h))
 without_at (b ∷ bs) [] v h e = absurd (omega (arith, e))
-without_at (b ∷ bs) (m ∷ ms) zero h e = refl
+without_at (true ∷ bs) (m ∷ ms) zero h e = refl
+without_at (false ∷ bs) (m ∷ ms) zero h e = refl
 without_at (b ∷ bs) (m ∷ ms) (suc v) h e = without_at bs ms v (omega (arith, h)) (omega (arith, e))
 
-pub length-without : (flags mask : List Bool) → length flags ≡ length mask → length (zip2 (λ a b. a && b) (map not flags) mask) ≡ length flags
-length-without [] mask e = refl
-length-without (b ∷ bs) [] e = absurd (omega (arith, e))
-length-without (b ∷ bs) (m ∷ ms) e = ap suc (length-without bs ms (omega (arith, e)))
+pub length-without : (flags mask : List Bool) → length flags ≡ length mask → length (zip2 (λ a b. cond b false a) mask flags) ≡ length flags
+length-without flags mask e = length-zip2 (λ a b. cond b false a) mask flags (sym e) ∙ sym e
 
 -- a store where flags aren't set, by the selected processors
 pub put_without : (t : Task) (k : Key) (new : FieldNumbers) (flags mask : List Bool) → length flags ≡ processor_count t.plan.axes → length mask ≡ processor_count t.plan.axes → map bit mask ≡ seen_at t (Flag t.plan.set_no Context)
-    → put_value_where t (λ v. slice_index_or (zip2 (λ a b. a && b) (map not flags) mask) v false) k new ≡ put_value_where t (is_selected_without t flags) k new
+    → put_value_where t (λ v. slice_index_or (zip2 (λ a b. cond b false a) mask flags) v false) k new ≡ put_value_where t (is_selected_without t flags) k new
 put_without t k new flags mask long count mask_is =
     where_same t k new _ _ (λ v below.
     without_at flags mask v (subst (λ n. v < n) (sym long) below) (long ∙ sym count)

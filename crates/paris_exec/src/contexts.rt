@@ -12,9 +12,9 @@ use crate::planes::flag_plane;
 use paris_alu::copy_low;
 use paris_field::FieldValue;
 use paris_flags::{ContextStep, context_step};
+use paris_layer::Layer;
 use paris_model::{Action, Operand, Unconditional};
 use paris_names::{FlagName, Key, SetNo};
-use paris_plane::Plane;
 use std::alloc::{AllocError, Global};
 
 /// The values of a move of a source's low bits to the low bits of a field, in every processor.
@@ -36,18 +36,18 @@ fn move_always_values(
         values.push(copy_low(alloc, x, bits)?)?;
         return Ok(values);
     }
-    let all = Plane::ones(alloc, x.len())?;
+    let all = Layer::filled(true, x.len());
     let value = order.input(&Key::Field(to.field)).merged(&all, low, bits)?;
     values.push(value)?;
     Ok(values)
 }
 
 /// The value of a flag or of a field of one bit, alone.
-fn bits_alone(alloc: Global, bits: Plane) -> Result<Vec<FieldValue>, AllocError>
+fn bits_alone(alloc: Global, bits: Layer) -> Result<Vec<FieldValue>, AllocError>
     ensures { IfOk result (λ values. values.items ≡ flag_value bits ∷ []) }
 {
     let mut values = Vec::with_capacity(alloc, 1)?;
-    values.push(FieldValue::from_plane(alloc, bits)?)?;
+    values.push(FieldValue::from_layer(alloc, bits)?)?;
     Ok(values)
 }
 
@@ -55,14 +55,14 @@ fn bits_alone(alloc: Global, bits: Plane) -> Result<Vec<FieldValue>, AllocError>
 fn stepped(
     alloc: Global,
     step: ContextStep,
-    context: &Plane,
-    operand: &Plane,
+    context: &Layer,
+    operand: &Layer,
 ) -> Result<Vec<FieldValue>, AllocError>
     requires { length context.now ≡ length operand.now }
     ensures { IfOk result (λ values. values.items ≡ flag_value (zip2 (context_bit step) context.now operand.now) ∷ []) }
 {
     let mut bits = context.copy()?;
-    context_step(step, &mut bits, operand);
+    context_step(alloc, step, &mut bits, operand)?;
     bits_alone(alloc, bits)
 }
 
@@ -82,8 +82,8 @@ pub(crate) fn unconditional_values(
         Unconditional::MoveAlways { to, from, length } => {
             move_always_values(alloc, order, to, from, *length)
         }
-        Unconditional::SetContext(_) => bits_alone(alloc, Plane::ones(alloc, vps)?),
-        Unconditional::ClearContext(_) => bits_alone(alloc, Plane::zeros(alloc, vps)?),
+        Unconditional::SetContext(_) => bits_alone(alloc, Layer::filled(true, vps)),
+        Unconditional::ClearContext(_) => bits_alone(alloc, Layer::filled(false, vps)),
         Unconditional::LoadContext(from) => {
             let bits = order.input(&Key::Field(from.field)).mask().copy()?;
             bits_alone(alloc, bits)

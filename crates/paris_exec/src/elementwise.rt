@@ -14,9 +14,9 @@ use crate::planes::{put_field, put_flag_alone, put_overflowing, widened};
 use paris_alu::{Overflowing, compare, copy_low, extend, invert, negate};
 use paris_field::FieldValue;
 use paris_geometry::Geometry;
+use paris_layer::Layer;
 use paris_model::{Action, Comparison, Conditional, Operand, Sign, UnaryOperator};
 use paris_names::{FlagName, Key, SetNo};
-use paris_plane::Plane;
 use std::alloc::{AllocError, Global};
 
 /// The values that an operator of one source leaves.
@@ -272,8 +272,8 @@ pub(crate) fn conditional_values(
             coordinate_values(alloc, order, to, *axis, *length)
         }
         Conditional::MyAddress { to, length } => address_values(alloc, order, to, *length),
-        Conditional::SetTest(_) => put_flag_alone(alloc, order, &test, Plane::ones(alloc, vps)?),
-        Conditional::ClearTest(_) => put_flag_alone(alloc, order, &test, Plane::zeros(alloc, vps)?),
+        Conditional::SetTest(_) => put_flag_alone(alloc, order, &test, Layer::filled(true, vps)),
+        Conditional::ClearTest(_) => put_flag_alone(alloc, order, &test, Layer::filled(false, vps)),
         Conditional::LoadTest(from) => load_test_values(alloc, order, from),
         Conditional::StoreTest(to) => store_test_values(alloc, order, to),
     }

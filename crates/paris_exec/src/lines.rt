@@ -17,14 +17,14 @@ use crate::planes::{flag_plane, put_where};
 use paris_alu::compare;
 use paris_field::FieldValue;
 use paris_geometry::Direction;
+use paris_layer::Layer;
 use paris_model::{Action, Combiner, Comparison, Inclusion, Line, Operand};
 use paris_names::{FlagName, Key};
-use paris_plane::Plane;
 use paris_scan::{Combined, Reduced, copy_scan, copy_spread, reduce, scan, spread};
 use std::alloc::{AllocError, Global};
 
 /// Where a value is 1.
-fn where_one(alloc: Global, x: &FieldValue) -> Result<Plane, AllocError>
+fn where_one(alloc: Global, x: &FieldValue) -> Result<Layer, AllocError>
     requires { 0 < x.now.width }
     ensures { IfOk result (λ plane. plane ≡ bits_everywhere (length x.now.numbers) (λ v. slice_index x.now.numbers v == 1)) }
 {
@@ -38,13 +38,13 @@ fn segments_plane(
     alloc: Global,
     order: &Order,
     segments: &Option<Operand>,
-) -> Result<Plane, AllocError>
+) -> Result<Layer, AllocError>
     requires { IfSome segments.now (λ field. (has_key (reads order.now.plan) (Field field.field) ≡ true) × (0 < key_width order.now.plan (Field field.field))) }
     ensures begins { IfOk result (λ plane. (v : ℕ) → has plane v ≡ begins_segment (frame_at order.now) segments.now v) }
     ensures count { IfOk result (λ plane. length plane ≡ processor_count order.now.plan.axes) }
 {
     match segments {
-        None => Plane::zeros(alloc, order.plan().geometry().vps()),
+        None => Ok(Layer::filled(false, order.plan().geometry().vps())),
         Some(field) => where_one(alloc, order.input(&Key::Field(field.field))),
     }
 }
@@ -54,7 +54,7 @@ fn put_combined(
     alloc: Global,
     order: &Order,
     to: &Operand,
-    mask: &Plane,
+    mask: &Layer,
     new: Combined,
 ) -> Result<Vec<FieldValue>, AllocError>
     requires mask { length mask.now ≡ processor_count order.now.plan.axes }
@@ -71,7 +71,7 @@ fn put_combined(
         None => Ok(values),
         Some(bits) => {
             let flag = Key::Flag(order.plan().set(), FlagName::Overflow);
-            let bits = FieldValue::from_plane(alloc, bits)?;
+            let bits = FieldValue::from_layer(alloc, bits)?;
             values.push(put_where(order, mask, &flag, bits)?)?;
             Ok(values)
         }

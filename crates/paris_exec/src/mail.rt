@@ -64,7 +64,7 @@ fn put_delivery(
             Ok(values)
         }
         Some(notify) => {
-            let notified = FieldValue::from_plane(alloc, receivers)?;
+            let notified = FieldValue::from_layer(alloc, receivers)?;
             both(alloc, to.field, stored, notify.field, notified)
         }
     }

@@ -13,13 +13,14 @@ ghost use Rattle.paris_exec.specs.Planes.{flag_value, is_selected_without, AreRe
 use crate::orders::Order;
 use paris_alu::{Overflowing, Sum};
 use paris_field::FieldValue;
+use paris_layer::Layer;
 use paris_model::Operand;
 use paris_names::{FlagName, Key};
-use paris_plane::Plane;
+use paris_plane::Without;
 use std::alloc::{AllocError, Global};
 
 /// The bits of a flag that the plan reads.
-pub(crate) fn flag_plane<'a>(order: &'a Order, flag: &FlagName) -> &'a Plane
+pub(crate) fn flag_plane<'a>(order: &'a Order, flag: &FlagName) -> &'a Layer
     requires { has_key (reads order.now.plan) (Flag order.now.plan.set_no flag.now) ≡ true }
     ensures bits { map bit result.now ≡ seen_at order.now (Flag order.now.plan.set_no flag.now) }
     ensures count { length result.now ≡ processor_count order.now.plan.axes }
@@ -34,15 +35,15 @@ pub(crate) fn widened(alloc: Global, x: &FieldValue, width: u64) -> Result<Field
     ensures { IfOk result (λ value. value ≡ record { width = width; numbers = x.now.numbers }) }
 {
     let vps = x.len();
-    let all = Plane::ones(alloc, vps)?;
+    let all = Layer::filled(true, vps);
     let mut value = FieldValue::zeros(alloc, width, vps)?;
-    value.merge_in(&all, x.planes(), x.width());
+    value.merge_in(&all, x.planes(), x.width())?;
     Ok(value)
 }
 
 /// New numbers in the selected processors, and the old ones in the others.
 fn keep_others(
-    selected: &Plane,
+    selected: &Layer,
     old: &FieldValue,
     new: FieldValue,
 ) -> Result<FieldValue, AllocError>
@@ -53,13 +54,13 @@ fn keep_others(
 {
     let width = new.planes().len() as u64;
     let kept = old.low(width);
-    if selected.is_full() {
+    if selected.is_all(true) {
         return Ok(new);
     }
     let mut others = selected.copy()?;
     others.not_in();
     let mut value = new;
-    value.merge_in(&others, kept, width);
+    value.merge_in(&others, kept, width)?;
     Ok(value)
 }
 
@@ -67,7 +68,7 @@ fn keep_others(
 /// is all of them, no copy is made: the new value takes the others' old numbers.
 pub(crate) fn put_where(
     order: &Order,
-    mask: &Plane,
+    mask: &Layer,
     key: &Key,
     new: FieldValue,
 ) -> Result<FieldValue, AllocError>
@@ -101,7 +102,7 @@ fn put_flag(
     alloc: Global,
     order: &Order,
     flag: &FlagName,
-    new: &Plane,
+    new: &Layer,
 ) -> Result<FieldValue, AllocError>
     requires context { has_key (reads order.now.plan) (Flag order.now.plan.set_no Context) ≡ true }
     requires read { has_key (reads order.now.plan) (Flag order.now.plan.set_no flag.now) ≡ true }
@@ -109,8 +110,8 @@ fn put_flag(
     ensures { IfOk result (λ value. value ≡ put_value order.now (Flag order.now.plan.set_no flag.now) (flag_value new.now)) }
 {
     let selected = flag_plane(order, &FlagName::Context);
-    let bits = Plane::selected(alloc, selected, new, flag_plane(order, flag))?;
-    FieldValue::from_plane(alloc, bits)
+    let bits = Layer::selected(alloc, selected, new, flag_plane(order, flag))?;
+    FieldValue::from_layer(alloc, bits)
 }
 
 /// The values of an instruction that stores to a field alone.
@@ -135,7 +136,7 @@ pub(crate) fn put_flag_alone(
     alloc: Global,
     order: &Order,
     flag: &FlagName,
-    new: Plane,
+    new: Layer,
 ) -> Result<Vec<FieldValue>, AllocError>
     requires read { AreRead order.now (Flag order.now.plan.set_no flag.now ∷ Flag order.now.plan.set_no Context ∷ []) }
     requires count { length new ≡ processor_count order.now.plan.axes }
@@ -181,9 +182,7 @@ pub(crate) fn put_quotient(
 {
     let Overflowing { value, overflow } = new;
     let selected = flag_plane(order, &FlagName::Context);
-    let mut divided = overflow.copy()?;
-    divided.not_in();
-    divided.and_in(selected);
+    let divided = Layer::combined::<Without>(alloc, selected, &overflow)?;
     let mut values = Vec::with_capacity(alloc, 2)?;
     values.push(put_where(order, &divided, &Key::Field(to.field), value)?)?;
     values.push(put_flag(alloc, order, &FlagName::Overflow, &overflow)?)?;

@@ -6,6 +6,7 @@ ghost use Rattle.paris_plane.specs.Bits.{word_bit};
 ghost use Rattle.paris_field.specs.Numbers.{AllOf, number_at, numbers, plane_at};
 
 use crate::transpose::{transpose8, transpose16, transpose32, transpose64};
+use paris_layer::Layer;
 use paris_plane::Plane;
 use std::alloc::{AllocError, Global};
 
@@ -16,27 +17,27 @@ const WORD: u128 = 1 << 64;
 pub(crate) const HALF: u64 = 1 << 32;
 
 /// The bits of a plane in the processors of a block, and zeros where there is no such plane.
-pub(crate) fn word_of(planes: &[Plane], k: usize, block: usize, vps: usize) -> u64
+pub(crate) fn word_of(layers: &[Layer], k: usize, block: usize, vps: usize) -> u64
     requires within { 64 * block < vps }
-    requires long { AllOf vps planes.now }
-    ensures { (i : ℕ) → i < 64 → 64 * block + i < vps → word_bit result i ≡ slice_index_or (plane_at planes.now k) (64 * block + i) false }
+    requires long { AllOf vps layers.now }
+    ensures { (i : ℕ) → i < 64 → 64 * block + i < vps → word_bit result i ≡ slice_index_or (plane_at layers.now k) (64 * block + i) false }
 {
-    if k < planes.len() {
-        planes[k].word(block)
+    if k < layers.len() {
+        layers[k].word(block)
     } else {
         0
     }
 }
 
 /// The words of a block of each of the first 64 planes, and zeros past the last plane.
-fn rows_of(planes: &[Plane], block: usize, vps: usize) -> [u64; 64]
+fn rows_of(layers: &[Layer], block: usize, vps: usize) -> [u64; 64]
     requires within { 64 * block < vps }
-    requires long { AllOf vps planes.now }
-    ensures { (k i : ℕ) → k < 64 → i < 64 → 64 * block + i < vps → word_bit (slice_index result k) i ≡ slice_index_or (plane_at planes.now k) (64 * block + i) false }
+    requires long { AllOf vps layers.now }
+    ensures { (k i : ℕ) → k < 64 → i < 64 → 64 * block + i < vps → word_bit (slice_index result k) i ≡ slice_index_or (plane_at layers.now k) (64 * block + i) false }
 {
     let mut rows = [0u64; 64];
-    for k in 0..planes.len().min(64) {
-        rows[k] = planes[k].word(block);
+    for k in 0..layers.len().min(64) {
+        rows[k] = layers[k].word(block);
     }
     rows
 }
@@ -92,57 +93,57 @@ fn halves(rows: &[u64; 64]) -> [u64; 64]
 }
 
 /// The number of each processor of a block as a word, where the planes hold its bits, up to 8 of them.
-fn byte_bits(planes: &[Plane], block: usize, vps: usize) -> [u64; 64]
-    requires narrow { length planes.now ≤ 8 }
+fn byte_bits(layers: &[Layer], block: usize, vps: usize) -> [u64; 64]
+    requires narrow { length layers.now ≤ 8 }
     requires within { 64 * block < vps }
-    requires long { AllOf vps planes.now }
-    ensures { (i k : ℕ) → i < 64 → k < 64 → 64 * block + i < vps → word_bit (slice_index result i) k ≡ slice_index_or (plane_at planes.now k) (64 * block + i) false }
+    requires long { AllOf vps layers.now }
+    ensures { (i k : ℕ) → i < 64 → k < 64 → 64 * block + i < vps → word_bit (slice_index result i) k ≡ slice_index_or (plane_at layers.now k) (64 * block + i) false }
 {
-    let mut rows = rows_of(planes, block, vps);
+    let mut rows = rows_of(layers, block, vps);
     transpose8(&mut rows);
     eighths(&rows)
 }
 
 /// The number of each processor of a block as a word, where the planes hold its bits, up to 16 of them.
-fn few_bits(planes: &[Plane], block: usize, vps: usize) -> [u64; 64]
-    requires narrow { length planes.now ≤ 16 }
+fn few_bits(layers: &[Layer], block: usize, vps: usize) -> [u64; 64]
+    requires narrow { length layers.now ≤ 16 }
     requires within { 64 * block < vps }
-    requires long { AllOf vps planes.now }
-    ensures { (i k : ℕ) → i < 64 → k < 64 → 64 * block + i < vps → word_bit (slice_index result i) k ≡ slice_index_or (plane_at planes.now k) (64 * block + i) false }
+    requires long { AllOf vps layers.now }
+    ensures { (i k : ℕ) → i < 64 → k < 64 → 64 * block + i < vps → word_bit (slice_index result i) k ≡ slice_index_or (plane_at layers.now k) (64 * block + i) false }
 {
-    let mut rows = rows_of(planes, block, vps);
+    let mut rows = rows_of(layers, block, vps);
     transpose16(&mut rows);
     quarters(&rows)
 }
 
 /// The number of each processor of a block as a word, where the planes hold its bits, up to 32 of them.
-fn half_bits(planes: &[Plane], block: usize, vps: usize) -> [u64; 64]
-    requires narrow { length planes.now ≤ 32 }
+fn half_bits(layers: &[Layer], block: usize, vps: usize) -> [u64; 64]
+    requires narrow { length layers.now ≤ 32 }
     requires within { 64 * block < vps }
-    requires long { AllOf vps planes.now }
-    ensures { (i k : ℕ) → i < 64 → k < 64 → 64 * block + i < vps → word_bit (slice_index result i) k ≡ slice_index_or (plane_at planes.now k) (64 * block + i) false }
+    requires long { AllOf vps layers.now }
+    ensures { (i k : ℕ) → i < 64 → k < 64 → 64 * block + i < vps → word_bit (slice_index result i) k ≡ slice_index_or (plane_at layers.now k) (64 * block + i) false }
 {
-    let mut rows = rows_of(planes, block, vps);
+    let mut rows = rows_of(layers, block, vps);
     transpose32(&mut rows);
     halves(&rows)
 }
 
 /// A word of the number of each processor of a block, of which the planes hold the bits, up to 64 of them.
-fn low_words(planes: &[Plane], block: usize, vps: usize) -> [u64; 64]
+fn low_words(layers: &[Layer], block: usize, vps: usize) -> [u64; 64]
     requires within { 64 * block < vps }
-    requires long { AllOf vps planes.now }
-    ensures { (i k : ℕ) → i < 64 → k < 64 → 64 * block + i < vps → word_bit (slice_index result i) k ≡ slice_index_or (plane_at planes.now k) (64 * block + i) false }
+    requires long { AllOf vps layers.now }
+    ensures { (i k : ℕ) → i < 64 → k < 64 → 64 * block + i < vps → word_bit (slice_index result i) k ≡ slice_index_or (plane_at layers.now k) (64 * block + i) false }
 {
-    if planes.len() <= 8 {
-        return byte_bits(planes, block, vps);
+    if layers.len() <= 8 {
+        return byte_bits(layers, block, vps);
     }
-    if planes.len() <= 16 {
-        return few_bits(planes, block, vps);
+    if layers.len() <= 16 {
+        return few_bits(layers, block, vps);
     }
-    if planes.len() <= 32 {
-        return half_bits(planes, block, vps);
+    if layers.len() <= 32 {
+        return half_bits(layers, block, vps);
     }
-    let mut rows = rows_of(planes, block, vps);
+    let mut rows = rows_of(layers, block, vps);
     transpose64(&mut rows);
     rows
 }
@@ -153,26 +154,26 @@ pub(crate) fn words_fit(words: &[u64])
 {}
 
 /// The number of each processor of a block as a word, the first processor's first. Those past the last processor mean nothing.
-pub fn block_words(planes: &[Plane], block: usize, vps: usize) -> [u64; 64]
-    requires narrow { length planes.now ≤ 64 }
+pub fn block_words(layers: &[Layer], block: usize, vps: usize) -> [u64; 64]
+    requires narrow { length layers.now ≤ 64 }
     requires within { 64 * block < vps }
-    requires long { AllOf vps planes.now }
-    ensures { (i : ℕ) → i < 64 → 64 * block + i < vps → slice_index result i ≡ number_at planes.now (64 * block + i) }
+    requires long { AllOf vps layers.now }
+    ensures { (i : ℕ) → i < 64 → 64 * block + i < vps → slice_index result i ≡ number_at layers.now (64 * block + i) }
 {
-    let words = low_words(planes, block, vps);
+    let words = low_words(layers, block, vps);
     words_fit(&words);
     words
 }
 
 /// The number of each processor of a block, the first processor's first. Those past the last processor mean nothing.
-pub fn block_numbers(planes: &[Plane], block: usize, vps: usize) -> [u128; 64]
-    requires narrow { length planes.now ≤ 128 }
+pub fn block_numbers(layers: &[Layer], block: usize, vps: usize) -> [u128; 64]
+    requires narrow { length layers.now ≤ 128 }
     requires within { 64 * block < vps }
-    requires long { AllOf vps planes.now }
-    ensures { (i : ℕ) → i < 64 → 64 * block + i < vps → slice_index result i ≡ number_at planes.now (64 * block + i) }
+    requires long { AllOf vps layers.now }
+    ensures { (i : ℕ) → i < 64 → 64 * block + i < vps → slice_index result i ≡ number_at layers.now (64 * block + i) }
 {
-    let low = low_words(planes, block, vps);
-    let high = low_words(&planes[planes.len().min(64)..], block, vps);
+    let low = low_words(layers, block, vps);
+    let high = low_words(&layers[layers.len().min(64)..], block, vps);
     let mut numbers = [0u128; 64];
     for i in 0..64usize {
         numbers[i] = high[i] as u128 * WORD + low[i] as u128;
@@ -183,31 +184,31 @@ pub fn block_numbers(planes: &[Plane], block: usize, vps: usize) -> [u128; 64]
 /// Adds the numbers of a block to those of the blocks below.
 fn push_block(
     list: &mut Vec<u128>,
-    planes: &[Plane],
+    layers: &[Layer],
     block: usize,
     vps: usize,
 ) -> Result<(), AllocError>
-    requires narrow { length planes.now ≤ 128 }
+    requires narrow { length layers.now ≤ 128 }
     requires within { 64 * block < vps }
-    requires long { AllOf vps planes.now }
-    requires below { list.old.items ≡ numbers (64 * block) planes.now }
-    ensures { OnOk result (list.new.items ≡ numbers (min (64 * block + 64) vps) planes.now) }
+    requires long { AllOf vps layers.now }
+    requires below { list.old.items ≡ numbers (64 * block) layers.now }
+    ensures { OnOk result (list.new.items ≡ numbers (min (64 * block + 64) vps) layers.now) }
 {
-    let block_numbers = block_numbers(planes, block, vps);
+    let block_numbers = block_numbers(layers, block, vps);
     let count = (vps - 64 * block).min(64);
     list.extend_from_slice(&block_numbers[..count])?;
     Ok(())
 }
 
 /// The numbers of `vps` processors, block by block.
-pub fn numbers_in(alloc: Global, planes: &[Plane], vps: usize) -> Result<Vec<u128>, AllocError>
-    requires narrow { length planes.now ≤ 128 }
-    requires long { AllOf vps planes.now }
-    ensures { IfOk result (λ list. list.items ≡ numbers vps planes.now) }
+pub fn numbers_in(alloc: Global, layers: &[Layer], vps: usize) -> Result<Vec<u128>, AllocError>
+    requires narrow { length layers.now ≤ 128 }
+    requires long { AllOf vps layers.now }
+    ensures { IfOk result (λ list. list.items ≡ numbers vps layers.now) }
 {
     let mut list = Vec::with_capacity(alloc, vps)?;
     for block in 0..vps.div_ceil(64) {
-        push_block(&mut list, planes, block, vps)?;
+        push_block(&mut list, layers, block, vps)?;
     }
     Ok(list)
 }
@@ -215,31 +216,31 @@ pub fn numbers_in(alloc: Global, planes: &[Plane], vps: usize) -> Result<Vec<u12
 /// Adds the numbers of a block, each a word, to those of the blocks below.
 fn push_words(
     list: &mut Vec<u64>,
-    planes: &[Plane],
+    layers: &[Layer],
     block: usize,
     vps: usize,
 ) -> Result<(), AllocError>
-    requires narrow { length planes.now ≤ 64 }
+    requires narrow { length layers.now ≤ 64 }
     requires within { 64 * block < vps }
-    requires long { AllOf vps planes.now }
-    requires below { list.old.items ≡ numbers (64 * block) planes.now }
-    ensures { OnOk result (list.new.items ≡ numbers (min (64 * block + 64) vps) planes.now) }
+    requires long { AllOf vps layers.now }
+    requires below { list.old.items ≡ numbers (64 * block) layers.now }
+    ensures { OnOk result (list.new.items ≡ numbers (min (64 * block + 64) vps) layers.now) }
 {
-    let words = block_words(planes, block, vps);
+    let words = block_words(layers, block, vps);
     let count = (vps - 64 * block).min(64);
     list.extend_from_slice(&words[..count])?;
     Ok(())
 }
 
 /// The numbers of `vps` processors, each a word, block by block.
-pub fn words_in(alloc: Global, planes: &[Plane], vps: usize) -> Result<Vec<u64>, AllocError>
-    requires narrow { length planes.now ≤ 64 }
-    requires long { AllOf vps planes.now }
-    ensures { IfOk result (λ list. list.items ≡ numbers vps planes.now) }
+pub fn words_in(alloc: Global, layers: &[Layer], vps: usize) -> Result<Vec<u64>, AllocError>
+    requires narrow { length layers.now ≤ 64 }
+    requires long { AllOf vps layers.now }
+    ensures { IfOk result (λ list. list.items ≡ numbers vps layers.now) }
 {
     let mut list = Vec::with_capacity(alloc, vps)?;
     for block in 0..vps.div_ceil(64) {
-        push_words(&mut list, planes, block, vps)?;
+        push_words(&mut list, layers, block, vps)?;
     }
     Ok(list)
 }

@@ -1,16 +1,17 @@
 //! Values of a key: a number for each processor, whose bits lie in planes.
 
-ghost use Rattle.std.specs.Prelude.{◌≡◌, ◌↔◌, ℕ, ◌<◌, ◌≤◌, ◌+◌, ◌/◌, ◌%◌, ◌^◌, IfOk, IsTrue, None, false, length, map, nat_le, position, replicate, slice_index, slice_index_or};
+ghost use Rattle.std.specs.Prelude.{◌≡◌, ◌↔◌, ℕ, ◌<◌, ◌≤◌, ◌+◌, ◌/◌, ◌%◌, ◌^◌, IfOk, IsTrue, None, OnOk, false, length, map, nat_le, position, replicate, slice_index, slice_index_or};
 ghost use Rattle.paris_model.specs.Store.{bit, everywhere, low, stored};
 ghost use Rattle.paris_field.specs.Fields.{AllFit, field_eq, operand, overwritten};
 ghost use Rattle.paris_field.specs.Numbers.{AllOf, bit_in, value_of_planes, number_at};
 
 use crate::blocks::{numbers_in, put_all, words_in};
 use crate::planes::{
-    address_planes, constant_planes, copy_planes, merge_planes, merged_planes, number_in,
-    put_numbers, same_planes, zero_planes,
+    address_layers, constant_layers, copy_layers, layers_of, merge_layers, merged_layers,
+    number_in, planes_of, put_numbers, same_layers, zero_layers, zero_planes,
 };
 use crate::words::{put_words_from, words_of};
+use paris_layer::Layer;
 use paris_plane::Plane;
 use std::alloc::{AllocError, Global};
 use std::marker::Model;
@@ -18,7 +19,7 @@ use std::marker::Model;
 /// A number below `2 ^ width` for each processor of a set, by send address. A clause sees the width and the numbers.
 #[derive(Debug, Drop)]
 pub struct FieldValue {
-    planes: Vec<Plane>,
+    planes: Vec<Layer>,
     vps: usize,
 }
 
@@ -40,7 +41,7 @@ impl FieldValue {
         requires narrow { width ≤ 128 }
         ensures { IfOk result (λ value. value ≡ record { width = width; numbers = replicate vps 0 }) }
     {
-        let planes = zero_planes(alloc, width as usize, vps)?;
+        let planes = zero_layers(alloc, width as usize, vps)?;
         Ok(FieldValue { planes, vps })
     }
 
@@ -55,7 +56,7 @@ impl FieldValue {
         requires fits { number < 2 ^ width }
         ensures { IfOk result (λ value. value ≡ record { width = width; numbers = replicate vps number }) }
     {
-        let planes = constant_planes(alloc, width as usize, number, vps)?;
+        let planes = constant_layers(alloc, width as usize, number, vps)?;
         Ok(FieldValue { planes, vps })
     }
 
@@ -73,7 +74,7 @@ impl FieldValue {
         requires within { from + count ≤ 64 }
         ensures { IfOk result (λ value. value ≡ record { width = width; numbers = everywhere vps (λ v. v / 2 ^ from % 2 ^ count) }) }
     {
-        let planes = address_planes(alloc, width, from, count, vps)?;
+        let planes = address_layers(alloc, width, from, count, vps)?;
         Ok(FieldValue { planes, vps })
     }
 
@@ -90,7 +91,7 @@ impl FieldValue {
         let vps = numbers.len();
         let mut planes = zero_planes(alloc, width as usize, vps)?;
         put_all(&mut planes, numbers);
-        Ok(FieldValue { planes, vps })
+        FieldValue::from_planes(planes, vps)
     }
 
     /// The value of this width in bits, up to 128, with these numbers, each a word.
@@ -102,7 +103,7 @@ impl FieldValue {
         let vps = words.len();
         let mut planes = zero_planes(alloc, width as usize, vps)?;
         put_words_from(&mut planes, 0, words, vps);
-        Ok(FieldValue { planes, vps })
+        FieldValue::from_planes(planes, vps)
     }
 
     /// The place of the first number that doesn't fit this width in bits, up to 128.
@@ -122,22 +123,36 @@ impl FieldValue {
         words.iter().position(|x| is_word_too_wide(width, *x))
     }
 
-    /// The value whose bits are these planes, the lowest first, each with a bit for each of `vps` processors.
-    pub fn from_planes(planes: Vec<Plane>, vps: usize) -> FieldValue
+    /// The value whose bits are these planes, the lowest first, each with a bit for each of `vps` processors. Fails only for want of
+    /// memory.
+    pub fn from_planes(planes: Vec<Plane>, vps: usize) -> Result<FieldValue, AllocError>
         requires narrow { length planes.items ≤ 128 }
         requires long { AllOf vps planes.items }
-        ensures { result ≡ value_of_planes vps planes.items }
+        ensures { IfOk result (λ value. value ≡ value_of_planes vps planes.items) }
     {
-        FieldValue { planes, vps }
+        let planes = layers_of(*planes.allocator(), planes)?;
+        Ok(FieldValue { planes, vps })
     }
 
-    /// The value of width 1 whose numbers are the bits of a plane.
-    pub fn from_plane(alloc: Global, plane: Plane) -> Result<FieldValue, AllocError>
-        ensures { IfOk result (λ value. value ≡ record { width = 1; numbers = map bit plane }) }
+    /// The value whose bits are these layers, the lowest first, each with a bit for each of `vps` processors.
+    pub fn from_layers(layers: Vec<Layer>, vps: usize) -> FieldValue
+        requires narrow { length layers.items ≤ 128 }
+        requires long { AllOf vps layers.items }
+        ensures { result ≡ value_of_planes vps layers.items }
     {
-        let vps = plane.len();
+        FieldValue {
+            planes: layers,
+            vps,
+        }
+    }
+
+    /// The value of width 1 whose numbers are the bits of a layer.
+    pub fn from_layer(alloc: Global, layer: Layer) -> Result<FieldValue, AllocError>
+        ensures { IfOk result (λ value. value ≡ record { width = 1; numbers = map bit layer }) }
+    {
+        let vps = layer.len();
         let mut planes = Vec::with_capacity(alloc, 1)?;
-        planes.push(plane)?;
+        planes.push(layer)?;
         Ok(FieldValue { planes, vps })
     }
 
@@ -203,12 +218,9 @@ impl FieldValue {
             let words = words_of(alloc, numbers)?;
             return self.with_words(from, &words);
         }
-        let mut planes = copy_planes(alloc, &self.planes)?;
+        let mut planes = planes_of(alloc, &self.planes)?;
         put_numbers(&mut planes, from, numbers, self.vps);
-        Ok(FieldValue {
-            planes,
-            vps: self.vps,
-        })
+        FieldValue::from_planes(planes, self.vps)
     }
 
     /// A copy with these numbers, each of one word, in place of as many from a processor on.
@@ -217,18 +229,9 @@ impl FieldValue {
         requires fit { AllFit self.now.width words.now }
         ensures { IfOk result (λ value. value ≡ record { width = self.now.width; numbers = overwritten self.now.numbers from words.now }) }
     {
-        let mut value = self.copy()?;
-        value.put_words(from, words);
-        Ok(value)
-    }
-
-    /// Puts these numbers, each of one word, in place of as many from a processor on. It takes no memory.
-    pub(crate) fn put_words(&mut self, from: usize, words: &[u64])
-        requires within { from + length words.now ≤ length self.old.numbers }
-        requires fit { AllFit self.old.width words.now }
-        ensures { self.new ≡ record { width = self.old.width; numbers = overwritten self.old.numbers from words.now } }
-    {
-        put_words_from(&mut self.planes, from, words, self.vps);
+        let mut planes = planes_of(*self.planes.allocator(), &self.planes)?;
+        put_words_from(&mut planes, from, words, self.vps);
+        FieldValue::from_planes(planes, self.vps)
     }
 
     /// Whether both have the same width and the same numbers.
@@ -248,14 +251,14 @@ impl FieldValue {
         if self.planes.len() != other.planes.len() {
             return false;
         }
-        same_planes(&self.planes, &other.planes)
+        same_layers(&self.planes, &other.planes)
     }
 
     /// A copy that equals the value.
     pub fn copy(&self) -> Result<FieldValue, AllocError>
         ensures { IfOk result (λ value. value ≡ self.now) }
     {
-        let planes = copy_planes(*self.planes.allocator(), &self.planes)?;
+        let planes = copy_layers(*self.planes.allocator(), &self.planes)?;
         Ok(FieldValue {
             planes,
             vps: self.vps,
@@ -263,7 +266,7 @@ impl FieldValue {
     }
 
     /// The planes, the lowest first: a plane for each bit of the width, with a bit for each processor.
-    pub fn planes(&self) -> &[Plane]
+    pub fn planes(&self) -> &[Layer]
         ensures count { length result.now ≡ self.now.width }
         ensures long { AllOf (length self.now.numbers) result.now }
         ensures value { value_of_planes (length self.now.numbers) result.now ≡ self.now }
@@ -273,7 +276,7 @@ impl FieldValue {
     }
 
     /// The planes of the low `bits` bits.
-    pub fn low(&self, bits: u64) -> &[Plane]
+    pub fn low(&self, bits: u64) -> &[Layer]
         requires { bits ≤ self.now.width }
         ensures count { length result.now ≡ bits }
         ensures long { AllOf (length self.now.numbers) result.now }
@@ -284,7 +287,7 @@ impl FieldValue {
     }
 
     /// The plane of bit k.
-    pub fn plane(&self, k: u64) -> &Plane
+    pub fn plane(&self, k: u64) -> &Layer
         requires { k < self.now.width }
         ensures long { length result.now ≡ length self.now.numbers }
         ensures at { (v : ℕ) → v < length self.now.numbers → bit_in result.now v ≡ slice_index self.now.numbers v / 2 ^ k % 2 }
@@ -293,7 +296,7 @@ impl FieldValue {
     }
 
     /// The plane of a value of width 1: its bits are the numbers.
-    pub fn mask(&self) -> &Plane
+    pub fn mask(&self) -> &Layer
         requires { self.now.width ≡ 1 }
         ensures { map bit result.now ≡ self.now.numbers }
     {
@@ -301,7 +304,7 @@ impl FieldValue {
     }
 
     /// A copy with the low `bits` bits of the numbers that `other` holds where the mask is 1.
-    pub fn merged(&self, mask: &Plane, other: &[Plane], bits: u64) -> Result<FieldValue, AllocError>
+    pub fn merged(&self, mask: &Layer, other: &[Layer], bits: u64) -> Result<FieldValue, AllocError>
         requires room { bits ≤ self.now.width }
         requires there { bits ≤ length other.now }
         requires mask { length mask.now ≡ length self.now.numbers }
@@ -311,24 +314,26 @@ impl FieldValue {
         ensures numbers { IfOk result (λ value. value.numbers ≡ stored (length self.now.numbers) (λ v. slice_index_or mask.now v false) (slice_index self.now.numbers) bits (number_at other.now)) }
     {
         let alloc = *self.planes.allocator();
-        let planes = merged_planes(alloc, mask, &self.planes, other, bits as usize)?;
+        let planes = merged_layers(alloc, mask, &self.planes, other, bits as usize)?;
         Ok(FieldValue {
             planes,
             vps: self.vps,
         })
     }
 
-    /// Puts the low `bits` bits of the numbers that `other` holds where the mask is 1. Where it is 0 nothing changes.
-    pub fn merge_in(&mut self, mask: &Plane, other: &[Plane], bits: u64)
+    /// Puts the low `bits` bits of the numbers that `other` holds where the mask is 1. Where it is 0 nothing changes. Fails only for want
+    /// of memory; the numbers then mean nothing.
+    pub fn merge_in(&mut self, mask: &Layer, other: &[Layer], bits: u64) -> Result<(), AllocError>
         requires room { bits ≤ self.old.width }
         requires there { bits ≤ length other.now }
         requires mask { length mask.now ≡ length self.old.numbers }
         requires others { AllOf (length self.old.numbers) other.now }
         ensures width { self.new.width ≡ self.old.width }
         ensures count { length self.new.numbers ≡ length self.old.numbers }
-        ensures numbers { self.new.numbers ≡ stored (length self.old.numbers) (λ v. slice_index_or mask.now v false) (slice_index self.old.numbers) bits (number_at other.now) }
+        ensures numbers { OnOk result (self.new.numbers ≡ stored (length self.old.numbers) (λ v. slice_index_or mask.now v false) (slice_index self.old.numbers) bits (number_at other.now)) }
     {
-        merge_planes(&mut self.planes, mask, other, bits as usize);
+        let alloc = *self.planes.allocator();
+        merge_layers(alloc, &mut self.planes, mask, other, bits as usize)
     }
 }
 

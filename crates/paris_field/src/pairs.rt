@@ -7,11 +7,11 @@ ghost use Rattle.paris_field.specs.Numbers.{AllOf, number_at, plane_at};
 
 use crate::blocks::{HALF, quarters, word_of, words_fit};
 use crate::transpose::{transpose16, transpose64};
-use paris_plane::Plane;
+use paris_layer::Layer;
 
 /// The words of a block of each of the first planes, and from row `HIGH` on those of the others, with zeros past the last planes.
 #[inline(always)]
-fn paired_rows<const HIGH: usize>(xs: &[Plane], ys: &[Plane], block: usize, vps: usize) -> [u64; 64]
+fn paired_rows<const HIGH: usize>(xs: &[Layer], ys: &[Layer], block: usize, vps: usize) -> [u64; 64]
     requires room { HIGH ≤ 32 }
     requires x_narrow { length xs.now ≤ HIGH }
     requires y_narrow { length ys.now ≤ HIGH }
@@ -30,7 +30,7 @@ fn paired_rows<const HIGH: usize>(xs: &[Plane], ys: &[Plane], block: usize, vps:
 }
 
 /// A word of each processor of a block, whose low half has the bits of the first planes, and whose high half those of the others.
-fn paired_words(xs: &[Plane], ys: &[Plane], block: usize, vps: usize) -> [u64; 64]
+fn paired_words(xs: &[Layer], ys: &[Layer], block: usize, vps: usize) -> [u64; 64]
     requires x_narrow { length xs.now ≤ 32 }
     requires y_narrow { length ys.now ≤ 32 }
     requires within { 64 * block < vps }
@@ -56,7 +56,7 @@ fn spread(numbers: &[u64; 64]) -> [u64; 64]
 }
 
 /// The same words as those of two lists of up to 32 planes, where each has up to 8: four small squares hold their bits.
-fn paired_bytes(xs: &[Plane], ys: &[Plane], block: usize, vps: usize) -> [u64; 64]
+fn paired_bytes(xs: &[Layer], ys: &[Layer], block: usize, vps: usize) -> [u64; 64]
     requires x_narrow { length xs.now ≤ 8 }
     requires y_narrow { length ys.now ≤ 8 }
     requires within { 64 * block < vps }
@@ -74,7 +74,7 @@ fn paired_bytes(xs: &[Plane], ys: &[Plane], block: usize, vps: usize) -> [u64; 6
 /// A word of each processor of a block, the first processor's first, with its numbers in two lists of planes: the first list's in the low
 /// half of the word, and the other's in the high half. Words past the last processor mean nothing.
 #[inline(always)]
-pub fn block_pairs(xs: &[Plane], ys: &[Plane], block: usize, vps: usize) -> [u64; 64]
+pub fn block_pairs(xs: &[Layer], ys: &[Layer], block: usize, vps: usize) -> [u64; 64]
     requires x_narrow { length xs.now ≤ 32 }
     requires y_narrow { length ys.now ≤ 32 }
     requires within { 64 * block < vps }

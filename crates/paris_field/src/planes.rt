@@ -1,9 +1,10 @@
-//! Work on planes in place, with no memory of its own: plane k holds bit k of each processor's number.
+//! Lists of planes and of layers: plane k holds bit k of each processor's number.
 
-ghost use Rattle.std.specs.Prelude.{◌≡◌, ◌≢◌, ◌↔◌, ℕ, ◌+◌, ◌*◌, ◌/◌, ◌^◌, ◌<◌, ◌≤◌, ◌%◌, IfOk, IsTrue, cond, drop, false, length, replicate, slice_index, slice_index_or, take};
+ghost use Rattle.std.specs.Prelude.{◌≡◌, ◌≢◌, ◌↔◌, ℕ, ◌+◌, ◌*◌, ◌/◌, ◌^◌, ◌<◌, ◌≤◌, ◌%◌, IfOk, IsTrue, OnOk, cond, drop, false, length, replicate, slice_index, slice_index_or, take};
 ghost use Rattle.paris_model.specs.Store.{low};
 ghost use Rattle.paris_field.specs.Numbers.{AllOf, bit_in, number_at, numbers};
 
+use paris_layer::Layer;
 use paris_plane::Plane;
 use std::alloc::{AllocError, Global};
 
@@ -18,43 +19,75 @@ pub fn zero_planes(alloc: Global, width: usize, vps: usize) -> Result<Vec<Plane>
     Ok(planes)
 }
 
-/// `width` planes for `vps` processors: the low `count` of them hold as many bits of each processor's own address, from bit `from`
+/// `width` layers of zeros, for `vps` processors. They take no words.
+pub(crate) fn zero_layers(alloc: Global, width: usize, vps: usize) -> Result<Vec<Layer>, AllocError>
+    ensures { IfOk result (λ layers. layers.items ≡ replicate width (replicate vps false)) }
+{
+    let mut layers = Vec::with_capacity(alloc, width)?;
+    for _ in 0..width {
+        layers.push(Layer::filled(false, vps))?;
+    }
+    Ok(layers)
+}
+
+/// `width` layers for `vps` processors: the low `count` of them hold as many bits of each processor's own address, from bit `from`
 /// on, and the others zeros.
-pub(crate) fn address_planes(
+pub(crate) fn address_layers(
     alloc: Global,
     width: u64,
     from: u64,
     count: u64,
     vps: usize,
-) -> Result<Vec<Plane>, AllocError>
+) -> Result<Vec<Layer>, AllocError>
     requires narrow { width ≤ 128 }
     requires room { count ≤ width }
     requires within { from + count ≤ 64 }
-    ensures width { IfOk result (λ planes. length planes.items ≡ width) }
-    ensures long { IfOk result (λ planes. AllOf vps planes.items) }
-    ensures numbers { IfOk result (λ planes. (v : ℕ) → v < vps → number_at planes.items v ≡ v / 2 ^ from % 2 ^ count) }
+    ensures width { IfOk result (λ layers. length layers.items ≡ width) }
+    ensures long { IfOk result (λ layers. AllOf vps layers.items) }
+    ensures numbers { IfOk result (λ layers. (v : ℕ) → v < vps → number_at layers.items v ≡ v / 2 ^ from % 2 ^ count) }
 {
-    let mut planes = Vec::with_capacity(alloc, width as usize)?;
+    let mut layers = Vec::with_capacity(alloc, width as usize)?;
     for k in 0..count {
         let stripes = Plane::stripes(alloc, (from + k) as u32, vps)?;
-        planes.push(stripes)?;
+        layers.push(Layer::from_plane(stripes))?;
     }
     for _ in count..width {
-        let zeros = Plane::zeros(alloc, vps)?;
-        planes.push(zeros)?;
+        layers.push(Layer::filled(false, vps))?;
+    }
+    Ok(layers)
+}
+
+/// A copy of each layer.
+pub fn copy_layers(alloc: Global, layers: &[Layer]) -> Result<Vec<Layer>, AllocError>
+    ensures { IfOk result (λ copies. copies.items ≡ layers.now) }
+{
+    let mut copies = Vec::with_capacity(alloc, layers.len())?;
+    for layer in layers {
+        copies.push(layer.copy()?)?;
+    }
+    Ok(copies)
+}
+
+/// The bits of each layer in words of their own.
+pub fn planes_of(alloc: Global, layers: &[Layer]) -> Result<Vec<Plane>, AllocError>
+    ensures { IfOk result (λ planes. planes.items ≡ layers.now) }
+{
+    let mut planes = Vec::with_capacity(alloc, layers.len())?;
+    for layer in layers {
+        planes.push(layer.to_plane(alloc)?)?;
     }
     Ok(planes)
 }
 
-/// A copy of each plane.
-pub fn copy_planes(alloc: Global, planes: &[Plane]) -> Result<Vec<Plane>, AllocError>
-    ensures { IfOk result (λ copies. copies.items ≡ planes.now) }
+/// The bits of each plane, whose words go where all its bits are the same.
+pub fn layers_of(alloc: Global, planes: Vec<Plane>) -> Result<Vec<Layer>, AllocError>
+    ensures { IfOk result (λ layers. layers.items ≡ planes.items) }
 {
-    let mut copies = Vec::with_capacity(alloc, planes.len())?;
+    let mut layers = Vec::with_capacity(alloc, planes.len())?;
     for plane in planes {
-        copies.push(plane.copy()?)?;
+        layers.push(Layer::from_plane(plane))?;
     }
-    Ok(copies)
+    Ok(layers)
 }
 
 /// Takes the low `bits` bits of `other` where the mask is 1.
@@ -72,55 +105,77 @@ pub fn merge_planes(planes: &mut [Plane], mask: &Plane, other: &[Plane], bits: u
     }
 }
 
-/// The numbers of `chosen` where the mask is 1, and those of `others` elsewhere.
-pub fn chosen_planes(
+/// Takes the low `bits` bits of `other` where the mask is 1. Fails only for want of memory; the numbers then mean nothing.
+pub(crate) fn merge_layers(
     alloc: Global,
-    mask: &Plane,
-    chosen: &[Plane],
-    others: &[Plane],
-) -> Result<Vec<Plane>, AllocError>
+    layers: &mut [Layer],
+    mask: &Layer,
+    other: &[Layer],
+    bits: usize,
+) -> Result<(), AllocError>
+    requires room { bits ≤ length layers.old }
+    requires there { bits ≤ length other.now }
+    requires layers { AllOf (length mask.now) layers.old }
+    requires others { AllOf (length mask.now) other.now }
+    ensures layers { AllOf (length mask.now) layers.new }
+    ensures low { OnOk result ((v : ℕ) → v < length mask.now → number_at (take bits layers.new) v ≡ cond (slice_index_or mask.now v false) (number_at (take bits other.now) v) (number_at (take bits layers.old) v)) }
+    ensures high { OnOk result (drop bits layers.new ≡ drop bits layers.old) }
+{
+    for k in 0..bits {
+        layers[k].select_in(alloc, mask, &other[k])?;
+    }
+    Ok(())
+}
+
+/// The numbers of `chosen` where the mask is 1, and those of `others` elsewhere.
+pub fn chosen_layers(
+    alloc: Global,
+    mask: &Layer,
+    chosen: &[Layer],
+    others: &[Layer],
+) -> Result<Vec<Layer>, AllocError>
     requires same { length others.now ≡ length chosen.now }
     requires chosen { AllOf (length mask.now) chosen.now }
     requires others { AllOf (length mask.now) others.now }
-    ensures count { IfOk result (λ planes. length planes.items ≡ length others.now) }
-    ensures long { IfOk result (λ planes. AllOf (length mask.now) planes.items) }
-    ensures numbers { IfOk result (λ planes. (v : ℕ) → v < length mask.now → number_at planes.items v ≡ cond (slice_index_or mask.now v false) (number_at chosen.now v) (number_at others.now v)) }
+    ensures count { IfOk result (λ layers. length layers.items ≡ length others.now) }
+    ensures long { IfOk result (λ layers. AllOf (length mask.now) layers.items) }
+    ensures numbers { IfOk result (λ layers. (v : ℕ) → v < length mask.now → number_at layers.items v ≡ cond (slice_index_or mask.now v false) (number_at chosen.now v) (number_at others.now v)) }
 {
-    let mut planes = Vec::with_capacity(alloc, others.len())?;
+    let mut layers = Vec::with_capacity(alloc, others.len())?;
     for k in 0..others.len() {
-        let plane = Plane::selected(alloc, mask, &chosen[k], &others[k])?;
-        planes.push(plane)?;
+        let layer = Layer::selected(alloc, mask, &chosen[k], &others[k])?;
+        layers.push(layer)?;
     }
-    Ok(planes)
+    Ok(layers)
 }
 
-/// The planes of `old`, of which the low `bits` have the bits of `new` where the mask is 1.
-pub(crate) fn merged_planes(
+/// The layers of `old`, of which the low `bits` have the bits of `new` where the mask is 1.
+pub(crate) fn merged_layers(
     alloc: Global,
-    mask: &Plane,
-    old: &[Plane],
-    new: &[Plane],
+    mask: &Layer,
+    old: &[Layer],
+    new: &[Layer],
     bits: usize,
-) -> Result<Vec<Plane>, AllocError>
+) -> Result<Vec<Layer>, AllocError>
     requires room { bits ≤ length old.now }
     requires there { bits ≤ length new.now }
     requires old { AllOf (length mask.now) old.now }
     requires new { AllOf (length mask.now) new.now }
-    ensures count { IfOk result (λ planes. length planes.items ≡ length old.now) }
-    ensures long { IfOk result (λ planes. AllOf (length mask.now) planes.items) }
-    ensures low { IfOk result (λ planes. (v : ℕ) → v < length mask.now → number_at (take bits planes.items) v ≡ cond (slice_index_or mask.now v false) (number_at (take bits new.now) v) (number_at (take bits old.now) v)) }
-    ensures high { IfOk result (λ planes. drop bits planes.items ≡ drop bits old.now) }
+    ensures count { IfOk result (λ layers. length layers.items ≡ length old.now) }
+    ensures long { IfOk result (λ layers. AllOf (length mask.now) layers.items) }
+    ensures low { IfOk result (λ layers. (v : ℕ) → v < length mask.now → number_at (take bits layers.items) v ≡ cond (slice_index_or mask.now v false) (number_at (take bits new.now) v) (number_at (take bits old.now) v)) }
+    ensures high { IfOk result (λ layers. drop bits layers.items ≡ drop bits old.now) }
 {
-    let mut planes = chosen_planes(alloc, mask, &new[..bits], &old[..bits])?;
+    let mut layers = chosen_layers(alloc, mask, &new[..bits], &old[..bits])?;
     let high = &old[bits..];
-    for plane in high {
-        planes.push(plane.copy()?)?;
+    for layer in high {
+        layers.push(layer.copy()?)?;
     }
-    Ok(planes)
+    Ok(layers)
 }
 
-/// Whether two lists of as many planes are the same plane by plane.
-pub fn same_planes(x: &[Plane], y: &[Plane]) -> bool
+/// Whether two lists of as many layers are the same layer by layer.
+pub(crate) fn same_layers(x: &[Layer], y: &[Layer]) -> bool
     requires { length x.now ≡ length y.now }
     ensures { IsTrue result ↔ x.now ≡ y.now }
 {
@@ -133,38 +188,37 @@ pub fn same_planes(x: &[Plane], y: &[Plane]) -> bool
 }
 
 /// The number in processor `v` of `vps`.
-pub fn number_in(planes: &[Plane], v: usize, vps: usize) -> u128
-    requires narrow { length planes.now ≤ 128 }
+pub(crate) fn number_in(layers: &[Layer], v: usize, vps: usize) -> u128
+    requires narrow { length layers.now ≤ 128 }
     requires within { v < vps }
-    requires long { AllOf vps planes.now }
-    ensures { result ≡ number_at planes.now v }
+    requires long { AllOf vps layers.now }
+    ensures { result ≡ number_at layers.now v }
 {
     let mut number = 0;
-    for k in (0..planes.len()).rev() {
-        number = 2 * number + if planes[k].get(v) { 1 } else { 0 };
+    for k in (0..layers.len()).rev() {
+        number = 2 * number + if layers[k].get(v) { 1 } else { 0 };
     }
     number
 }
 
-/// `width` planes that hold a number in each of `vps` processors, as far as its bits have planes.
-pub(crate) fn constant_planes(
+/// `width` layers that hold a number in each of `vps` processors, as far as its bits have layers. They take no words.
+pub(crate) fn constant_layers(
     alloc: Global,
     width: usize,
     number: u128,
     vps: usize,
-) -> Result<Vec<Plane>, AllocError>
-    ensures width { IfOk result (λ planes. length planes.items ≡ width) }
-    ensures long { IfOk result (λ planes. AllOf vps planes.items) }
-    ensures numbers { IfOk result (λ planes. (v : ℕ) → v < vps → number_at planes.items v ≡ low width number) }
+) -> Result<Vec<Layer>, AllocError>
+    ensures width { IfOk result (λ layers. length layers.items ≡ width) }
+    ensures long { IfOk result (λ layers. AllOf vps layers.items) }
+    ensures numbers { IfOk result (λ layers. (v : ℕ) → v < vps → number_at layers.items v ≡ low width number) }
 {
-    let mut planes = Vec::with_capacity(alloc, width)?;
+    let mut layers = Vec::with_capacity(alloc, width)?;
     let mut rest = number;
     for _ in 0..width {
-        let plane = Plane::filled(alloc, rest % 2 == 1, vps)?;
-        planes.push(plane)?;
+        layers.push(Layer::filled(rest % 2 == 1, vps))?;
         rest /= 2;
     }
-    Ok(planes)
+    Ok(layers)
 }
 
 /// Puts a number into processor `v` of `vps`, as far as its bits have planes.

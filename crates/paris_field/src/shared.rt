@@ -1,6 +1,6 @@
 //! Values that are shared.
 
-ghost use Rattle.std.specs.Prelude.{◌≡◌, ◌+◌, ◌≤◌, IfErr, IfOk, IsFalse, IsTrue, OnErr, OnOk, length};
+ghost use Rattle.std.specs.Prelude.{◌≡◌, ◌+◌, ◌≤◌, IfErr, IfOk, OnErr, OnOk, length};
 ghost use Rattle.paris_field.specs.Fields.{AllFit, overwritten};
 
 use crate::field::FieldValue;
@@ -43,8 +43,8 @@ impl SharedValue {
         &self.owned
     }
 
-    /// Puts these numbers in place of as many from a processor on: into the value where it has no other owner, else into a copy, which
-    /// takes its place here. What other owners see stays, and at want of memory all does.
+    /// Puts these numbers in place of as many from a processor on, in a copy, which takes the value's place here. What other owners see
+    /// stays, and at want of memory all does.
     pub fn overwrite(
         &mut self,
         alloc: Global,
@@ -76,27 +76,8 @@ impl SharedValue {
         ensures ok { OnOk result (self.new ≡ record { width = self.old.width; numbers = overwritten self.old.numbers from words.now }) }
         ensures err { OnErr result (self.new ≡ self.old) }
     {
-        if self.put_alone(from, words) {
-            return Ok(());
-        }
         let value = self.get().with_words(from, words)?;
         self.replace(alloc, value)
-    }
-
-    /// Puts words into the value, if this is its only owner.
-    fn put_alone(&mut self, from: usize, words: &[u64]) -> bool
-        requires within { from + length words.now ≤ length self.old.numbers }
-        requires fit { AllFit self.old.width words.now }
-        ensures alone { IsTrue result → self.new ≡ record { width = self.old.width; numbers = overwritten self.old.numbers from words.now } }
-        ensures shared { IsFalse result → self.new ≡ self.old }
-    {
-        match Arc::get_mut(&mut self.owned) {
-            Some(value) => {
-                value.put_words(from, words);
-                true
-            }
-            None => false,
-        }
     }
 
     /// Puts another value in its place here.

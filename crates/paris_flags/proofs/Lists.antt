@@ -3,7 +3,7 @@ use Rattle.std.proofs.Common.{◌≡◌, ◌∙◌, List, [], ◌∷◌, Bool, t
 use Rattle.std.specs.Prelude.{not, cond, ◌||◌}
 use Rattle.std.specs.Simd.Lanes.{zip2}
 use Rattle.std.proofs.Math.Nat.{suc_inj}
-use Rattle.paris_plane.specs.Bits.{differ, zip3}
+use Rattle.paris_plane.specs.Bits.{zip3}
 
 -- the second list isn't looked at
 pub replicate_beside : (b : Bool) (xs ys : List Bool) → length xs ≡ length ys → replicate (length xs) b ≡ zip2 (λ _ _. b) xs ys
@@ -17,8 +17,9 @@ not_beside (x ∷ xs) [] h = absurd (omega (arith, h))
 not_beside (x ∷ xs) (y ∷ ys) h = ap (λ bs. not x ∷ bs) (not_beside xs ys (suc_inj h))
 
 -- the first list isn't looked at
-pub second_of : (xs ys : List Bool) → length xs ≡ length ys → zip2 (λ x y. x || y) (replicate (length xs) false) ys ≡ zip2 (λ _ y. y) xs ys
-second_of [] ys h = refl
+pub second_of : (xs ys : List Bool) → length xs ≡ length ys → ys ≡ zip2 (λ _ y. y) xs ys
+second_of [] [] h = refl
+second_of [] (y ∷ ys) h = absurd (omega (arith, h))
 second_of (x ∷ xs) [] h = absurd (omega (arith, h))
 second_of (x ∷ xs) (y ∷ ys) h = ap (λ bs. y ∷ bs) (second_of xs ys (suc_inj h))
 
@@ -27,12 +28,6 @@ set_bit true true = refl
 set_bit true false = refl
 set_bit false true = refl
 set_bit false false = refl
-
-cleared_bit : (x z : Bool) → differ (x || z) z ≡ cond z false x
-cleared_bit true true = refl
-cleared_bit true false = refl
-cleared_bit false true = refl
-cleared_bit false false = refl
 
 -- ones where the third list has ones
 pub set_where : (xs ys zs : List Bool) → length xs ≡ length ys → length xs ≡ length zs → zip2 (λ x z. x || z) xs zs ≡ zip3 (λ x _ z. cond z true x) xs ys zs
@@ -44,10 +39,9 @@ set_where (x ∷ xs) (y ∷ ys) (z ∷ zs) hy hz =
     ap (λ b. b ∷ zip2 (λ x z. x || z) xs zs) (set_bit x z) ∙ ap (λ bs. cond z true x ∷ bs) (set_where xs ys zs (suc_inj hy) (suc_inj hz))
 
 -- zeros where the third list has ones
-pub cleared_where : (xs ys zs : List Bool) → length xs ≡ length ys → length xs ≡ length zs → zip2 differ (zip2 (λ x z. x || z) xs zs) zs ≡ zip3 (λ x _ z. cond z false x) xs ys zs
+pub cleared_where : (xs ys zs : List Bool) → length xs ≡ length ys → length xs ≡ length zs → zip2 (λ x z. cond z false x) xs zs ≡ zip3 (λ x _ z. cond z false x) xs ys zs
 unfolding zip3
 cleared_where [] ys zs hy hz = refl
 cleared_where (x ∷ xs) [] zs hy hz = absurd (omega (arith, hy))
 cleared_where (x ∷ xs) (y ∷ ys) [] hy hz = absurd (omega (arith, hz))
-cleared_where (x ∷ xs) (y ∷ ys) (z ∷ zs) hy hz =
-    ap (λ b. b ∷ zip2 differ (zip2 (λ x z. x || z) xs zs) zs) (cleared_bit x z) ∙ ap (λ bs. cond z false x ∷ bs) (cleared_where xs ys zs (suc_inj hy) (suc_inj hz))
+cleared_where (x ∷ xs) (y ∷ ys) (z ∷ zs) hy hz = ap (λ bs. cond z false x ∷ bs) (cleared_where xs ys zs (suc_inj hy) (suc_inj hz))

@@ -1,11 +1,13 @@
 //! What an instruction does to the context flags and to the test flags of all processors at once.
 
-ghost use Rattle.std.specs.Prelude.{◌≡◌, length};
+ghost use Rattle.std.specs.Prelude.{◌≡◌, OnErr, OnOk, length};
 ghost use Rattle.std.specs.Simd.Lanes.{zip2};
 ghost use Rattle.paris_plane.specs.Bits.{zip3};
 ghost use Rattle.paris_flags.specs.Steps.{context_bit, test_bit};
 
-use paris_plane::Plane;
+use paris_layer::Layer;
+use paris_plane::{And, Or, Without};
+use std::alloc::{AllocError, Global};
 
 /// What becomes of each context flag, beside the bit of an operand.
 #[derive(Clone, Copy, PartialEq, Eq, Debug)]
@@ -31,37 +33,46 @@ pub enum TestStep {
     Load,
 }
 
-/// Does a step to the context flags of all processors. `Set`, `Clear` and `Invert` don't look at the operand.
-pub fn context_step(step: ContextStep, context: &mut Plane, operand: &Plane)
+/// Does a step to the context flags of all processors. `Set`, `Clear` and `Invert` don't look at the operand. Fails only for want of
+/// memory; all then stays as it was.
+pub fn context_step(
+    alloc: Global,
+    step: ContextStep,
+    context: &mut Layer,
+    operand: &Layer,
+) -> Result<(), AllocError>
     requires { length context.old ≡ length operand.now }
-    ensures { context.new ≡ zip2 (context_bit step) context.old operand.now }
+    ensures ok { OnOk result (context.new ≡ zip2 (context_bit step) context.old operand.now) }
+    ensures err { OnErr result (context.new ≡ context.old) }
 {
     match step {
-        ContextStep::Set => context.fill(true),
-        ContextStep::Clear => context.fill(false),
+        ContextStep::Set => *context = Layer::filled(true, context.len()),
+        ContextStep::Clear => *context = Layer::filled(false, context.len()),
         ContextStep::Invert => context.not_in(),
-        ContextStep::Load => {
-            context.fill(false);
-            context.or_in(operand);
-        }
-        ContextStep::And => context.and_in(operand),
-        ContextStep::Or => context.or_in(operand),
+        ContextStep::Load => *context = operand.copy()?,
+        ContextStep::And => context.put::<And>(alloc, operand)?,
+        ContextStep::Or => context.put::<Or>(alloc, operand)?,
     }
+    Ok(())
 }
 
 /// Does a step to the test flags, or to other flags, of the processors whose context flags are 1. `Set` and `Clear` don't look at the
-/// operand.
-pub fn test_step(step: TestStep, test: &mut Plane, context: &Plane, operand: &Plane)
+/// operand. Fails only for want of memory; all then stays as it was.
+pub fn test_step(
+    alloc: Global,
+    step: TestStep,
+    test: &mut Layer,
+    context: &Layer,
+    operand: &Layer,
+) -> Result<(), AllocError>
     requires context { length test.old ≡ length context.now }
     requires operand { length test.old ≡ length operand.now }
-    ensures { test.new ≡ zip3 (test_bit step) test.old operand.now context.now }
+    ensures ok { OnOk result (test.new ≡ zip3 (test_bit step) test.old operand.now context.now) }
+    ensures err { OnErr result (test.new ≡ test.old) }
 {
     match step {
-        TestStep::Set => test.or_in(context),
-        TestStep::Clear => {
-            test.or_in(context);
-            test.xor_in(context);
-        }
-        TestStep::Load => test.select_in(context, operand),
+        TestStep::Set => test.put::<Or>(alloc, context),
+        TestStep::Clear => test.put::<Without>(alloc, context),
+        TestStep::Load => test.select_in(alloc, context, operand),
     }
 }

@@ -70,10 +70,10 @@ pub(crate) fn made(
     let mut destination = sample.old.copy()?;
     assert!(rt; value.len() == sample.x.len() && receivers.len() == sample.x.len());
     assert_eq!(rt; value.width(), bits);
-    destination.merge_in(&receivers, value.planes(), bits);
+    destination.merge_in(&receivers, value.planes(), bits)?;
     let notify = match call {
         Call::Get => Vec::new(alloc),
-        Call::Send | Call::SendWith(_) => FieldValue::from_plane(alloc, receivers)?.numbers()?,
+        Call::Send | Call::SendWith(_) => FieldValue::from_layer(alloc, receivers)?.numbers()?,
     };
     Ok(Ok((destination.numbers()?, notify)))
 }

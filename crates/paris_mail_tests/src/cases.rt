@@ -4,6 +4,7 @@ ghost use Rattle.std.specs.Prelude.{◌≡◌, ◌≤◌, IfOk, length};
 ghost use Rattle.paris_names.specs.declared.limits.TheConstants.{MAX_PROCESSORS};
 
 use paris_field::FieldValue;
+use paris_layer::Layer;
 use paris_plane::Plane;
 use std::alloc::{AllocError, Global};
 use std::process::Abort;
@@ -180,11 +181,11 @@ pub(crate) struct Lists {
     pub(crate) old: Vec<u128>,
 }
 
-/// The same as planes.
+/// The same as layers.
 #[derive(Drop)]
 pub(crate) struct Sample {
     pub(crate) lists: Lists,
-    pub(crate) selected: Plane,
+    pub(crate) selected: Layer,
     pub(crate) addresses: FieldValue,
     pub(crate) x: FieldValue,
     pub(crate) old: FieldValue,
@@ -217,7 +218,7 @@ fn wide_sample(
     assert!(rt; count <= 65_536 && lists.old.len() == count);
     assert!(rt; lists.context.len() == count && lists.addresses.len() == count);
     Ok(Sample {
-        selected: plane(alloc, &lists.context)?,
+        selected: Layer::from_plane(plane(alloc, &lists.context)?),
         addresses: field(rt, alloc, address_width, &lists.addresses)?,
         x: field(rt, alloc, width, &lists.numbers)?,
         old: field(rt, alloc, width, &lists.old)?,

@@ -12,6 +12,7 @@ use paris_alu::Overflowing;
 use paris_field::{
     FieldValue, block_numbers, block_pairs, block_words, put_block, put_block_words, zero_planes,
 };
+use paris_layer::Layer;
 use paris_plane::Plane;
 use std::alloc::{AllocError, Global};
 
@@ -100,8 +101,8 @@ fn half_results<O: NumberOp>(bits: u64, words: &[u64; 64], count: usize) -> ([u6
 
 /// What the operation makes of the numbers of a block, which fit a word each: the results, and a word of where they overflow.
 fn results_in_words<O: NumberOp>(
-    xs: &[Plane],
-    ys: &[Plane],
+    xs: &[Layer],
+    ys: &[Layer],
     block: usize,
     vps: usize,
 ) -> ([u64; 64], u64)
@@ -128,8 +129,8 @@ fn results_in_words<O: NumberOp>(
 
 /// Puts into the processors of a block what the operation makes of their numbers, of up to 128 bits.
 fn put_number_results<O: NumberOp>(
-    xs: &[Plane],
-    ys: &[Plane],
+    xs: &[Layer],
+    ys: &[Layer],
     block: usize,
     values: &mut [Plane],
     overflow: &mut Plane,
@@ -160,8 +161,8 @@ fn put_number_results<O: NumberOp>(
 
 /// The same for numbers that fit a word.
 fn put_word_results<O: NumberOp>(
-    xs: &[Plane],
-    ys: &[Plane],
+    xs: &[Layer],
+    ys: &[Layer],
     block: usize,
     values: &mut [Plane],
     overflow: &mut Plane,
@@ -189,8 +190,8 @@ fn put_word_results<O: NumberOp>(
 
 /// Puts into the processors of a block what the operation makes of their numbers.
 fn put_results<O: NumberOp>(
-    xs: &[Plane],
-    ys: &[Plane],
+    xs: &[Layer],
+    ys: &[Layer],
     block: usize,
     values: &mut [Plane],
     overflow: &mut Plane,
@@ -219,8 +220,8 @@ fn put_results<O: NumberOp>(
 
 /// Puts into all processors what the operation makes of their numbers.
 fn put_all_results<O: NumberOp>(
-    xs: &[Plane],
-    ys: &[Plane],
+    xs: &[Layer],
+    ys: &[Layer],
     values: &mut [Plane],
     overflow: &mut Plane,
 )
@@ -260,8 +261,9 @@ pub(crate) fn computed<O: NumberOp>(
     let mut planes = zero_planes(alloc, bits as usize, vps)?;
     let mut overflow = Plane::zeros(alloc, vps)?;
     put_all_results::<O>(x.low(bits), y.low(bits), &mut planes, &mut overflow);
+    let value = FieldValue::from_planes(planes, vps)?;
     Ok(Overflowing {
-        value: FieldValue::from_planes(planes, vps),
-        overflow,
+        value,
+        overflow: Layer::from_plane(overflow),
     })
 }

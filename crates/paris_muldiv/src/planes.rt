@@ -7,6 +7,7 @@ ghost use Rattle.paris_alu.specs.Alu.{binary_field, overflow_plane};
 
 use paris_alu::Overflowing;
 use paris_field::{FieldValue, zero_planes};
+use paris_layer::{Layer, Lent};
 use paris_plane::{Plane, accumulate_step};
 use std::alloc::{AllocError, Global};
 
@@ -22,7 +23,7 @@ fn put_masked(plane: &Plane, mask: &Plane, masked: &mut Plane)
 }
 
 /// Adds the numbers of `y` to those of `sum` where the mask is 1, and the carried bits. Leaves in `carry` what they carry.
-fn add_where(y: &[Plane], mask: &Plane, sum: &mut [Plane], carry: &mut Plane, masked: &mut Plane)
+fn add_where(y: &[Lent<'_>], mask: &Plane, sum: &mut [Plane], carry: &mut Plane, masked: &mut Plane)
     requires same { length sum.old ≡ length y.now }
     requires y { AllOf (length mask.now) y.now }
     requires sum { AllOf (length mask.now) sum.old }
@@ -34,7 +35,7 @@ fn add_where(y: &[Plane], mask: &Plane, sum: &mut [Plane], carry: &mut Plane, ma
     ensures exact { (v : ℕ) → v < length mask.now → number_at sum.new v + 2 ^ length y.now * bit_in carry.new v ≡ number_at sum.old v + bit_in mask.now v * number_at y.now v + bit_in carry.old v }
 {
     for j in 0..y.len() {
-        put_masked(&y[j], mask, masked);
+        put_masked(y[j].plane(), mask, masked);
         accumulate_step(masked, &mut sum[j], carry);
     }
 }
@@ -42,7 +43,7 @@ fn add_where(y: &[Plane], mask: &Plane, sum: &mut [Plane], carry: &mut Plane, ma
 /// Adds the numbers of `y`, `k` bits higher, to the planes of a product that are made so far, where bit `k` of the other factor
 /// is 1. One more plane is made then.
 fn add_row(
-    y: &[Plane],
+    y: &[Lent<'_>],
     bit: &Plane,
     k: usize,
     product: &mut [Plane],
@@ -66,8 +67,8 @@ fn add_row(
 
 /// Puts the products of the numbers of `x` and `y` into planes of zeros, as many as both have.
 fn put_products(
-    x: &[Plane],
-    y: &[Plane],
+    x: &[Lent<'_>],
+    y: &[Lent<'_>],
     product: &mut [Plane],
     carry: &mut Plane,
     masked: &mut Plane,
@@ -83,7 +84,7 @@ fn put_products(
     ensures exact { (v : ℕ) → v < length carry.old → number_at product.new v ≡ number_at x.now v * number_at y.now v }
 {
     for k in 0..x.len() {
-        add_row(y, &x[k], k, product, carry, masked);
+        add_row(y, x[k].plane(), k, product, carry, masked);
     }
 }
 
@@ -99,11 +100,22 @@ fn put_any(planes: &[Plane], any: &mut Plane)
     }
 }
 
+/// The words of each layer, for one use. Fails only for want of memory.
+fn lent_layers(alloc: Global, layers: &[Layer]) -> Result<Vec<Lent<'_>>, AllocError>
+    ensures { IfOk result (λ lent. lent.items ≡ layers.now) }
+{
+    let mut lent = Vec::with_capacity(alloc, layers.len())?;
+    for layer in layers {
+        lent.push(layer.lent(alloc)?)?;
+    }
+    Ok(lent)
+}
+
 /// The products of the numbers of `x` and `y` of `vps` processors, in as many planes as both have.
 fn product_planes(
     alloc: Global,
-    x: &[Plane],
-    y: &[Plane],
+    x: &[Layer],
+    y: &[Layer],
     vps: usize,
 ) -> Result<Vec<Plane>, AllocError>
     requires narrow { length x.now + length y.now ≤ 256 }
@@ -116,7 +128,9 @@ fn product_planes(
     let mut planes = zero_planes(alloc, x.len() + y.len(), vps)?;
     let mut carry = Plane::zeros(alloc, vps)?;
     let mut masked = Plane::zeros(alloc, vps)?;
-    put_products(x, y, &mut planes, &mut carry, &mut masked);
+    let x_words = lent_layers(alloc, x)?;
+    let y_words = lent_layers(alloc, y)?;
+    put_products(&x_words, &y_words, &mut planes, &mut carry, &mut masked);
     Ok(planes)
 }
 
@@ -140,8 +154,9 @@ pub(crate) fn product_on_planes(
     let mut overflow = Plane::zeros(alloc, vps)?;
     put_any(&planes[bits as usize..], &mut overflow);
     planes.truncate(bits as usize);
+    let value = FieldValue::from_planes(planes, vps)?;
     Ok(Overflowing {
-        value: FieldValue::from_planes(planes, vps),
-        overflow,
+        value,
+        overflow: Layer::from_plane(overflow),
     })
 }

@@ -7,9 +7,9 @@ use paris_alu::{
     subtract,
 };
 use paris_field::FieldValue;
+use paris_layer::Layer;
 use paris_model::{Comparison, Sign};
 use paris_muldiv::{multiply, remainder, truncate};
-use paris_plane::Plane;
 use std::alloc::{AllocError, Global};
 use std::process::Abort;
 use std::test::Fail;
@@ -47,13 +47,13 @@ pub(crate) fn half(bits: u64) -> u64
 }
 
 /// A value that never overflows.
-fn sound(alloc: Global, value: FieldValue) -> Result<Overflowing, AllocError> {
-    let overflow = Plane::zeros(alloc, value.len())?;
-    Ok(Overflowing { value, overflow })
+fn sound(value: FieldValue) -> Overflowing {
+    let overflow = Layer::filled(false, value.len());
+    Overflowing { value, overflow }
 }
 
-fn of_plane(alloc: Global, plane: Plane) -> Result<Overflowing, AllocError> {
-    sound(alloc, FieldValue::from_plane(alloc, plane)?)
+fn of_layer(alloc: Global, layer: Layer) -> Result<Overflowing, AllocError> {
+    Ok(sound(FieldValue::from_layer(alloc, layer)?))
 }
 
 fn overflowing(sum: Sum) -> Overflowing {
@@ -84,19 +84,19 @@ impl Operation {
             Operation::Remainder => remainder(alloc, x, y, bits),
             Operation::Add(sign) => Ok(overflowing(add(alloc, sign, x, y, bits)?)),
             Operation::Subtract(sign) => Ok(overflowing(subtract(alloc, sign, x, y, bits)?)),
-            Operation::Carry => of_plane(alloc, add(alloc, Sign::Unsigned, x, y, bits)?.carry),
+            Operation::Carry => of_layer(alloc, add(alloc, Sign::Unsigned, x, y, bits)?.carry),
             Operation::Borrow => {
-                of_plane(alloc, subtract(alloc, Sign::Unsigned, x, y, bits)?.carry)
+                of_layer(alloc, subtract(alloc, Sign::Unsigned, x, y, bits)?.carry)
             }
-            Operation::Logic(operator) => sound(alloc, logic(alloc, operator, x, y, bits)?),
+            Operation::Logic(operator) => Ok(sound(logic(alloc, operator, x, y, bits)?)),
             Operation::Extreme(which, sign) => {
-                sound(alloc, extreme(alloc, which, sign, x, y, bits)?)
+                Ok(sound(extreme(alloc, which, sign, x, y, bits)?))
             }
             Operation::Compare(comparison) => {
-                of_plane(alloc, compare(alloc, comparison, x, y, bits)?)
+                of_layer(alloc, compare(alloc, comparison, x, y, bits)?)
             }
             Operation::Negate => negate(alloc, x, bits),
-            Operation::Invert => sound(alloc, invert(alloc, x, bits)?),
+            Operation::Invert => Ok(sound(invert(alloc, x, bits)?)),
             Operation::Extend(sign) => extend(alloc, sign, x, bits, 128),
             Operation::Shorten(sign) => extend(alloc, sign, x, bits, half(bits)),
         }
@@ -144,7 +144,7 @@ pub(crate) fn outcome_of(
     let x = field_of(rt, alloc, width, x)?;
     let y = field_of(rt, alloc, width, y)?;
     let made = operation.run(alloc, &x, &y, bits)?;
-    let overflow = FieldValue::from_plane(alloc, made.overflow)?;
+    let overflow = FieldValue::from_layer(alloc, made.overflow)?;
     Ok(Outcome {
         values: made.value.numbers()?,
         overflow: overflow.numbers()?,

@@ -1,8 +1,9 @@
 -- A plane that was shifted along an axis.
-use Rattle.std.proofs.Common.{◌≡◌, ℕ, ◌+◌, ◌-◌, ◌*◌, ◌%◌, ◌^◌, ◌<◌, ◌≤◌, ◌++◌, true, false, Bool, List, [], ◌∷◌, length, get_or, take, arith, ap, ◌∙◌, sym, subst, inl, inr}
+use Rattle.std.proofs.Common.{◌≡◌, ℕ, ◌+◌, ◌-◌, ◌*◌, ◌%◌, ◌^◌, ◌<◌, ◌≤◌, ◌++◌, true, false, Bool, List, [], ◌∷◌, length, get_or, replicate, take, arith, ap, ◌∙◌, sym, subst, inl, inr}
 use Rattle.std.specs.Int.{IsPowerOfTwo}
 use Rattle.std.proofs.Math.Nat.{mod-lt, mul-le-mul_right, mul-pos, one-mul}
 use Rattle.std.proofs.lemmas.Bool.{cases_eq}
+use Rattle.std.proofs.lemmas.List.{length-replicate, get_or-replicate}
 use Rattle.std.proofs.lemmas.Nat.{mod-mul-add}
 use Rattle.paris_geometry.specs.declared.direction.Direction.{Direction}
 use Rattle.paris_geometry.specs.declared.direction.Direction.TheVariants.{Upward, Downward}
@@ -16,7 +17,7 @@ use Rattle.paris_field.proofs.Numbers.{one_more as number_more}
 use Rattle.paris_field.specs.Numbers.{bits_everywhere}
 use Rattle.paris_field.proofs.Places.{plane_is, get_or-bits_everywhere, number_pushed}
 use Rattle.paris_news.proofs.Periods.{place_in}
-use Rattle.paris_news.proofs.Steps.{one_more, up_inside, up_end, down_inside, down_end}
+use Rattle.paris_news.proofs.Steps.{neighbour_below, one_more, up_inside, up_end, down_inside, down_end}
 
 -- the lines along an axis are whole periods of the processors
 pub whole_lines : (axes : List ℕ) (a s period : ℕ) → is_geometry axes ≡ true → a < length axes → s ≡ stride axes a → period ≡ axis_length axes a * s → processor_count axes % period ≡ 0
@@ -128,3 +129,11 @@ moved_more n k v u source ps qs x out h ex long pushed same before =
 
 pub shifted_bit : (n v : ℕ) (f : ℕ → Bool) (out : List Bool) → out ≡ bits_everywhere n f → v < n → get_or out v false ≡ f v
 shifted_bit n v f out is h = ap (λ l. get_or l v false) is ∙ get_or-bits_everywhere n f v h
+
+-- what is one bit throughout comes to the same
+pub shifted_same : (axes : List ℕ) (a : ℕ) (direction : Direction) (n : ℕ) (bit : Bool) (source : List Bool) → is_geometry axes ≡ true → a < length axes → n ≡ processor_count axes → length source ≡ processor_count axes → source ≡ replicate (length source) bit → ShiftIs axes a direction source (replicate n bit)
+shifted_same axes a direction n bit source sound within count long same =
+    plane_is (replicate n bit) (processor_count axes) (λ v. get_or source (neighbour axes a direction v) false) (length-replicate n bit ∙ count) (λ v h.
+    let there : neighbour axes a direction v < length source = omega (arith, neighbour_below axes a direction v sound within h, long) in
+    get_or-replicate n v bit false (omega (arith, h, count))
+    ∙ sym (ap (λ l. get_or l (neighbour axes a direction v) false) same ∙ get_or-replicate (length source) (neighbour axes a direction v) bit false there))

@@ -6,6 +6,7 @@ ghost use Rattle.paris_field.specs.Numbers.{bits_everywhere};
 ghost use Rattle.paris_names.specs.declared.limits.TheConstants.{MAX_PROCESSORS};
 
 use paris_geometry::Geometry;
+use paris_layer::Layer;
 use paris_plane::Plane;
 use std::alloc::{AllocError, Global};
 
@@ -44,7 +45,7 @@ pub fn coordinate_plane(
     geometry: Geometry,
     axis: usize,
     place: u64,
-) -> Result<Plane, AllocError>
+) -> Result<Layer, AllocError>
     requires axis { axis < length geometry }
     requires place { place < axis_length geometry axis }
     ensures { IfOk result (λ plane. plane ≡ bits_everywhere (processor_count geometry) (λ v. coordinate geometry axis v == place)) }
@@ -54,5 +55,5 @@ pub fn coordinate_plane(
     let period = geometry.len(axis) as usize * stride;
     let from = place as usize * stride;
     let plane = periodic_plane(alloc, vps, from, from + stride, period)?;
-    Ok(plane)
+    Ok(Layer::from_plane(plane))
 }

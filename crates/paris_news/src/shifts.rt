@@ -1,12 +1,13 @@
 //! Values moved by one place along an axis, which wraps round.
 
-ghost use Rattle.std.specs.Prelude.{◌≡◌, ℕ, ◌<◌, ◌≤◌, IfOk, length};
+ghost use Rattle.std.specs.Prelude.{◌≡◌, ℕ, ◌<◌, ◌≤◌, IfOk, IfSome, length, replicate};
 ghost use Rattle.paris_geometry.specs.Geometry.{neighbour, opposite, processor_count};
 ghost use Rattle.paris_field.specs.Numbers.{AllOf, number_at};
 ghost use Rattle.paris_news.specs.News.{moved_field, moved_plane, sent_field, sent_plane};
 
 use paris_field::FieldValue;
 use paris_geometry::{Direction, Geometry};
+use paris_layer::Layer;
 use paris_plane::Plane;
 use std::alloc::{AllocError, Global};
 
@@ -42,14 +43,27 @@ fn shift_into(
     }
 }
 
+/// The bit of all processors, where they have the same.
+fn shared_bit(x: &Layer) -> Option<bool>
+    ensures { IfSome result (λ bit. x.now ≡ replicate (length x.now) bit) }
+{
+    if x.is_all(false) {
+        return Some(false);
+    }
+    if x.is_all(true) {
+        return Some(true);
+    }
+    None
+}
+
 /// The planes in which each processor has the number of its neighbour in the direction.
 fn shift_planes(
     alloc: Global,
     geometry: Geometry,
     axis: usize,
     direction: Direction,
-    source: &[Plane],
-) -> Result<Vec<Plane>, AllocError>
+    source: &[Layer],
+) -> Result<Vec<Layer>, AllocError>
     requires axis { axis < length geometry }
     requires source { AllOf (processor_count geometry) source.now }
     ensures count { IfOk result (λ planes. length planes.items ≡ length source.now) }
@@ -58,9 +72,8 @@ fn shift_planes(
 {
     let mut planes = Vec::with_capacity(alloc, source.len())?;
     for k in 0..source.len() {
-        let mut out = Plane::zeros(alloc, geometry.vps())?;
-        shift_into(geometry, axis, direction, &source[k], &mut out);
-        planes.push(out)?;
+        let plane = shift_plane(alloc, geometry, axis, direction, &source[k])?;
+        planes.push(plane)?;
     }
     Ok(planes)
 }
@@ -81,31 +94,35 @@ pub fn shift(
     ensures { IfOk result (λ value. value ≡ moved_field geometry axis direction bits x.now) }
 {
     let planes = shift_planes(alloc, geometry, axis, direction, x.low(bits))?;
-    Ok(FieldValue::from_planes(planes, geometry.vps()))
+    Ok(FieldValue::from_layers(planes, geometry.vps()))
 }
 
-/// In each processor the bit that its neighbour in the direction holds.
+/// In each processor the bit that its neighbour in the direction holds. Where all have the same bit it takes no words.
 pub fn shift_plane(
     alloc: Global,
     geometry: Geometry,
     axis: usize,
     direction: Direction,
-    x: &Plane,
-) -> Result<Plane, AllocError>
+    x: &Layer,
+) -> Result<Layer, AllocError>
     requires axis { axis < length geometry }
     requires count { length x.now ≡ processor_count geometry }
     ensures { IfOk result (λ plane. plane ≡ moved_plane geometry axis direction x.now) }
 {
+    if let Some(bit) = shared_bit(x) {
+        return Ok(Layer::filled(bit, geometry.vps()));
+    }
+    let source = x.lent(alloc)?;
     let mut out = Plane::zeros(alloc, geometry.vps())?;
-    shift_into(geometry, axis, direction, x, &mut out);
-    Ok(out)
+    shift_into(geometry, axis, direction, source.plane(), &mut out);
+    Ok(Layer::from_plane(out))
 }
 
 /// What selected processors send to their neighbours, and which processors get something.
 #[derive(Debug, Drop)]
 pub struct Sent {
     pub value: FieldValue,
-    pub receivers: Plane,
+    pub receivers: Layer,
 }
 
 /// The low `bits` bits that come to each processor where the selected processors send them in the direction. In a processor
@@ -116,7 +133,7 @@ pub fn send(
     axis: usize,
     direction: Direction,
     x: &FieldValue,
-    selected: &Plane,
+    selected: &Layer,
     bits: u64,
 ) -> Result<Sent, AllocError>
     requires axis { axis < length geometry }

@@ -5,6 +5,7 @@ ghost use Rattle.paris_geometry.specs.Geometry.{processor_count};
 
 use paris_field::FieldValue;
 use paris_geometry::Geometry;
+use paris_layer::Layer;
 use paris_plane::Plane;
 use std::alloc::{AllocError, Global};
 use std::process::Abort;
@@ -77,7 +78,7 @@ pub(crate) struct Sample {
     pub(crate) y: Vec<u128>,
     pub(crate) source: FieldValue,
     pub(crate) old: FieldValue,
-    pub(crate) selected: Plane,
+    pub(crate) selected: Layer,
     ghost some: { 0 < width },
     ghost narrow: { width ≤ 128 },
     ghost x_count: { length x.items ≡ processor_count geometry },
@@ -107,7 +108,7 @@ pub(crate) fn sample_with(
     assert!(rt; FieldValue::first_too_wide(width, &y).is_none());
     let source = FieldValue::from_numbers(alloc, width, &x)?;
     let old = FieldValue::from_numbers(alloc, width, &y)?;
-    let selected = plane(alloc, selected)?;
+    let selected = Layer::from_plane(plane(alloc, selected)?);
     Ok(Sample {
         geometry,
         width,

@@ -5,8 +5,8 @@ ghost use Rattle.std.specs.Prelude.{◌<◌, ◌≤◌, length};
 use crate::cases::Sample;
 use paris_field::FieldValue;
 use paris_geometry::Direction;
+use paris_layer::Layer;
 use paris_news::{send, shift};
-use paris_plane::Plane;
 use std::alloc::{AllocError, Global};
 use std::process::Abort;
 
@@ -30,7 +30,7 @@ pub(crate) struct Step {
 #[derive(Drop)]
 pub(crate) struct Moved {
     pub(crate) value: FieldValue,
-    pub(crate) stores: Plane,
+    pub(crate) stores: Layer,
 }
 
 /// What a move leaves of a sample.
@@ -57,7 +57,7 @@ pub(crate) fn run_step(
             let came = shift(alloc, geometry, axis, direction, source, bits)?;
             let stores = sample.selected.copy()?;
             assert_eq!(rt; came.len(), sample.x.len(), "{step:?}");
-            value.merge_in(&stores, came.planes(), bits);
+            value.merge_in(&stores, came.planes(), bits)?;
             Ok(Moved { value, stores })
         }
         Move::Send => {
@@ -65,7 +65,7 @@ pub(crate) fn run_step(
             let sent = send(alloc, geometry, axis, direction, source, selected, bits)?;
             assert_eq!(rt; sent.value.len(), sample.x.len(), "{step:?}");
             assert_eq!(rt; sent.receivers.len(), sample.x.len(), "{step:?}");
-            value.merge_in(&sent.receivers, sent.value.planes(), bits);
+            value.merge_in(&sent.receivers, sent.value.planes(), bits)?;
             Ok(Moved {
                 value,
                 stores: sent.receivers,

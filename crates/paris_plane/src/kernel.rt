@@ -1,11 +1,11 @@
 //! Loops over words: four at a time by lanes, and the words that are left one by one.
 
-ghost use Rattle.std.specs.Prelude.{◌≡◌, ◌↔◌, ◌≤◌, IfOk, IsTrue, ℕ, ◌<◌, ◌^◌, ◌-◌, ◌+◌, ◌*◌, Bool, cond, ◌&&◌, ◌||◌, length, slice_index, bit_and, ◌++◌};
+ghost use Rattle.std.specs.Prelude.{◌≡◌, ◌↔◌, ◌≤◌, IfOk, IsTrue, ℕ, ◌<◌, ◌^◌, ◌-◌, ◌+◌, ◌*◌, Bool, cond, false, ◌&&◌, ◌||◌, length, slice_index, bit_and, ◌++◌};
 ghost use Rattle.std.specs.Int.Bits.{bit_or, bit_xor};
 ghost use Rattle.std.specs.Simd.Lanes.{put_chunk, zip2};
 ghost use Rattle.std.specs.Vec.{vec_len, vec_capacity};
 ghost use Rattle.paris_plane.specs.Bits.{word_bit, ByBit, ByBit3, borrow_bit, borrow_word, carry_word, differ, sum_word};
-ghost use Rattle.paris_plane.specs.Laws.{and_by_bit, borrow_by_bit, or_by_bit, xor_by_bit, select_by_bit};
+ghost use Rattle.paris_plane.specs.Laws.{and_by_bit, borrow_by_bit, or_by_bit, select_by_bit, without_by_bit, xor_by_bit};
 
 use std::alloc::{AllocError, Global};
 use std::simd::prelude::*;
@@ -86,6 +86,42 @@ impl WordOp for Xor {
     }
 }
 
+/// 1 where the first is and the second isn't.
+pub struct Without;
+
+impl WordOp for Without {
+    ghost op = { λ x y. bit_xor x (bit_and x y) };
+
+    ghost bit = { λ a b. cond b false a };
+
+    ghost by_bit = { without_by_bit };
+
+    #[tactic(auto, using(crate::proofs::Rules::lanes))]
+    fn lanes(x: u64x4, y: u64x4) -> u64x4 {
+        x ^ (x & y)
+    }
+
+    fn word(x: u64, y: u64) -> u64 {
+        x ^ (x & y)
+    }
+}
+
+/// A word of which each bit is this one.
+#[inline(always)]
+pub fn word_of(bit: bool) -> u64
+    ensures { (i : ℕ) → i < 64 → word_bit result i ≡ bit }
+{
+    if bit { u64::MAX } else { 0 }
+}
+
+/// What an operation makes of two bits.
+#[inline(always)]
+pub fn bit_of_two<O: WordOp>(a: bool, b: bool) -> bool
+    ensures { result ≡ O.bit a b }
+{
+    O::word(word_of(a), word_of(b)) & 1 == 1
+}
+
 /// Puts what the operation makes of each two words into `xs`.
 pub fn put_words<O: WordOp>(xs: &mut [u64], ys: &[u64])
     requires { length xs.old ≡ length ys.now }
@@ -160,6 +196,14 @@ impl TripleOp for Borrow {
     fn word(x: u64, y: u64, z: u64) -> u64 {
         x ^ ((x ^ z) & (y ^ z))
     }
+}
+
+/// What an operation makes of three bits.
+#[inline(always)]
+pub fn bit_of_three<O: TripleOp>(a: bool, b: bool, c: bool) -> bool
+    ensures { result ≡ O.bit a b c }
+{
+    O::word(word_of(a), word_of(b), word_of(c)) & 1 == 1
 }
 
 /// Puts what the operation makes of each three words into `xs`.
@@ -486,20 +530,21 @@ pub(crate) fn many_differences(
     Ok(difference)
 }
 
-/// Whether each word is all ones.
-pub(crate) fn are_full(xs: &[u64]) -> bool
-    ensures { IsTrue result → (i : ℕ) → i < length xs.now → slice_index xs.now i ≡ 2 ^ 64 - 1 }
+/// Whether each of the first `count` words is this one.
+pub(crate) fn are_all(xs: &[u64], word: u64, count: usize) -> bool
+    requires { count ≤ length xs.now }
+    ensures { IsTrue result ↔ ((i j : ℕ) → i < count → j < 64 → word_bit (slice_index xs.now i) j ≡ word_bit word j) }
 {
-    let whole = xs.len() / 4;
+    let whole = count / 4;
     for k in 0..whole {
         let at = 4 * k;
         let x = u64x4::from_slice(&xs[at..]);
-        if (x ^ u64x4::splat(u64::MAX)).reduce_or() != 0 {
+        if (x ^ u64x4::splat(word)).reduce_or() != 0 {
             return false;
         }
     }
-    for i in 4 * whole..xs.len() {
-        if xs[i] != u64::MAX {
+    for i in 4 * whole..count {
+        if xs[i] != word {
             return false;
         }
     }

@@ -10,5 +10,7 @@ mod runs;
 mod turns;
 mod words;
 
-pub use kernel::{And, Borrow, Or, Select, TripleOp, WordOp, Xor};
+pub use kernel::{
+    And, Borrow, Or, Select, TripleOp, Without, WordOp, Xor, bit_of_three, bit_of_two, word_of,
+};
 pub use plane::{Plane, accumulate_step};

@@ -8,8 +8,8 @@ ghost use Rattle.paris_plane.specs.Digits.{digit};
 
 use crate::exchange::exchange_words;
 use crate::kernel::{
-    And, Or, Select, TripleOp, WordOp, Xor, accumulate_words, are_full, invert_words, put_triples,
-    put_words, same_words,
+    And, Or, Select, TripleOp, WordOp, Xor, accumulate_words, are_all, invert_words, put_triples,
+    put_words, same_words, word_of,
 };
 use crate::moves::{lower_words, raise_words};
 use crate::runs::{alternate_words, repeated_words};
@@ -184,11 +184,20 @@ impl Plane {
         Ok(Plane { words, len: x.len })
     }
 
-    /// Whether it is known at once that every bit is 1: only a plane of whole words is looked at.
-    pub fn is_full(&self) -> bool
-        ensures { IsTrue result → (v : ℕ) → v < length self.now → slice_index_or self.now v false ≡ true }
+    /// Whether every bit is this one. It ends at the first words that tell.
+    pub fn is_all(&self, bit: bool) -> bool
+        ensures { IsTrue result ↔ self.now ≡ replicate (length self.now) bit }
     {
-        self.len % 64 == 0 && are_full(&self.words)
+        let word = word_of(bit);
+        let whole = self.len / 64;
+        if !are_all(&self.words, word, whole) {
+            return false;
+        }
+        let rest = self.len % 64;
+        if rest == 0 {
+            return true;
+        }
+        (self.words[whole] ^ word) % (1u64 << rest) == 0
     }
 
     /// Every second one of its runs of `words` words, of which the first begins at word `from`: `count` of them. Fails only for want of

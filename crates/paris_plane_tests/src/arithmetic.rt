@@ -4,16 +4,16 @@ ghost use Rattle.std.specs.Prelude.{◌≡◌, ◌<◌, ◌≤◌, ℕ, List, le
 ghost use Rattle.paris_plain.specs.Narrow.{IsNarrow};
 
 use crate::beside::{self, Made, agrees, alone, destination, flag, seen_by_all, with, with_carry};
-use crate::cases::{Sample, plane};
+use crate::cases::{Sample, layer};
 use paris_alu::{
     BitOperator, Extremum, Overflowing, Sum, add, add_carry, compare, copy_low, extend, extreme,
     invert, logic, negate, subtract,
 };
 use paris_field::FieldValue;
+use paris_layer::Layer;
 use paris_model::{Action, BinaryOperator, Comparison, Operand, Sign, UnaryOperator};
 use paris_names::{FlagName, SetNo};
 use paris_plain::Inputs;
-use paris_plane::Plane;
 use std::alloc::{AllocError, Global};
 use std::process::Abort;
 use std::test::Fail;
@@ -93,13 +93,13 @@ const OPERATIONS: &[Operation] = &[
     Operation::Extend(Sign::Signed, Extent::Word),
 ];
 
-/// The operands of a sample as planes.
+/// The operands of a sample as layers.
 #[derive(Drop)]
 struct Operands {
     width: u64,
     left: FieldValue,
     right: FieldValue,
-    carry: Plane,
+    carry: Layer,
     ghost some: { 0 < width },
     ghost short: { width ≤ 64 },
     ghost left_width: { left.width ≡ width },
@@ -113,7 +113,7 @@ fn operands_of(alloc: Global, sample: &Sample) -> Result<Operands, AllocError> {
         width: sample.width,
         left: FieldValue::from_numbers(alloc, sample.width, sample.left.as_slice())?,
         right: FieldValue::from_numbers(alloc, sample.width, sample.right.as_slice())?,
-        carry: plane(alloc, sample.carry.as_slice())?,
+        carry: layer(alloc, sample.carry.as_slice())?,
     })
 }
 
@@ -124,7 +124,7 @@ fn stored(alloc: Global, value: Result<FieldValue, AllocError>) -> Result<Made, 
 
 fn sum_made(alloc: Global, sum: Result<Sum, AllocError>) -> Result<Made, AllocError> {
     let sum = sum?;
-    let overflow = FieldValue::from_plane(alloc, sum.overflow)?;
+    let overflow = FieldValue::from_layer(alloc, sum.overflow)?;
     let made = with_carry(alloc, sum.value, sum.carry)?;
     with(made, flag(FlagName::Overflow), overflow)
 }
@@ -134,13 +134,13 @@ fn overflowing_made(
     checked: Result<Overflowing, AllocError>,
 ) -> Result<Made, AllocError> {
     let checked = checked?;
-    let overflow = FieldValue::from_plane(alloc, checked.overflow)?;
+    let overflow = FieldValue::from_layer(alloc, checked.overflow)?;
     let made = alone(alloc, destination(), checked.value)?;
     with(made, flag(FlagName::Overflow), overflow)
 }
 
-fn test_made(alloc: Global, test: Result<Plane, AllocError>) -> Result<Made, AllocError> {
-    let value = FieldValue::from_plane(alloc, test?)?;
+fn test_made(alloc: Global, test: Result<Layer, AllocError>) -> Result<Made, AllocError> {
+    let value = FieldValue::from_layer(alloc, test?)?;
     alone(alloc, flag(FlagName::Test), value)
 }
 

@@ -6,10 +6,10 @@ ghost use Rattle.paris_plain.specs.Narrow.{IsNarrow};
 use crate::cases::{Sample, everywhere};
 use paris_field::FieldValue;
 use paris_geometry::Geometry;
+use paris_layer::Layer;
 use paris_model::{Action, BinaryOperator, Comparison, Conditional, Operand, Sign, UnaryOperator};
 use paris_names::{FieldNo, FlagName, Items, Key, SetNo};
 use paris_plain::{Inputs, flags_are_bits, outcome};
-use paris_plane::Plane;
 use std::alloc::{AllocError, Global};
 use std::fmt::Debug;
 use std::process::Abort;
@@ -208,9 +208,9 @@ fn keys_of(alloc: Global, made: &[(Key, FieldValue)]) -> Result<Vec<Key>, AllocE
 pub(crate) fn with_carry(
     alloc: Global,
     value: FieldValue,
-    carry: Plane,
+    carry: Layer,
 ) -> Result<Made, AllocError> {
-    let carry = FieldValue::from_plane(alloc, carry)?;
+    let carry = FieldValue::from_layer(alloc, carry)?;
     let made = alone(alloc, destination(), value)?;
     with(made, flag(FlagName::Carry), carry)
 }
@@ -221,13 +221,13 @@ pub(crate) fn holds(value: &FieldValue, expected: &[u128]) -> Result<bool, Alloc
     Ok(numbers.as_slice() == expected)
 }
 
-/// Whether a plane's bits are these, as the numbers of a value.
-pub(crate) fn plane_holds(
+/// Whether a layer's bits are these, as the numbers of a value.
+pub(crate) fn layer_holds(
     alloc: Global,
-    plane: Plane,
+    layer: Layer,
     expected: &[u128],
 ) -> Result<bool, AllocError> {
-    let value = FieldValue::from_plane(alloc, plane)?;
+    let value = FieldValue::from_layer(alloc, layer)?;
     holds(&value, expected)
 }
 
@@ -244,13 +244,13 @@ pub(crate) fn has_numbers(value: &FieldValue, expected: &[u128]) -> bool {
     true
 }
 
-/// Whether a plane's bits are these, read one by one.
-pub(crate) fn has_bits(plane: &Plane, expected: &[u128]) -> bool {
-    if plane.len() != expected.len() {
+/// Whether a layer's bits are these, read one by one.
+pub(crate) fn has_bits(layer: &Layer, expected: &[u128]) -> bool {
+    if layer.len() != expected.len() {
         return false;
     }
     for v in 0..expected.len() {
-        if u128::from(plane.get(v)) != expected[v] {
+        if u128::from(layer.get(v)) != expected[v] {
             return false;
         }
     }

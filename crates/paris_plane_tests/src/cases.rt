@@ -3,6 +3,7 @@
 ghost use Rattle.std.specs.Prelude.{◌≡◌, ◌<◌, ◌≤◌, ◌^◌, IfOk, length};
 ghost use Rattle.paris_field.specs.Fields.{AllFit};
 
+use paris_layer::Layer;
 use paris_plane::Plane;
 use std::alloc::{AllocError, Global};
 
@@ -160,6 +161,13 @@ pub(crate) fn plane(alloc: Global, bits: &[u128]) -> Result<Plane, AllocError>
     let mut plane = Plane::zeros(alloc, bits.len())?;
     put_bits(&mut plane, bits);
     Ok(plane)
+}
+
+/// The layer of these bits.
+pub(crate) fn layer(alloc: Global, bits: &[u128]) -> Result<Layer, AllocError>
+    ensures { IfOk result (λ layer. length layer ≡ length bits.now) }
+{
+    Ok(Layer::from_plane(plane(alloc, bits)?))
 }
 
 /// One number for each processor.

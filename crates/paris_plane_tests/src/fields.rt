@@ -3,11 +3,13 @@
 ghost use Rattle.std.specs.Prelude.{◌≡◌, ◌<◌, ◌≤◌, IfOk, length};
 
 use crate::beside::{
-    Made, agrees, alone, binary, destination, has_bits, has_numbers, holds, plane_holds, seen,
+    Made, agrees, alone, binary, destination, has_bits, has_numbers, holds, layer_holds, seen,
     seen_by_all, seen_by_selected, unary, with_carry,
 };
-use crate::cases::{Sample, everywhere, plane};
-use paris_field::{FieldValue, chosen_planes, copy_planes, merge_planes, transpose64, zero_planes};
+use crate::cases::{Sample, everywhere, layer, plane};
+use paris_field::{
+    FieldValue, chosen_layers, copy_layers, merge_planes, planes_of, transpose64, zero_planes,
+};
 use paris_model::{BinaryOperator, UnaryOperator};
 use paris_plain::Inputs;
 use paris_plane::Plane;
@@ -19,7 +21,7 @@ use std::test::Fail;
 #[derive(Clone, Copy, Debug)]
 enum Call {
     FromNumbers,
-    FromPlane,
+    FromLayer,
     Copy,
     Equals,
     Zeros,
@@ -32,7 +34,7 @@ enum Call {
     Merged,
     MergePlanes,
     WithNumbers,
-    ChosenPlanes,
+    ChosenLayers,
 }
 
 /// What is named where a call fails.
@@ -138,7 +140,7 @@ fn is_zero(alloc: Global, sample: &Sample, value: &FieldValue) -> Result<bool, A
 /// The value of planes of zeros.
 fn zero_value(alloc: Global, sample: &Sample) -> Result<FieldValue, AllocError> {
     let planes = zero_planes(alloc, sample.width as usize, sample.count)?;
-    Ok(FieldValue::from_planes(planes, sample.count))
+    FieldValue::from_planes(planes, sample.count)
 }
 
 /// Zeros are zeros in every processor.
@@ -155,20 +157,20 @@ fn makes_zeros(rt: &impl Abort, alloc: Global, sample: &Sample) -> Result<(), Fa
     Ok(())
 }
 
-/// The low bits of the left numbers, by their planes.
+/// The low bits of the left numbers, by their layers.
 fn low(alloc: Global, sample: &Sample, length: u64) -> Result<FieldValue, AllocError>
     requires within { length ≤ sample.now.width }
 {
     let value = left(alloc, sample)?;
-    let planes = copy_planes(alloc, value.low(length))?;
-    Ok(FieldValue::from_planes(planes, sample.count))
+    let layers = copy_layers(alloc, value.low(length))?;
+    Ok(FieldValue::from_layers(layers, sample.count))
 }
 
 /// The left numbers, by their planes.
 fn whole(alloc: Global, sample: &Sample) -> Result<FieldValue, AllocError> {
     let value = left(alloc, sample)?;
-    let planes = copy_planes(alloc, value.planes())?;
-    Ok(FieldValue::from_planes(planes, sample.count))
+    let planes = planes_of(alloc, value.planes())?;
+    FieldValue::from_planes(planes, sample.count)
 }
 
 /// The planes of the low bits hold what a move of them leaves where zeros stood.
@@ -204,7 +206,7 @@ fn lends_plane(
     requires within { k < value.now.width }
 {
     let expected = bits(alloc, sample.left.as_slice(), k)?;
-    plane_holds(alloc, value.plane(k).copy()?, expected.as_slice())
+    layer_holds(alloc, value.plane(k).copy()?, expected.as_slice())
 }
 
 /// Each plane holds a bit of the numbers.
@@ -221,12 +223,12 @@ fn lends_each_plane(rt: &impl Abort, alloc: Global, sample: &Sample) -> Result<(
     Ok(())
 }
 
-/// A plane is a value of one bit, whose mask is the plane.
+/// A layer is a value of one bit, whose mask is the layer.
 fn is_mask(rt: &impl Abort, alloc: Global, sample: &Sample) -> Result<(), Fail> {
     let bits = sample.context.as_slice();
-    let value = FieldValue::from_plane(alloc, plane(alloc, bits)?)?;
+    let value = FieldValue::from_layer(alloc, layer(alloc, bits)?)?;
     check(rt, Call::Mask, sample, has_bits(value.mask(), bits));
-    check(rt, Call::FromPlane, sample, holds(&value, bits)?);
+    check(rt, Call::FromLayer, sample, holds(&value, bits)?);
     Ok(())
 }
 
@@ -244,19 +246,20 @@ fn merged(
     requires mask { length value.now.numbers ≡ length mask.now }
     requires others { length other.now.numbers ≡ length mask.now }
 {
-    let mut planes = copy_planes(alloc, value.planes())?;
-    merge_planes(&mut planes, mask, other.low(len), len as usize);
-    Ok(FieldValue::from_planes(planes, mask.len()))
+    let mut planes = planes_of(alloc, value.planes())?;
+    let others = planes_of(alloc, other.low(len))?;
+    merge_planes(&mut planes, mask, &others, len as usize);
+    FieldValue::from_planes(planes, mask.len())
 }
 
 /// The old numbers with the low bits of the left in the processors of the context, merged in place.
 fn merged_in(alloc: Global, sample: &Sample, length: u64) -> Result<FieldValue, AllocError>
     requires within { length ≤ sample.now.width }
 {
-    let mask = plane(alloc, sample.context.as_slice())?;
+    let mask = layer(alloc, sample.context.as_slice())?;
     let other = left(alloc, sample)?;
     let mut value = old(alloc, sample)?;
-    value.merge_in(&mask, other.planes(), length);
+    value.merge_in(&mask, other.planes(), length)?;
     Ok(value)
 }
 
@@ -264,7 +267,7 @@ fn merged_in(alloc: Global, sample: &Sample, length: u64) -> Result<FieldValue, 
 fn merged_copy(alloc: Global, sample: &Sample, length: u64) -> Result<FieldValue, AllocError>
     requires within { length ≤ sample.now.width }
 {
-    let mask = plane(alloc, sample.context.as_slice())?;
+    let mask = layer(alloc, sample.context.as_slice())?;
     let other = left(alloc, sample)?;
     let value = old(alloc, sample)?;
     value.merged(&mask, other.planes(), length)
@@ -373,19 +376,19 @@ fn takes_numbers(
     renumbers(rt, alloc, sample, &seen, from, to)
 }
 
-/// The left numbers in the processors of the context, and the old ones in the others, in new planes.
+/// The left numbers in the processors of the context, and the old ones in the others, in new layers.
 fn chosen(alloc: Global, sample: &Sample) -> Result<FieldValue, AllocError> {
-    let mask = plane(alloc, sample.context.as_slice())?;
+    let mask = layer(alloc, sample.context.as_slice())?;
     let x = left(alloc, sample)?;
     let others = old(alloc, sample)?;
-    let planes = chosen_planes(alloc, &mask, x.planes(), others.planes())?;
-    Ok(FieldValue::from_planes(planes, sample.count))
+    let layers = chosen_layers(alloc, &mask, x.planes(), others.planes())?;
+    Ok(FieldValue::from_layers(layers, sample.count))
 }
 
 /// A choice by a mask is a move in the processors of the mask.
 fn chooses(rt: &impl Abort, alloc: Global, sample: &Sample, seen: &Inputs) -> Result<(), Fail> {
     let value = chosen(alloc, sample)?;
-    let case = case_of(Call::ChosenPlanes, sample);
+    let case = case_of(Call::ChosenLayers, sample);
     moves(rt, alloc, &case, seen, value, sample.width)
 }
 

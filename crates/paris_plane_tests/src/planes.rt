@@ -4,11 +4,11 @@ ghost use Rattle.std.specs.Prelude.{◌≡◌, ◌<◌, ◌≤◌, ℕ, List, le
 ghost use Rattle.paris_plain.specs.Narrow.{IsNarrow};
 
 use crate::beside::{
-    self, Made, agrees, alone, destination, has_bits, plane_holds, seen_by_all, seen_by_selected,
-    with_carry,
+    self, Made, agrees, alone, destination, layer_holds, seen_by_all, seen_by_selected, with_carry,
 };
 use crate::cases::{Sample, everywhere, plane, put_bits};
 use paris_field::FieldValue;
+use paris_layer::Layer;
 use paris_model::{Action, BinaryOperator, Operand, UnaryOperator};
 use paris_names::SetNo;
 use paris_plain::Inputs;
@@ -147,6 +147,24 @@ const FILLINGS: &[(Filling, u128)] = &[
     (Filling::Fill, 1),
 ];
 
+/// Whether a plane's bits are these, as the numbers of a value.
+fn plane_holds(alloc: Global, plane: Plane, expected: &[u128]) -> Result<bool, AllocError> {
+    layer_holds(alloc, Layer::from_plane(plane), expected)
+}
+
+/// Whether a plane's bits are these, read one by one.
+fn has_bits(plane: &Plane, expected: &[u128]) -> bool {
+    if plane.len() != expected.len() {
+        return false;
+    }
+    for v in 0..expected.len() {
+        if u128::from(plane.get(v)) != expected[v] {
+            return false;
+        }
+    }
+    true
+}
+
 /// Stops where a call fails.
 fn check(rt: &impl Abort, call: Call, sample: &Sample, holds: bool) {
     assert!(rt; holds, "{call:?} of {} processors", sample.count);
@@ -154,7 +172,7 @@ fn check(rt: &impl Abort, call: Call, sample: &Sample, holds: bool) {
 
 /// What was made for the destination.
 fn stored(alloc: Global, plane: Plane) -> Result<Made, AllocError> {
-    let value = FieldValue::from_plane(alloc, plane)?;
+    let value = FieldValue::from_layer(alloc, Layer::from_plane(plane))?;
     alone(alloc, destination(), value)
 }
 
@@ -205,7 +223,8 @@ fn added(alloc: Global, sample: &Sample) -> Result<(Plane, Plane), AllocError> {
 /// A step of an addition is a sum of one bit with the carry.
 fn adds(rt: &impl Abort, alloc: Global, sample: &Sample, seen: &Inputs) -> Result<(), Fail> {
     let (sum, carry) = added(alloc, sample)?;
-    let made = with_carry(alloc, FieldValue::from_plane(alloc, sum)?, carry)?;
+    let value = FieldValue::from_layer(alloc, Layer::from_plane(sum))?;
+    let made = with_carry(alloc, value, Layer::from_plane(carry))?;
     let action = beside::binary(BinaryOperator::UnsignedAddCarry, 1);
     let case = (Call::AddStep, sample.count);
     agrees(rt, alloc, &case, seen, &action, made.as_slice())
@@ -223,7 +242,8 @@ fn subtracted(alloc: Global, sample: &Sample) -> Result<(Plane, Plane), AllocErr
 /// A step of a subtraction from which nothing was borrowed is a difference of one bit.
 fn subtracts(rt: &impl Abort, alloc: Global, sample: &Sample, seen: &Inputs) -> Result<(), Fail> {
     let (difference, borrow) = subtracted(alloc, sample)?;
-    let made = with_carry(alloc, FieldValue::from_plane(alloc, difference)?, borrow)?;
+    let value = FieldValue::from_layer(alloc, Layer::from_plane(difference))?;
+    let made = with_carry(alloc, value, Layer::from_plane(borrow))?;
     let action = beside::binary(BinaryOperator::UnsignedSubtract, 1);
     let case = (Call::SubtractStep, sample.count);
     agrees(rt, alloc, &case, seen, &action, made.as_slice())

@@ -4,7 +4,7 @@ ghost use Rattle.std.specs.Prelude.{◌≡◌, ◌<◌, ◌≤◌, ℕ, List, le
 ghost use Rattle.paris_plain.specs.Narrow.{IsNarrow};
 
 use crate::beside::{Made, agrees, alone, bit_operand, flag, seen_by_selected};
-use crate::cases::{Sample, plane};
+use crate::cases::{Sample, layer};
 use paris_field::FieldValue;
 use paris_flags::{ContextStep, TestStep, context_step, test_step};
 use paris_model::{Action, Conditional, Operand, Unconditional};
@@ -52,10 +52,10 @@ fn test_action(step: TestStep) -> Action<Operand, SetNo>
 
 /// What a step of the context makes of a sample.
 fn context_made(alloc: Global, sample: &Sample, step: ContextStep) -> Result<Made, AllocError> {
-    let operand = plane(alloc, sample.left.as_slice())?;
-    let mut context = plane(alloc, sample.context.as_slice())?;
-    context_step(step, &mut context, &operand);
-    let value = FieldValue::from_plane(alloc, context)?;
+    let operand = layer(alloc, sample.left.as_slice())?;
+    let mut context = layer(alloc, sample.context.as_slice())?;
+    context_step(alloc, step, &mut context, &operand)?;
+    let value = FieldValue::from_layer(alloc, context)?;
     alone(alloc, flag(FlagName::Context), value)
 }
 
@@ -83,11 +83,11 @@ fn steps_context(
 
 /// What a step of the test flag makes of a sample.
 fn test_made(alloc: Global, sample: &Sample, step: TestStep) -> Result<Made, AllocError> {
-    let operand = plane(alloc, sample.left.as_slice())?;
-    let context = plane(alloc, sample.context.as_slice())?;
-    let mut test = plane(alloc, sample.test.as_slice())?;
-    test_step(step, &mut test, &context, &operand);
-    let value = FieldValue::from_plane(alloc, test)?;
+    let operand = layer(alloc, sample.left.as_slice())?;
+    let context = layer(alloc, sample.context.as_slice())?;
+    let mut test = layer(alloc, sample.test.as_slice())?;
+    test_step(alloc, step, &mut test, &context, &operand)?;
+    let value = FieldValue::from_layer(alloc, test)?;
     alone(alloc, flag(FlagName::Test), value)
 }
 

@@ -4,7 +4,8 @@ ghost use Rattle.std.specs.Prelude.{◌≡◌, ◌<◌, ◌≤◌, ◌^◌, IfOk
 ghost use Rattle.paris_field.specs.Fields.{AllFit};
 
 use crate::beside::{has_numbers, holds};
-use paris_field::{FieldValue, copy_planes, transpose64};
+use paris_field::{FieldValue, copy_layers, planes_of, transpose64};
+use paris_layer::Layer;
 use paris_plane::Plane;
 use std::alloc::{AllocError, Global};
 use std::process::Abort;
@@ -54,7 +55,7 @@ const CASES: &[Case] = &[
 ];
 
 /// A number of this width, which must be some bits, for processor v.
-fn number(width: u64, seed: u128, v: usize) -> u128
+pub(crate) fn number(width: u64, seed: u128, v: usize) -> u128
     requires positive { 0 < width }
     requires narrow { width ≤ 128 }
     ensures { result < 2 ^ width }
@@ -364,10 +365,10 @@ fn merged(
     requires new_fit { AllFit width new.now }
     requires same { length new.now ≡ length numbers.now }
 {
-    let mask = thirds(alloc, numbers.len())?;
+    let mask = Layer::from_plane(thirds(alloc, numbers.len())?);
     let other = FieldValue::from_numbers(alloc, width, new)?;
     let mut value = FieldValue::from_numbers(alloc, width, numbers)?;
-    value.merge_in(&mask, other.planes(), len);
+    value.merge_in(&mask, other.planes(), len)?;
     Ok(value)
 }
 
@@ -411,14 +412,16 @@ fn lends_bits(value: &FieldValue, numbers: &[u128]) -> bool
     value.low(9).len() == 9
 }
 
-/// Whether a value of 65 bits equals that of its planes, and no zeros.
+/// Whether a value of 65 bits equals that of its layers and of its planes, and no zeros.
 fn is_of_planes(alloc: Global, value: &FieldValue) -> Result<bool, AllocError>
     requires width { value.now.width ≡ 65 }
 {
-    let planes = copy_planes(alloc, value.planes())?;
-    let taken = FieldValue::from_planes(planes, value.len());
+    let layers = copy_layers(alloc, value.planes())?;
+    let copied = FieldValue::from_layers(layers, value.len());
+    let planes = planes_of(alloc, value.planes())?;
+    let taken = FieldValue::from_planes(planes, value.len())?;
     let zeros = FieldValue::zeros(alloc, 65, value.len())?;
-    Ok(taken.equals(value) && !zeros.equals(value))
+    Ok(copied.equals(value) && taken.equals(value) && !zeros.equals(value))
 }
 
 #[test]
@@ -446,8 +449,9 @@ fn is_thirds(value: &FieldValue) -> bool
 }
 
 #[test]
-fn a_plane_is_a_value_of_one_bit(rt: HostRuntime) -> Result<(), Fail> {
-    let value = FieldValue::from_plane(rt.alloc(), thirds(rt.alloc(), 65)?)?;
+fn a_layer_is_a_value_of_one_bit(rt: HostRuntime) -> Result<(), Fail> {
+    let layer = Layer::from_plane(thirds(rt.alloc(), 65)?);
+    let value = FieldValue::from_layer(rt.alloc(), layer)?;
     assert!(rt; is_thirds(&value));
     Ok(())
 }

@@ -7,8 +7,8 @@ use paris_alu::{
     invert, logic, negate, subtract,
 };
 use paris_field::FieldValue;
+use paris_layer::Layer;
 use paris_model::{Comparison, Sign};
-use paris_plane::Plane;
 use std::alloc::{AllocError, Global};
 use std::process::Abort;
 use std::test::Fail;
@@ -40,8 +40,8 @@ enum Operation {
 #[derive(Drop)]
 struct Outcome {
     value: FieldValue,
-    carry: Option<Plane>,
-    overflow: Option<Plane>,
+    carry: Option<Layer>,
+    overflow: Option<Layer>,
 }
 
 impl From<Sum> for Outcome {
@@ -443,8 +443,8 @@ fn compared(
     requires y_width { y.now.width ≡ 64 }
     requires same { length x.now.numbers ≡ length y.now.numbers }
 {
-    let plane = compare(alloc, comparison, x, y, len)?;
-    FieldValue::from_plane(alloc, plane)
+    let layer = compare(alloc, comparison, x, y, len)?;
+    FieldValue::from_layer(alloc, layer)
 }
 
 impl Operation {
@@ -494,16 +494,16 @@ fn repeated(alloc: Global, row: &[u64; 4], vps: usize) -> Result<FieldValue, All
     FieldValue::from_numbers(alloc, 64, &numbers)
 }
 
-/// Whether a plane's bits, where there is one, repeat a row.
-fn flags_are(plane: &Option<Plane>, row: &[u64; 4], vps: usize) -> bool {
-    let Some(plane) = plane else {
+/// Whether a layer's bits, where there is one, repeat a row.
+fn flags_are(layer: &Option<Layer>, row: &[u64; 4], vps: usize) -> bool {
+    let Some(layer) = layer else {
         return true;
     };
-    if plane.len() != vps {
+    if layer.len() != vps {
         return false;
     }
     for v in 0..vps {
-        if plane.get(v) != (row[v % 4] == 1) {
+        if layer.get(v) != (row[v % 4] == 1) {
             return false;
         }
     }

@@ -7,8 +7,8 @@ ghost use Rattle.paris_field.specs.Numbers.{has};
 ghost use Rattle.paris_router.specs.Mail.{bad_sender_of, clipped, refusal_of, selected_addresses};
 
 use paris_field::FieldValue;
+use paris_layer::Layer;
 use paris_model::Refusal;
-use paris_plane::Plane;
 use std::alloc::{AllocError, Global};
 
 /// The greatest word.
@@ -38,7 +38,7 @@ fn address_words(alloc: Global, addresses: &FieldValue) -> Result<Vec<u64>, Allo
 }
 
 /// The word of a selected processor, and 0 for another.
-fn selected_word(words: &[u64], selected: &Plane, v: usize) -> u64
+fn selected_word(words: &[u64], selected: &Layer, v: usize) -> u64
     requires within { v < length words.now }
     requires selected { length selected.now ≡ length words.now }
     ensures { result ≡ (if has selected.now v then slice_index words.now v else 0) }
@@ -51,7 +51,7 @@ fn selected_word(words: &[u64], selected: &Plane, v: usize) -> u64
 pub fn checked_addresses(
     alloc: Global,
     addresses: &FieldValue,
-    selected: &Plane,
+    selected: &Layer,
 ) -> Result<Result<Vec<usize>, Refusal>, AllocError>
     requires few { length addresses.now.numbers ≤ MAX_PROCESSORS }
     requires selected { length selected.now ≡ length addresses.now.numbers }

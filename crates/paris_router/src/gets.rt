@@ -13,6 +13,7 @@ ghost use Rattle.paris_router.specs.Mail.{bad_sender_of, fetched_field, fetched_
 use crate::addresses::checked_addresses;
 use crate::numbers::low_numbers;
 use paris_field::{FieldValue, block_words, put_block_words, zero_planes};
+use paris_layer::Layer;
 use paris_model::Refusal;
 use paris_plane::Plane;
 use std::alloc::{AllocError, Global};
@@ -22,7 +23,7 @@ fn fetched<T: Copy>(
     alloc: Global,
     addresses: &[usize],
     numbers: &[T],
-    selected: &Plane,
+    selected: &Layer,
     zero: T,
 ) -> Result<Vec<T>, AllocError>
     requires within { All (λ r. r < length numbers.now) addresses.now }
@@ -117,9 +118,9 @@ fn fetch_words(
 /// Puts into the planes of a block the words at the addresses of its selected processors, and 0 for the others. Gives the place in the
 /// block of the first selected processor whose address is outside the words, if there is one.
 fn fetch_block(
-    addresses: &[Plane],
+    addresses: &[Layer],
     words: &[u64],
-    selected: &Plane,
+    selected: &Layer,
     block: usize,
     values: &mut [Plane],
 ) -> Option<usize>
@@ -147,9 +148,9 @@ fn fetch_block(
 /// Puts into planes the words at the addresses of the selected processors, and 0 for the others. Gives the least selected processor whose
 /// address is outside the words, if there is one.
 fn fetch_all(
-    addresses: &[Plane],
+    addresses: &[Layer],
     words: &[u64],
-    selected: &Plane,
+    selected: &Layer,
     values: &mut [Plane],
 ) -> Option<usize>
     requires narrow { length addresses.now ≤ 64 }
@@ -175,7 +176,7 @@ fn get_words(
     alloc: Global,
     addresses: &FieldValue,
     x: &FieldValue,
-    selected: &Plane,
+    selected: &Layer,
     bits: u64,
 ) -> Result<Result<FieldValue, Refusal>, AllocError>
     requires few { length x.now.numbers ≤ MAX_PROCESSORS }
@@ -192,7 +193,10 @@ fn get_words(
     let mut planes = zero_planes(alloc, bits as usize, vps)?;
     match fetch_all(addresses.planes(), &words, selected, &mut planes) {
         Some(v) => Ok(Err(Refusal::BadAddress(v as u32))),
-        None => Ok(Ok(FieldValue::from_planes(planes, vps))),
+        None => {
+            let value = FieldValue::from_planes(planes, vps)?;
+            Ok(Ok(value))
+        }
     }
 }
 
@@ -201,7 +205,7 @@ fn fetched_numbers(
     alloc: Global,
     addresses: &[usize],
     x: &FieldValue,
-    selected: &Plane,
+    selected: &Layer,
     bits: u64,
 ) -> Result<FieldValue, AllocError>
     requires narrow { bits ≤ 128 }
@@ -222,7 +226,7 @@ pub fn get(
     alloc: Global,
     addresses: &FieldValue,
     x: &FieldValue,
-    selected: &Plane,
+    selected: &Layer,
     bits: u64,
 ) -> Result<Result<FieldValue, Refusal>, AllocError>
     requires few { length x.now.numbers ≤ MAX_PROCESSORS }

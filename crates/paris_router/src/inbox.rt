@@ -8,7 +8,7 @@ ghost use Rattle.paris_field.specs.Numbers.{AllOf, has, number_at};
 ghost use Rattle.paris_router.specs.Mail.{bad_sender_of, mail_in};
 
 use paris_field::{FieldValue, block_words};
-use paris_plane::Plane;
+use paris_layer::Layer;
 
 /// What processors have of words that come to them one after another.
 ///
@@ -66,9 +66,9 @@ fn deliver_words<I: Inbox>(
 /// Brings the numbers of the selected processors of a block to their addresses. Gives the place in the block of the first selected
 /// processor whose address is outside the set, if there is one.
 fn deliver_block<I: Inbox>(
-    addresses: &[Plane],
-    x: &[Plane],
-    selected: &Plane,
+    addresses: &[Layer],
+    x: &[Layer],
+    selected: &Layer,
     block: usize,
     inbox: &mut I,
 ) -> Option<usize>
@@ -96,9 +96,9 @@ fn deliver_block<I: Inbox>(
 /// Brings the numbers of the selected processors to their addresses. Gives the least selected processor whose address is outside the
 /// set, if there is one.
 fn deliver_all<I: Inbox>(
-    addresses: &[Plane],
-    x: &[Plane],
-    selected: &Plane,
+    addresses: &[Layer],
+    x: &[Layer],
+    selected: &Layer,
     inbox: &mut I,
 ) -> Option<usize>
     requires address_bits { length addresses.now ≤ 64 }
@@ -126,7 +126,7 @@ fn deliver_all<I: Inbox>(
 pub fn deliver_mail<I: Inbox>(
     addresses: &FieldValue,
     x: &FieldValue,
-    selected: &Plane,
+    selected: &Layer,
     bits: u64,
     inbox: &mut I,
 ) -> Option<usize>

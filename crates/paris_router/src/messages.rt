@@ -9,6 +9,7 @@ ghost use Rattle.paris_router.specs.Mail.{bad_sender_of, mail_in, receivers_of, 
 use crate::addresses::checked_addresses;
 use crate::numbers::low_numbers;
 use paris_field::FieldValue;
+use paris_layer::Layer;
 use paris_model::Refusal;
 use paris_plane::Plane;
 use std::alloc::{AllocError, Global};
@@ -18,7 +19,7 @@ fn messages(
     alloc: Global,
     addresses: &[usize],
     numbers: &[u128],
-    selected: &Plane,
+    selected: &Layer,
 ) -> Result<Vec<(usize, u128)>, AllocError>
     requires numbers { length numbers.now ≡ length addresses.now }
     requires selected { length selected.now ≡ length addresses.now }
@@ -39,7 +40,7 @@ pub fn checked_mail(
     alloc: Global,
     addresses: &FieldValue,
     x: &FieldValue,
-    selected: &Plane,
+    selected: &Layer,
     bits: u64,
 ) -> Result<Result<Vec<(usize, u128)>, Refusal>, AllocError>
     requires few { length x.now.numbers ≤ MAX_PROCESSORS }
@@ -61,7 +62,7 @@ pub fn checked_mail(
 }
 
 /// In which of `count` processors mail arrives.
-pub fn receivers(alloc: Global, mail: &[(usize, u128)], count: usize) -> Result<Plane, AllocError>
+pub fn receivers(alloc: Global, mail: &[(usize, u128)], count: usize) -> Result<Layer, AllocError>
     requires within { All (λ message. message.0 < count) mail.now }
     ensures { IfOk result (λ plane. plane ≡ receivers_of count mail.now) }
 {
@@ -69,5 +70,5 @@ pub fn receivers(alloc: Global, mail: &[(usize, u128)], count: usize) -> Result<
     for message in mail {
         plane.set(message.0, true);
     }
-    Ok(plane)
+    Ok(Layer::from_plane(plane))
 }

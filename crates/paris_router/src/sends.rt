@@ -11,6 +11,7 @@ use crate::addresses::checked_addresses;
 use crate::inbox::{Inbox, deliver_mail};
 use crate::numbers::low_numbers;
 use paris_field::FieldValue;
+use paris_layer::Layer;
 use paris_model::Refusal;
 use paris_plane::Plane;
 use std::alloc::{AllocError, Global};
@@ -19,7 +20,7 @@ use std::alloc::{AllocError, Global};
 #[derive(Debug, Drop)]
 pub struct Delivery {
     pub value: FieldValue,
-    pub receivers: Plane,
+    pub receivers: Layer,
 }
 
 /// Numbers that arrive, and in which processors one does.
@@ -33,7 +34,7 @@ struct Arrivals<T> {
 fn deliver<T: Copy>(
     addresses: &[usize],
     numbers: &[T],
-    selected: &Plane,
+    selected: &Layer,
     values: &mut [T],
     receivers: &mut Plane,
     crowded: &mut Plane,
@@ -74,7 +75,7 @@ fn first_arrivals<T: Copy>(
     alloc: Global,
     addresses: &[usize],
     numbers: &[T],
-    selected: &Plane,
+    selected: &Layer,
     zeros: Vec<T>,
 ) -> Result<Result<Arrivals<T>, Refusal>, AllocError>
     requires few { length addresses.now ≤ MAX_PROCESSORS }
@@ -140,7 +141,7 @@ fn send_words(
     alloc: Global,
     addresses: &FieldValue,
     x: &FieldValue,
-    selected: &Plane,
+    selected: &Layer,
     bits: u64,
 ) -> Result<Result<Delivery, Refusal>, AllocError>
     requires few { length x.now.numbers ≤ MAX_PROCESSORS }
@@ -169,7 +170,7 @@ fn send_words(
         return Ok(Err(Refusal::Collision(r as u32)));
     }
     let value = FieldValue::from_words(alloc, bits, &firsts.words)?;
-    let receivers = firsts.receivers;
+    let receivers = Layer::from_plane(firsts.receivers);
     Ok(Ok(Delivery { value, receivers }))
 }
 
@@ -178,7 +179,7 @@ fn send_numbers(
     alloc: Global,
     addresses: &[usize],
     x: &FieldValue,
-    selected: &Plane,
+    selected: &Layer,
     bits: u64,
 ) -> Result<Result<Delivery, Refusal>, AllocError>
     requires few { length x.now.numbers ≤ MAX_PROCESSORS }
@@ -197,7 +198,7 @@ fn send_numbers(
         Err(refusal) => return Ok(Err(refusal)),
     };
     let value = FieldValue::from_numbers(alloc, bits, &arrived.numbers)?;
-    let receivers = arrived.receivers;
+    let receivers = Layer::from_plane(arrived.receivers);
     Ok(Ok(Delivery { value, receivers }))
 }
 
@@ -208,7 +209,7 @@ pub fn send(
     alloc: Global,
     addresses: &FieldValue,
     x: &FieldValue,
-    selected: &Plane,
+    selected: &Layer,
     bits: u64,
 ) -> Result<Result<Delivery, Refusal>, AllocError>
     requires few { length x.now.numbers ≤ MAX_PROCESSORS }

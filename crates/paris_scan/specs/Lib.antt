@@ -5,7 +5,6 @@ pub mod Lines
 pub mod Runs
 pub mod Shown
 pub mod Sums
-pub mod Without
 pub mod Blocks
 pub mod Running
 pub mod Adjacent

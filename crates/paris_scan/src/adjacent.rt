@@ -18,8 +18,9 @@ use crate::repeated::{line_plane, line_value};
 use crate::results::Combined;
 use crate::sources::complement_planes;
 use paris_counts::{maximum_of, or_of, sum_of, xor_of};
-use paris_field::FieldValue;
+use paris_field::{FieldValue, layers_of};
 use paris_geometry::Geometry;
+use paris_layer::Layer;
 use paris_plane::Plane;
 use std::alloc::{AllocError, Global};
 
@@ -35,7 +36,7 @@ pub(crate) fn is_adjacent(geometry: Geometry, axis: usize) -> bool
 /// What the values of the selected processors of a span come to, as one number.
 pub trait Total: JoinHalves {
     /// The span has `count` processors from `start` on. In `selected`, processors of the span may be left out.
-    fn total(planes: &[Plane], selected: &mut Plane, start: usize, count: usize) -> u128
+    fn total(planes: &[Layer], selected: &mut Plane, start: usize, count: usize) -> u128
         requires narrow { length planes.now ≤ 128 }
         requires long { AllOf (length selected.old) planes.now }
         requires start { start % 64 ≡ 0 }
@@ -48,19 +49,19 @@ pub trait Total: JoinHalves {
 }
 
 impl Total for Ors {
-    fn total(planes: &[Plane], selected: &mut Plane, start: usize, count: usize) -> u128 {
+    fn total(planes: &[Layer], selected: &mut Plane, start: usize, count: usize) -> u128 {
         or_of(planes, selected, start, count)
     }
 }
 
 impl Total for Xors {
-    fn total(planes: &[Plane], selected: &mut Plane, start: usize, count: usize) -> u128 {
+    fn total(planes: &[Layer], selected: &mut Plane, start: usize, count: usize) -> u128 {
         xor_of(planes, selected, start, count)
     }
 }
 
 impl Total for Maxima {
-    fn total(planes: &[Plane], selected: &mut Plane, start: usize, count: usize) -> u128 {
+    fn total(planes: &[Layer], selected: &mut Plane, start: usize, count: usize) -> u128 {
         maximum_of(planes, selected, start, count)
     }
 }
@@ -68,8 +69,8 @@ impl Total for Maxima {
 /// What the selected values of each line of `count` processors come to.
 fn line_totals<T: Total>(
     alloc: Global,
-    planes: &[Plane],
-    selected: &Plane,
+    planes: &[Layer],
+    selected: &Layer,
     count: usize,
 ) -> Result<Vec<u128>, AllocError>
     requires narrow { length planes.now ≤ 128 }
@@ -81,7 +82,7 @@ fn line_totals<T: Total>(
     ensures fit { IfOk result (λ totals. (i : ℕ) → i < length totals.items → slice_index totals.items i < 2 ^ length planes.now) }
 {
     let lines = selected.len() / count;
-    let mut left = selected.copy()?;
+    let mut left = selected.to_plane(alloc)?;
     let mut totals = Vec::with_capacity(alloc, lines)?;
     for line in 0..lines {
         totals.push(T::total(planes, &mut left, line * count, count))?;
@@ -92,8 +93,8 @@ fn line_totals<T: Total>(
 /// The sum of the selected values of each line of `count` processors.
 fn line_sums(
     alloc: Global,
-    planes: &[Plane],
-    selected: &Plane,
+    planes: &[Layer],
+    selected: &Layer,
     count: usize,
 ) -> Result<Vec<u128>, AllocError>
     requires narrow { length planes.now ≤ 96 }
@@ -105,9 +106,10 @@ fn line_sums(
     ensures values { IfOk result (λ sums. (i : ℕ) → i < length sums.items → slice_index sums.items i ≡ sum (values_of_line count selected.now (number_at planes.now) i)) }
 {
     let lines = selected.len() / count;
+    let mask = selected.lent(alloc)?;
     let mut sums = Vec::with_capacity(alloc, lines)?;
     for line in 0..lines {
-        sums.push(sum_of(planes, selected, line * count, count))?;
+        sums.push(sum_of(planes, mask.plane(), line * count, count))?;
     }
     Ok(sums)
 }
@@ -118,7 +120,7 @@ pub(crate) fn adjacent_shown<T: Total>(
     geometry: Geometry,
     axis: usize,
     x: &FieldValue,
-    selected: &Plane,
+    selected: &Layer,
     bits: u64,
 ) -> Result<FieldValue, AllocError>
     requires axis { axis < length geometry }
@@ -169,7 +171,7 @@ pub(crate) fn adjacent_complements<T: Total>(
     geometry: Geometry,
     axis: usize,
     x: &FieldValue,
-    selected: &Plane,
+    selected: &Layer,
     bits: u64,
 ) -> Result<FieldValue, AllocError>
     requires axis { axis < length geometry }
@@ -181,7 +183,8 @@ pub(crate) fn adjacent_complements<T: Total>(
     ensures { IfOk result (λ value. value ≡ shown_field (complement_shown T.shows) bits (processor_count geometry) (of_lines geometry axis selected.now bits x.now)) }
 {
     let count = geometry.len(axis) as usize;
-    let state = complement_planes(alloc, selected, x.low(bits))?;
+    let planes = complement_planes(alloc, selected, x.low(bits))?;
+    let state = layers_of(alloc, planes)?;
     let totals = line_totals::<T>(alloc, &state, selected, count)?;
     let turned = all_turned(alloc, bits, &totals)?;
     line_value(alloc, bits, &turned, count, x.len())
@@ -283,7 +286,7 @@ pub(crate) fn adjacent_sums(
     geometry: Geometry,
     axis: usize,
     x: &FieldValue,
-    selected: &Plane,
+    selected: &Layer,
     bits: u64,
 ) -> Result<Combined, AllocError>
     requires axis { axis < length geometry }
@@ -306,6 +309,6 @@ pub(crate) fn adjacent_sums(
     let value = line_value(alloc, bits, &rests, count, x.len())?;
     Ok(Combined {
         value,
-        overflow: Some(overflow),
+        overflow: Some(Layer::from_plane(overflow)),
     })
 }

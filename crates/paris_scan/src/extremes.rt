@@ -13,6 +13,7 @@ use crate::adjacent::power;
 use crate::lines::Along;
 use crate::running::{Steps, line_steps, step_back, walked, word_before};
 use paris_field::FieldValue;
+use paris_layer::Layer;
 use paris_model::Inclusion;
 use paris_plane::Plane;
 use std::alloc::{AllocError, Global};
@@ -124,8 +125,8 @@ pub(crate) fn scan_words<E: Extreme>(
     alloc: Global,
     along: &Along,
     x: &FieldValue,
-    selected: &Plane,
-    segments: &Plane,
+    selected: &Layer,
+    segments: &Layer,
     bits: u64,
 ) -> Result<FieldValue, AllocError>
     requires axis { along.now.axis < length along.now.geometry }
@@ -138,7 +139,8 @@ pub(crate) fn scan_words<E: Extreme>(
 {
     let mut words = x.low_words(bits)?;
     let steps = line_steps(alloc, along, segments)?;
-    run_words::<E>(&steps, selected, along.inclusion, bits, &mut words);
+    let mask = selected.lent(alloc)?;
+    run_words::<E>(&steps, mask.plane(), along.inclusion, bits, &mut words);
     let value = FieldValue::from_words(alloc, bits, &words)?;
     Ok(value)
 }

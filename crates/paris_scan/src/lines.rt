@@ -11,9 +11,10 @@ use crate::doubling::double;
 use crate::partner::{Partner, bring_planes};
 use paris_field::zero_planes;
 use paris_geometry::{Direction, Geometry};
+use paris_layer::Layer;
 use paris_model::Inclusion;
 use paris_news::coordinate_plane;
-use paris_plane::Plane;
+use paris_plane::{Or, Plane};
 use std::alloc::{AllocError, Global};
 
 /// Which lines a scan goes along, and how.
@@ -41,7 +42,7 @@ fn first_coordinate(geometry: Geometry, axis: usize, direction: Direction) -> u6
 pub(crate) fn begin_plane(
     alloc: Global,
     along: &Along,
-    segments: &Plane,
+    segments: &Layer,
 ) -> Result<Plane, AllocError>
     requires axis { along.now.axis < length along.now.geometry }
     requires segments { length segments.now ≡ processor_count along.now.geometry }
@@ -49,8 +50,9 @@ pub(crate) fn begin_plane(
 {
     let place = first_coordinate(along.geometry, along.axis, along.direction);
     let mut begins = coordinate_plane(alloc, along.geometry, along.axis, place)?;
-    begins.or_in(segments);
-    Ok(begins)
+    begins.put::<Or>(alloc, segments)?;
+    let plane = begins.into_plane(alloc)?;
+    Ok(plane)
 }
 
 /// What the values that a scan combines come to in each processor. In `state` each selected processor has its own value, and the others
@@ -59,7 +61,7 @@ pub fn scan_planes<C: Combine>(
     alloc: Global,
     along: &Along,
     mut state: Vec<Plane>,
-    segments: &Plane,
+    segments: &Layer,
 ) -> Result<Vec<Plane>, AllocError>
     requires axis { along.now.axis < length along.now.geometry }
     requires some { C.extra ≤ length state.items }

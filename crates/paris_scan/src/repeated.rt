@@ -102,5 +102,6 @@ pub(crate) fn line_value(
         return FieldValue::constant(alloc, width, numbers[0], vps);
     }
     let planes = line_planes(alloc, width, numbers, count, vps)?;
-    Ok(FieldValue::from_planes(planes, vps))
+    let value = FieldValue::from_planes(planes, vps)?;
+    Ok(value)
 }

@@ -15,6 +15,7 @@ use crate::moves::move_cut;
 use crate::results::Combined;
 use paris_field::FieldValue;
 use paris_geometry::Direction;
+use paris_layer::Layer;
 use paris_model::Inclusion;
 use paris_plane::Plane;
 use std::alloc::{AllocError, Global};
@@ -33,7 +34,7 @@ pub(crate) struct Steps {
 pub(crate) fn line_steps(
     alloc: Global,
     along: &Along,
-    segments: &Plane,
+    segments: &Layer,
 ) -> Result<Steps, AllocError>
     requires axis { along.now.axis < length along.now.geometry }
     requires segments { length segments.now ≡ processor_count along.now.geometry }
@@ -179,14 +180,14 @@ fn shown_sums(
     match inclusion {
         Inclusion::Inclusive => Ok(Combined {
             value: FieldValue::from_words(alloc, bits, &words)?,
-            overflow: Some(overflow),
+            overflow: Some(Layer::from_plane(overflow)),
         }),
         Inclusion::Exclusive => {
             step_back(steps, &mut words, 0);
             let before = bits_before(alloc, steps, &overflow)?;
             Ok(Combined {
                 value: FieldValue::from_words(alloc, bits, &words)?,
-                overflow: Some(before),
+                overflow: Some(Layer::from_plane(before)),
             })
         }
     }
@@ -197,8 +198,8 @@ pub(crate) fn scan_running(
     alloc: Global,
     along: &Along,
     x: &FieldValue,
-    selected: &Plane,
-    segments: &Plane,
+    selected: &Layer,
+    segments: &Layer,
     bits: u64,
 ) -> Result<Combined, AllocError>
     requires axis { along.now.axis < length along.now.geometry }
@@ -215,7 +216,8 @@ pub(crate) fn scan_running(
     let mut words = x.low_words(bits)?;
     let mut overflow = Plane::zeros(alloc, words.len())?;
     let steps = line_steps(alloc, along, segments)?;
-    make_sums(&steps, selected, bits, &mut words, &mut overflow);
+    let mask = selected.lent(alloc)?;
+    make_sums(&steps, mask.plane(), bits, &mut words, &mut overflow);
     let combined = shown_sums(alloc, &steps, along.inclusion, bits, words, overflow)?;
     Ok(combined)
 }

@@ -19,8 +19,8 @@ use crate::sources::{complement_planes, selected_planes, summed_planes};
 use crate::sums::Sums;
 use paris_field::FieldValue;
 use paris_geometry::{Direction, Geometry};
+use paris_layer::Layer;
 use paris_model::{Combiner, Inclusion};
-use paris_plane::Plane;
 use std::alloc::{AllocError, Global};
 
 /// So many turns of a plane, or fewer, take less time than sums that are made one after another.
@@ -34,8 +34,8 @@ fn scan_field<C: Commute>(
     alloc: Global,
     along: &Along,
     x: &FieldValue,
-    selected: &Plane,
-    segments: &Plane,
+    selected: &Layer,
+    segments: &Layer,
     bits: u64,
 ) -> Result<FieldValue, AllocError>
     requires plain { C.extra ≡ 0 }
@@ -49,7 +49,8 @@ fn scan_field<C: Commute>(
 {
     let state = selected_planes(alloc, selected, x.low(bits))?;
     let planes = scan_planes::<C>(alloc, along, state, segments)?;
-    Ok(FieldValue::from_planes(planes, x.len()))
+    let value = FieldValue::from_planes(planes, x.len())?;
+    Ok(value)
 }
 
 /// What the values that a scan combines come to, by an operator that combines their complements to that of the result.
@@ -57,8 +58,8 @@ fn scan_complements<C: Commute>(
     alloc: Global,
     along: &Along,
     x: &FieldValue,
-    selected: &Plane,
-    segments: &Plane,
+    selected: &Layer,
+    segments: &Layer,
     bits: u64,
 ) -> Result<FieldValue, AllocError>
     requires plain { C.extra ≡ 0 }
@@ -72,7 +73,8 @@ fn scan_complements<C: Commute>(
 {
     let state = complement_planes(alloc, selected, x.low(bits))?;
     let planes = scan_planes::<C>(alloc, along, state, segments)?;
-    Ok(complement_value(planes, x.len()))
+    let value = complement_value(planes, x.len())?;
+    Ok(value)
 }
 
 /// Whether a turn of each plane for each digit of a coordinate makes more turns than `few`.
@@ -89,8 +91,8 @@ fn scan_sums(
     alloc: Global,
     along: &Along,
     x: &FieldValue,
-    selected: &Plane,
-    segments: &Plane,
+    selected: &Layer,
+    segments: &Layer,
     bits: u64,
 ) -> Result<Combined, AllocError>
     requires axis { along.now.axis < length along.now.geometry }
@@ -109,7 +111,8 @@ fn scan_sums(
     }
     let state = summed_planes(alloc, selected, x.low(bits))?;
     let planes = scan_planes::<Sums>(alloc, along, state, segments)?;
-    Ok(sum_value(planes, x.len()))
+    let combined = sum_value(planes, x.len())?;
+    Ok(combined)
 }
 
 /// The greatest of the values that a scan combines.
@@ -117,8 +120,8 @@ fn scan_maxima(
     alloc: Global,
     along: &Along,
     x: &FieldValue,
-    selected: &Plane,
-    segments: &Plane,
+    selected: &Layer,
+    segments: &Layer,
     bits: u64,
 ) -> Result<FieldValue, AllocError>
     requires axis { along.now.axis < length along.now.geometry }
@@ -140,8 +143,8 @@ fn scan_minima(
     alloc: Global,
     along: &Along,
     x: &FieldValue,
-    selected: &Plane,
-    segments: &Plane,
+    selected: &Layer,
+    segments: &Layer,
     bits: u64,
 ) -> Result<FieldValue, AllocError>
     requires axis { along.now.axis < length along.now.geometry }
@@ -169,8 +172,8 @@ pub fn scan(
     direction: Direction,
     inclusion: Inclusion,
     x: &FieldValue,
-    selected: &Plane,
-    segments: &Plane,
+    selected: &Layer,
+    segments: &Layer,
     bits: u64,
 ) -> Result<Combined, AllocError>
     requires axis { axis < length geometry }
@@ -226,8 +229,8 @@ pub fn copy_scan(
     axis: usize,
     direction: Direction,
     x: &FieldValue,
-    selected: &Plane,
-    segments: &Plane,
+    selected: &Layer,
+    segments: &Layer,
     bits: u64,
 ) -> Result<FieldValue, AllocError>
     requires axis { axis < length geometry }
@@ -246,8 +249,9 @@ pub fn copy_scan(
         inclusion: Inclusion::Inclusive,
     };
     let mut state = selected_planes(alloc, selected, x.low(bits))?;
-    state.push(selected.copy()?)?;
+    state.push(selected.to_plane(alloc)?)?;
     let mut planes = scan_planes::<Firsts>(alloc, &along, state, segments)?;
     planes.truncate(bits as usize);
-    Ok(FieldValue::from_planes(planes, x.len()))
+    let value = FieldValue::from_planes(planes, x.len())?;
+    Ok(value)
 }

@@ -5,15 +5,15 @@ ghost use Rattle.std.specs.Simd.Lanes.{zip2};
 ghost use Rattle.paris_field.specs.Numbers.{AllOf, number_at, plane_at};
 ghost use Rattle.paris_scan.specs.Shown.{complement};
 
-use crate::moves::Without;
-use paris_plane::{And, Plane, WordOp};
+use paris_layer::Layer;
+use paris_plane::{And, Plane, Without, WordOp};
 use std::alloc::{AllocError, Global};
 
 /// What the operation makes of each bit of the mask and that of a plane, with room for one plane more.
 fn masked_planes<O: WordOp>(
     alloc: Global,
-    mask: &Plane,
-    x: &[Plane],
+    mask: &Layer,
+    x: &[Layer],
 ) -> Result<Vec<Plane>, AllocError>
     requires { AllOf (length mask.now) x.now }
     ensures count { IfOk result (λ planes. length planes.items ≡ length x.now) }
@@ -21,8 +21,8 @@ fn masked_planes<O: WordOp>(
 {
     let mut planes = Vec::with_capacity(alloc, x.len() + 1)?;
     for k in 0..x.len() {
-        let plane = Plane::combined::<O>(alloc, mask, &x[k])?;
-        planes.push(plane)?;
+        let layer = Layer::combined::<O>(alloc, mask, &x[k])?;
+        planes.push(layer.into_plane(alloc)?)?;
     }
     Ok(planes)
 }
@@ -30,8 +30,8 @@ fn masked_planes<O: WordOp>(
 /// The numbers of the selected processors, and 0 in the others, with room for one plane more.
 pub fn selected_planes(
     alloc: Global,
-    selected: &Plane,
-    x: &[Plane],
+    selected: &Layer,
+    x: &[Layer],
 ) -> Result<Vec<Plane>, AllocError>
     requires { AllOf (length selected.now) x.now }
     ensures count { IfOk result (λ planes. length planes.items ≡ length x.now) }
@@ -45,8 +45,8 @@ pub fn selected_planes(
 /// The numbers of the selected processors, and 0 in the others, with a plane of zeros on top.
 pub(crate) fn summed_planes(
     alloc: Global,
-    selected: &Plane,
-    x: &[Plane],
+    selected: &Layer,
+    x: &[Layer],
 ) -> Result<Vec<Plane>, AllocError>
     requires { AllOf (length selected.now) x.now }
     ensures count { IfOk result (λ planes. length planes.items ≡ length x.now + 1) }
@@ -61,8 +61,8 @@ pub(crate) fn summed_planes(
 /// The numbers of the selected processors with every bit turned, and 0 in the others.
 pub fn complement_planes(
     alloc: Global,
-    selected: &Plane,
-    x: &[Plane],
+    selected: &Layer,
+    x: &[Layer],
 ) -> Result<Vec<Plane>, AllocError>
     requires { AllOf (length selected.now) x.now }
     ensures count { IfOk result (λ planes. length planes.items ≡ length x.now) }

@@ -17,9 +17,10 @@ use crate::sources::{complement_planes, selected_planes, summed_planes};
 use crate::sums::Sums;
 use paris_field::FieldValue;
 use paris_geometry::Geometry;
+use paris_layer::Layer;
 use paris_model::Combiner;
 use paris_news::coordinate_plane;
-use paris_plane::{And, Plane};
+use paris_plane::And;
 use std::alloc::{AllocError, Global};
 
 /// What the values of each line come to, where the operator's unit is 0.
@@ -28,7 +29,7 @@ fn spread_shown<C: Total>(
     geometry: Geometry,
     axis: usize,
     x: &FieldValue,
-    selected: &Plane,
+    selected: &Layer,
     bits: u64,
 ) -> Result<FieldValue, AllocError>
     requires axis { axis < length geometry }
@@ -44,7 +45,8 @@ fn spread_shown<C: Total>(
     }
     let state = selected_planes(alloc, selected, x.low(bits))?;
     let planes = spread_planes::<C>(alloc, geometry, axis, state)?;
-    Ok(FieldValue::from_planes(planes, x.len()))
+    let value = FieldValue::from_planes(planes, x.len())?;
+    Ok(value)
 }
 
 /// The complement of what the complements of the values of each line come to.
@@ -53,7 +55,7 @@ fn spread_complements<C: Total>(
     geometry: Geometry,
     axis: usize,
     x: &FieldValue,
-    selected: &Plane,
+    selected: &Layer,
     bits: u64,
 ) -> Result<FieldValue, AllocError>
     requires axis { axis < length geometry }
@@ -69,7 +71,8 @@ fn spread_complements<C: Total>(
     }
     let state = complement_planes(alloc, selected, x.low(bits))?;
     let planes = spread_planes::<C>(alloc, geometry, axis, state)?;
-    Ok(complement_value(planes, x.len()))
+    let value = complement_value(planes, x.len())?;
+    Ok(value)
 }
 
 /// The sums of the values of each line, and where they need more bits.
@@ -78,7 +81,7 @@ fn spread_sums(
     geometry: Geometry,
     axis: usize,
     x: &FieldValue,
-    selected: &Plane,
+    selected: &Layer,
     bits: u64,
 ) -> Result<Combined, AllocError>
     requires axis { axis < length geometry }
@@ -96,7 +99,8 @@ fn spread_sums(
     }
     let state = summed_planes(alloc, selected, x.low(bits))?;
     let planes = spread_planes::<Sums>(alloc, geometry, axis, state)?;
-    Ok(sum_value(planes, x.len()))
+    let combined = sum_value(planes, x.len())?;
+    Ok(combined)
 }
 
 /// In each processor what the low `bits` bits of the selected processors of its line combine to.
@@ -106,7 +110,7 @@ pub fn spread(
     geometry: Geometry,
     axis: usize,
     x: &FieldValue,
-    selected: &Plane,
+    selected: &Layer,
     bits: u64,
 ) -> Result<Combined, AllocError>
     requires axis { axis < length geometry }
@@ -148,7 +152,7 @@ pub fn spread(
 #[derive(Debug, Drop)]
 pub struct Reduced {
     pub combined: Combined,
-    pub stores: Plane,
+    pub stores: Layer,
 }
 
 /// The selected processors with the coordinate `place`.
@@ -157,15 +161,15 @@ fn store_plane(
     geometry: Geometry,
     axis: usize,
     place: u64,
-    selected: &Plane,
-) -> Result<Plane, AllocError>
+    selected: &Layer,
+) -> Result<Layer, AllocError>
     requires axis { axis < length geometry }
     requires place { place < axis_length geometry axis }
     requires selected { length selected.now ≡ processor_count geometry }
     ensures { IfOk result (λ plane. plane ≡ stores_at geometry axis place selected.now) }
 {
     let at = coordinate_plane(alloc, geometry, axis, place)?;
-    let stores = Plane::combined::<And>(alloc, selected, &at)?;
+    let stores = Layer::combined::<And>(alloc, selected, &at)?;
     Ok(stores)
 }
 
@@ -178,7 +182,7 @@ pub fn reduce(
     axis: usize,
     place: u64,
     x: &FieldValue,
-    selected: &Plane,
+    selected: &Layer,
     bits: u64,
 ) -> Result<Reduced, AllocError>
     requires axis { axis < length geometry }
@@ -222,5 +226,6 @@ pub fn copy_spread(
     let at = coordinate_plane(alloc, geometry, axis, place)?;
     let state = selected_planes(alloc, &at, x.low(bits))?;
     let planes = spread_planes::<Ors>(alloc, geometry, axis, state)?;
-    Ok(FieldValue::from_planes(planes, vps))
+    let value = FieldValue::from_planes(planes, vps)?;
+    Ok(value)
 }

@@ -10,10 +10,10 @@ use crate::cases::{COLUMNS, LINES, ROWS, RUNNING_SETS, SETS, Sample, random_samp
 use crate::expected::expected;
 use paris_field::FieldValue;
 use paris_geometry::{Direction, Geometry};
+use paris_layer::Layer;
 use paris_model::{Combiner, Inclusion, Line, Operand};
 use paris_names::{FieldNo, FlagName, Items, Key, SetNo};
 use paris_plain::{Inputs, flags_are_bits, line_after};
-use paris_plane::Plane;
 use paris_scan::{Combined, Reduced};
 use std::alloc::{AllocError, Global};
 use std::process::Abort;
@@ -148,7 +148,7 @@ fn seen(rt: &impl Abort, alloc: Global, sample: &Sample) -> Result<Inputs, Fail>
 fn agrees(
     rt: &impl Abort,
     case: &Case,
-    stores: &Plane,
+    stores: &Layer,
     value: &FieldValue,
     expected: &[u128],
 ) -> Result<(), AllocError> {
@@ -178,8 +178,8 @@ pub(crate) fn check(
     } = combined;
     let (values, overflow) = expected(alloc, sample, case)?;
     agrees(rt, case, &stores, &value, &values)?;
-    if let Some(plane) = over {
-        let field = FieldValue::from_plane(alloc, plane)?;
+    if let Some(layer) = over {
+        let field = FieldValue::from_layer(alloc, layer)?;
         agrees(rt, case, &stores, &field, &overflow)?;
     }
     if case.bits <= 64 && values.len() <= 256 {

@@ -5,6 +5,7 @@ ghost use Rattle.paris_geometry.specs.Geometry.{processor_count};
 
 use paris_field::FieldValue;
 use paris_geometry::Geometry;
+use paris_layer::Layer;
 use paris_plane::Plane;
 use std::alloc::{AllocError, Global};
 use std::process::Abort;
@@ -138,8 +139,8 @@ pub(crate) struct Sample {
     pub(crate) context: Vec<u128>,
     pub(crate) cuts: Vec<u128>,
     pub(crate) field: FieldValue,
-    pub(crate) selected: Plane,
-    pub(crate) segments: Plane,
+    pub(crate) selected: Layer,
+    pub(crate) segments: Layer,
     ghost few: { length numbers.items ≡ processor_count geometry },
     ghost field_count: { length field.numbers ≡ processor_count geometry },
     ghost selected_count: { length selected ≡ processor_count geometry },
@@ -163,8 +164,8 @@ pub(crate) fn sample_with(
     Ok(Sample {
         geometry,
         field: FieldValue::from_numbers(alloc, width, &numbers)?,
-        selected: plane(alloc, &context)?,
-        segments: plane(alloc, &cuts)?,
+        selected: Layer::from_plane(plane(alloc, &context)?),
+        segments: Layer::from_plane(plane(alloc, &cuts)?),
         numbers,
         context,
         cuts,

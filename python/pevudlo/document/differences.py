@@ -22,15 +22,19 @@ MOST_COMPARED = 250_000
 Pair = tuple[int, int]
 
 
-def ends(old: Sequence[str], new: Sequence[str]) -> Pair:
-    """How many lines two texts have in common at the start, and how many behind those at the end."""
+def ends(old: Sequence[str], new: Sequence[str], known: Pair = (0, 0)) -> Pair:
+    """How many lines two texts have in common at the start, and how many behind those at the end.
+
+    So many as are `known` to be the same at both sides aren't compared.
+    """
     shorter = min(len(old), len(new))
-    low = high = 0
+    low = min(known[0], shorter)
     while low + PART <= shorter and old[low : low + PART] == new[low : low + PART]:
         low += PART
     while low < shorter and old[low] == new[low]:
         low += 1
     left, one, other = shorter - low, len(old), len(new)
+    high = min(known[1], left)
     while high + PART <= left and old[one - high - PART : one - high] == new[other - high - PART : other - high]:
         high += PART
     while high < left and old[one - 1 - high] == new[other - 1 - high]:

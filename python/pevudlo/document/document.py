@@ -11,7 +11,7 @@ from collections.abc import Callable, Container
 from dataclasses import replace
 
 from pevudlo.document.book import Book, short_line
-from pevudlo.document.differences import ends
+from pevudlo.document.differences import Pair, ends
 from pevudlo.document.meaning import FileRow, Meaning, Reader, Shown, spliced
 from pevudlo.document.pieces import (
     DECLARING,
@@ -94,20 +94,26 @@ class Document:
         """
         return self.update_lines(lines_of_text(text), hold)
 
-    def update_lines(self, lines: list[str], hold: bool = False) -> Update:
-        """As `update`, of a text that is cut into lines."""
-        with self.told:
-            return self._update(lines, hold)
+    def update_lines(self, lines: list[str], hold: bool = False, known: Pair = (0, 0)) -> Update:
+        """As `update`, of a text that is cut into lines.
 
-    def _update(self, lines: list[str], hold: bool) -> Update:
+        So many lines at its start and at its end are `known` to be those of the present text.
+        """
+        with self.told:
+            return self._update(lines, hold, known)
+
+    def _update(self, lines: list[str], hold: bool, known: Pair) -> Update:
         """As `update_lines`."""
         done = Update()
-        told = self._as_declared(lines) if hold else lines
+        told = self._as_declared(lines, known) if hold else lines
+        if told is not lines or self._typed is not None:
+            # What the book was told, or is to be, isn't the text.
+            known = (0, 0)
         why, self._why = self._why, "the last update was stopped"
         try:
             if why or self._book is None:
                 raise NewBook(why)
-            self._step(self._book, told, hold, done)
+            self._step(self._book, told, hold, done, known)
             typed = self._see_typed(lines)
         except (NewBook, PipeError) as error:
             done = self._afresh(told, str(error))
@@ -115,10 +121,10 @@ class Document:
         self._why, done.held = "", tuple(sorted({*self.meaning.held, *typed}))
         return done
 
-    def _as_declared(self, lines: list[str]) -> list[str]:
+    def _as_declared(self, lines: list[str], known: Pair) -> list[str]:
         """A text whose declarations are as they were where they are half typed: in the grammar before, and not now."""
         had, was = self.lines, self.meaning.lines
-        low, high = ends(had, lines)
+        low, high = ends(had, lines, known)
         olds, news = self.meaning.shown[low : len(was) - high], lines[low : len(lines) - high]
         if self._typed is None and not any(old.kind in HEADING for old in olds):
             return lines
@@ -144,11 +150,11 @@ class Document:
             self._typed = lines, shown
         return typed
 
-    def _step(self, book: Book, lines: list[str], hold: bool, done: Update) -> None:
+    def _step(self, book: Book, lines: list[str], hold: bool, done: Update, known: Pair) -> None:
         """Leads the book to a text by edits. Raises NewBook where that can't be."""
         if header_of(lines) != header_of(self.meaning.lines):
             raise NewBook("the command for the profile is changed, new or gone")
-        same = ends(self.meaning.lines, lines)
+        same = ends(self.meaning.lines, lines, known)
         declared, added = self._declarations(lines, same)
         book.declare(added, done)
         meaning = None
@@ -245,6 +251,13 @@ class Document:
     def shown(self) -> list[Shown]:
         """What each line is."""
         return self.meaning.shown if self._typed is None else self._typed[1]
+
+    @property
+    def told_lines(self) -> list[int]:
+        """The lines of which something may be told beside values, in their order."""
+        if self._typed is None:
+            return self.meaning.told_lines
+        return [at for at, shown in enumerate(self.shown) if shown.may_be_told]
 
     @property
     def rows(self) -> list[FileRow]:

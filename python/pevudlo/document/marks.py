@@ -85,7 +85,8 @@ def headline(document: Document, done: Update) -> str:
         said = f"{done.count:,} of {rows} ran again"
         same = len(done.touched) - done.count
         said += f", {same:,} {same_words(same)}" if same else ""
-    refused = sum(bool(shown.refused) for shown in document.shown)
+    lines = document.shown
+    refused = sum(bool(lines[at].refused) for at in document.told_lines)
     if refused:
         said += "; 1 line is refused" if refused == 1 else f"; {refused:,} lines are refused"
     faults = len(document.book.faults)

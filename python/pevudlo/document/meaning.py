@@ -64,6 +64,11 @@ class Shown(NamedTuple):
         """The key of a look or of input data."""
         return self.piece.key
 
+    @property
+    def may_be_told(self) -> bool:
+        """Whether something may be told of it beside values: it is refused, is input data, or does nothing any more."""
+        return bool(self.refused) or self.former is not None or self.kind in (Kind.INPUT, Kind.TIME)
+
 
 class Hunk(NamedTuple):
     """Where two lists of rows differ: from `start` on, up to `end` in the old one and `new_end` in the new one."""
@@ -77,9 +82,9 @@ class Hunk(NamedTuple):
 class Meaning:
     """What lines mean. `ids` are those that a fresh run gives the rows, where all lines were read.
 
-    `head` is how many lines there are up to the last declaration, or the profile where there is none, and `row_lines`
-    are those that have a row. `hunk` says where the rows are others than before, where that is known, and `has_inputs`
-    whether input data may be.
+    `head` is how many lines there are up to the last declaration, or the profile where there is none. `row_lines` are
+    those that have a row, and `told_lines` those of which something may be told beside values. `hunk` says where the
+    rows are others than before, where that is known, and `has_inputs` whether input data may be.
     `is_held`: a refused line keeps its old row. `is_full`: a row is refused since there are too many.
     """
 
@@ -89,6 +94,7 @@ class Meaning:
     ids: list[int] = field(default_factory=list)
     head: int = 0
     row_lines: list[int] = field(default_factory=list)
+    told_lines: list[int] = field(default_factory=list)
     is_straight: bool = False
     is_held: bool = False
     is_full: bool = False
@@ -127,6 +133,7 @@ class Reader:
         meaning = Meaning(lines, shown, [row for _, row in order], [at for at, _ in order])
         meaning.head = 1 + max((at for at, piece in enumerate(pieces) if piece.kind in HEADING), default=-1)
         meaning.row_lines = [at for at, each in enumerate(shown) if each.row is not None]
+        meaning.told_lines = [at for at, each in enumerate(shown) if each.may_be_told]
         meaning.is_straight = all(piece.is_straight for piece in pieces)
         meaning.is_full = self._is_full
         return meaning
@@ -246,20 +253,27 @@ def spliced(
     put = [each.row for each in shown if each.row is not None]
     rows = [*before.rows[:start], *put]
     rest = moved_looks(before.shown[len(before.lines) - same[1] :], rows[-1] if rows else None)
-    more = len(lines) - len(before.lines)
     here = [low + at for at, each in enumerate(shown) if each.row is not None]
-    below = before.row_lines[end:] if not more else [at + more for at in before.row_lines[end:]]
+    told = [low + at for at, each in enumerate(shown) if each.may_be_told]
+    stop, more = len(before.lines) - same[1], len(lines) - len(before.lines)
     return Meaning(
         lines,
         [*before.shown[:low], *shown, *rest],
         [*rows, *before.rows[end:]],
         head=before.head,
-        row_lines=[*before.row_lines[:start], *here, *below],
+        row_lines=put_between(before.row_lines, low, here, stop, more),
+        told_lines=put_between(before.told_lines, low, told, stop, more),
         is_straight=True,
         is_held=before.is_held or any(each.refused and each.row is not None for each in shown),
         has_inputs=any(each.kind is Kind.INPUT for each in (*olds, *shown)),
         hunk=Hunk(start, end, len(rows)),
     )
+
+
+def put_between(numbers: list[int], low: int, here: list[int], stop: int, more: int) -> list[int]:
+    """Lines below `low`, those `here`, and those from `stop` on, before which so many more stand now."""
+    below = numbers[bisect_left(numbers, stop) :]
+    return [*numbers[: bisect_left(numbers, low)], *here, *([at + more for at in below] if more else below)]
 
 
 def read_again(

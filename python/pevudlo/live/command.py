@@ -16,6 +16,7 @@ from pevudlo.live.followed import FollowedSession
 from pevudlo.live.running import RunningSession
 from pevudlo.live.server import Server
 from pevudlo.live.session import Session, Stopped
+from pevudlo.running.held import WrongVariable
 from pevudlo.wire.library_places import find_library_or_none
 from pevudlo.wire.pipe import PipeError
 from pevudlo.wire.program import NotFound, find
@@ -115,7 +116,7 @@ def main(words: list[str]) -> int:
         serve(session, path.name if path is not None else "a new program", said.port)
     except KeyboardInterrupt:
         print()
-    except (OSError, NotFound, PipeError, Stopped) as error:
+    except (OSError, NotFound, PipeError, Stopped, WrongVariable) as error:
         print(f"paris live: {error}", file=sys.stderr)
         return 2
     finally:

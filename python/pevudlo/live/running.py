@@ -22,7 +22,6 @@ from pevudlo.record.looks import Look, Looker
 from pevudlo.record.recorder import Step, touched_of
 from pevudlo.running.background import Background
 from pevudlo.running.crew import News
-from pevudlo.running.history import MOST_STEPS
 from pevudlo.talk import EDITS, Answer, Talk
 from pevudlo.wire.book import Book
 from pevudlo.wire.pipe import is_comment
@@ -68,7 +67,7 @@ class RunningSession(Session):
         self.book = Book(self._program)
         talk = self._talk = Talk(self.book, Where.LIVE)
         self._lister = Looker(self.book, talk.board)
-        self.background = Background(self.book, lambda: talk.board, self._workers, MOST_STEPS)
+        self.background = Background(self.book, lambda: talk.board, self._workers)
         threading.Thread(target=self._gather, args=(self.background,), daemon=True).start()
 
     @property
@@ -117,7 +116,9 @@ class RunningSession(Session):
             return Step(0, line, ("ok",), Ok())
         with self.lock:
             self._check_row(line, was)
-            step, still = self._tell(line)
+            with self.book.lock:
+                step = self._tell(line)
+                still = self._still() if is_edit(step) else None
             self._note(step, still)
             self.changed()
             return step
@@ -126,16 +127,22 @@ class RunningSession(Session):
         """No order is taken by hand. Raises ValueError."""
         raise ValueError(BY_THEMSELVES)
 
-    def _tell(self, line: str) -> tuple[Step, Book | None]:
-        """Asks one line. Of an accepted edit it gives a snapshot behind it."""
+    def _tell(self, line: str) -> Step:
+        """Asks one line."""
         try:
-            with self.book.lock:
-                answer = self._talk.tell(line)
-                assert answer is not None
-                is_edit = answer.explanation is None and line.split(" ")[0] in EDITS
-                if is_edit and line.startswith("input "):
-                    self.given.add(line.split(" ")[1])
-                return step_of(answer), self.book.still() if is_edit else None
+            answer = self._talk.tell(line)
+        except MemoryError as error:
+            raise ValueError(str(error)) from error
+        assert answer is not None
+        step = step_of(answer)
+        if step.word == "input" and is_edit(step):
+            self.given.add(line.split(" ")[1])
+        return step
+
+    def _still(self) -> Book:
+        """A snapshot to look at. Raises ValueError where there is no memory for one."""
+        try:
+            return self.book.still()
         except MemoryError as error:
             raise ValueError(str(error)) from error
 
@@ -173,25 +180,30 @@ class RunningSession(Session):
         refused = list[Step]()
         is_by_hand = any(line.split(" ")[0] in BY_HAND for line in lines)
         with self.lock, self._telling("") as told:
-            for number, line in enumerate(lines, 1):
-                told.at(line_of(number, len(lines)))
-                if is_comment(line) or (line == "settle" and not is_by_hand):
-                    self.taken.append(line)
-                    continue
-                step, still = self._tell(line)
-                self.edits += still is not None
-                self.edit_lines[self.edits] = line
-                if step.is_refused:
-                    refused.append(step)
-                    self.steps.append((self.told + 1, step))
-                elif step.word in CHANGING:
-                    self.taken.append(line)
-                self.told += 1
-            self.background.history.clear()
+            with self.background.without_steps():
+                for number, line in enumerate(lines, 1):
+                    told.at(line_of(number, len(lines)))
+                    if is_comment(line) or (line == "settle" and not is_by_hand):
+                        self.taken.append(line)
+                    elif (step := self._load(line)).is_refused:
+                        refused.append(step)
             self._marks.clear()
-            self._see(self.book.still())
+            self._see(self._still())
             self.go_on()
         return refused
+
+    def _load(self, line: str) -> Step:
+        """Hands over a line of a script."""
+        step = self._tell(line)
+        self.told += 1
+        if is_edit(step):
+            self.edits += 1
+            self.edit_lines[self.edits] = line
+        if step.is_refused:
+            self.steps.append((self.told, step))
+        elif step.word in CHANGING:
+            self.taken.append(line)
+        return step
 
     # Work, and its history.
 
@@ -219,7 +231,8 @@ class RunningSession(Session):
 
     def go_to(self, place: int) -> None:
         """Takes back or makes again as many edits as lead to a place of the history: so many edits from its start."""
-        with self.lock:
+        with self.lock, self.book.lock:
+            # (no step is dropped meanwhile)
             history = self.background.history
             if place > len(history.done) + len(history.undone):
                 raise ValueError("the history has no such place")
@@ -291,6 +304,11 @@ class RunningSession(Session):
 def step_of(answer: Answer) -> Step:
     """A command with its reply."""
     return Step(0, answer.line, answer.lines, answer.reply, explanation=answer.explanation)
+
+
+def is_edit(step: Step) -> bool:
+    """Whether a command is an edit, and was accepted."""
+    return step.word in EDITS and not step.is_refused
 
 
 def state_of(background: Background) -> tuple[int, int, int, bool]:

@@ -111,14 +111,15 @@ def buttons(still: Still) -> str:
 
 
 def history(still: Still) -> str:
-    """A slider over the edits that can be taken back and made again."""
+    """A slider over the edits that can be taken back and made again. Whether older ones are gone stands behind it."""
     count, now = len(still.done) + len(still.undone), len(still.done)
+    gone = f'<p class="quiet">Older edits took more than {still.dropped} of memory.</p>' if still.dropped else ""
     if not count:
-        return ""
+        return gone
     words = f"edit {now} of {count}"
     return (
         f'<label class="history">History <input type="range" data-history min="0" max="{count}" value="{now}" '
-        f'aria-valuetext="{words}"><output>{words}</output></label>'
+        f'aria-valuetext="{words}"><output>{words}</output></label>{gone}'
     )
 
 

@@ -9,12 +9,14 @@ from pevudlo.live.session import LISTED_A_STEP, NUMBERS_A_STEP
 from pevudlo.record.looks import Look, Looker
 from pevudlo.record.recorder import Recorder
 from pevudlo.running.background import is_small
+from pevudlo.running.held import bytes_text
 
 
 class Still:
     """What a tab is to be shown. `seen` is what is known from earlier moments, where they are of the same history.
 
-    `pace` says how much is looked at, and whether something is left for the next moment.
+    `pace` says how much is looked at, and whether something is left for the next moment. `dropped` are the bytes that
+    steps take at most, in words, where some went since they took more.
     """
 
     number = 0
@@ -32,6 +34,7 @@ class Still:
             self.thrown = list(session.thrown)
             self.done = [step.line for step in history.done]
             self.undone = [step.line for step in history.undone]
+            self.dropped = bytes_text(history.most_bytes) if history.has_dropped else ""
             self.edit_lines, self.edit = dict(session.edit_lines), session.edit
             self.editor, self.epoch = session.editor, session.epoch
             self.acts = session.acts

@@ -37,8 +37,9 @@ class Mend(NamedTuple):
 def diagnostics(file: Opened, tells_pale: bool) -> list[dict[str, Any]]:
     """What is told of all lines. `tells_pale`: lines that are passed over are told too, for who draws them pale."""
     document, found, more = file.document, list[dict[str, Any]](), 0
-    faults = document.book.faults
-    for number, shown in enumerate(document.shown):
+    lines, faults = document.shown, document.book.faults
+    for number in lines_to_tell(document):
+        shown = lines[number]
         is_wrong = shown.refused or (faults and shown.row is not None and shown.row.book in faults)
         if is_wrong and len(found) >= MOST_TOLD:
             more += 1
@@ -53,6 +54,15 @@ def diagnostics(file: Opened, tells_pale: bool) -> list[dict[str, Any]]:
     if more:
         found.append(told_of(file, len(document.lines) - 1, ERROR, f"{more:,} more lines are wrong"))
     return found
+
+
+def lines_to_tell(document: Document) -> list[int]:
+    """The lines of which something may be told, in their order: rows are told where they are refused for their data."""
+    faults, lines = document.book.faults, document.shown
+    if not faults:
+        return document.told_lines
+    rows = [at for at, shown in enumerate(lines) if shown.row is not None and shown.row.book in faults]
+    return sorted({*document.told_lines, *rows})
 
 
 def pale_words(document: Document, number: int) -> str:

@@ -7,6 +7,7 @@ from typing import Any
 
 from pevudlo.document.document import Document
 from pevudlo.document.update import Update
+from pevudlo.lsp.failures import INVALID_PARAMS, Failed
 from pevudlo.lsp.positions import Letter, Position, Range, laid_out
 from pevudlo.progress import PROGRESS, Progress
 from pevudlo.wire.peers import Peer
@@ -15,7 +16,8 @@ from pevudlo.wire.peers import Peer
 class Opened:
     """An open file. `lines` is its text, and behind `renew` its document is in step with it.
 
-    `is_old`: the text was changed since. `trouble` says why there is no book, where there is none.
+    `is_old`: the text was changed since. `trouble` says why there is no book, where there is none. `is_lost`: a change
+    couldn't be taken in, so that ranges of the text that the editor has are none of this one.
     """
 
     def __init__(self, uri: str, text: str, version: int, begin: Callable[[], Peer], told: Progress = PROGRESS) -> None:
@@ -24,7 +26,9 @@ class Opened:
         self.document = Document(begin, told)
         self.done = Update()
         self.told: object = None
-        self.is_old, self.is_saved = True, False
+        # How many lines at the start and at the end no change has touched since the last update that didn't fail.
+        self._kept = (0, 0)
+        self.is_old, self.is_saved, self.is_lost = True, False, False
         self.trouble = ""
 
     @property
@@ -33,11 +37,15 @@ class Opened:
         return self._layout.lines
 
     def change(self, changes: list[dict[str, Any]], version: int) -> None:
-        """Takes in what was typed, all of it or nothing."""
-        layout = self._layout
+        """Takes in what was typed, all of it or nothing. Raises Failed for a range of a text that is lost."""
+        layout, (low, high) = self._layout, self._kept
+        if self.is_lost and changes and "range" in changes[0]:
+            raise Failed(INVALID_PARAMS, "an earlier change wasn't taken in, and all of the text is wanted")
         for change in changes:
             layout = layout.edited(change)
-        self._layout, self.version, self.is_old = layout, version, True
+            low, high = min(low, layout.kept[0]), min(high, layout.kept[1])
+        self._layout, self._kept, self.version = layout, (low, high), version
+        self.is_old, self.is_lost = True, self.is_lost and not changes
 
     def save(self) -> None:
         """The text is as it is meant: no row is held."""
@@ -45,9 +53,12 @@ class Opened:
 
     def renew(self) -> None:
         """Brings the document in step. Raises as its update does."""
-        lines = self.lines
+        lines, (low, high) = self.lines, self._kept
         is_saved, self.is_saved, self.is_old = self.is_saved, False, False
-        self.done = self.document.update_lines(list(lines[:-1] if lines[-1] == "" else lines), hold=not is_saved)
+        has_end = lines[-1] == ""
+        known = low, high - has_end if high else 0
+        self.done = self.document.update_lines(list(lines[:-1] if has_end else lines), not is_saved, known)
+        self._kept = len(lines), len(lines)
 
     def line(self, number: int) -> str:
         """A line of the text that the document has; an empty one behind it."""

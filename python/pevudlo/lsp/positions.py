@@ -42,11 +42,12 @@ class Layout:
     """The lines of a script, with the positions in them that the protocol counts.
 
     A line of a script ends at a line feed alone. One of the protocol ends at a carriage return too, and at both
-    together. `may_return` says whether some line may have a carriage return.
+    together. `may_return` says whether some line may have a carriage return. `kept` are how many lines at the start and
+    at the end are those of the text before the change that led here.
     """
 
-    def __init__(self, lines: Sequence[str], may_return: bool = True) -> None:
-        self.lines, self.may_return = lines, may_return
+    def __init__(self, lines: Sequence[str], may_return: bool = True, kept: tuple[int, int] = (0, 0)) -> None:
+        self.lines, self.may_return, self.kept = lines, may_return, kept
         counts = [len(self.parts(at)) for at in range(len(lines))] if may_return else []
         # How many lines of the protocol stand above each line, where they aren't as many as those of the script.
         self._above = list(accumulate(counts, initial=0)) if sum(counts) > len(lines) else None
@@ -95,8 +96,9 @@ class Layout:
             return Layout(put.split("\n"), may_return)
         start, end = sorted(self.place(change["range"][side]) for side in ("start", "end"))
         text = self.lines[start[0]][: start[1]] + put + self.lines[end[0]][end[1] :]
-        lines = [*self.lines[: start[0]], *text.split("\n"), *self.lines[end[0] + 1 :]]
-        return Layout(lines, may_return or self.may_return)
+        rest = self.lines[end[0] + 1 :]
+        lines = [*self.lines[: start[0]], *text.split("\n"), *rest]
+        return Layout(lines, may_return or self.may_return, (start[0], len(rest)))
 
 
 def laid_out(text: str) -> Layout:

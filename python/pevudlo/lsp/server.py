@@ -17,7 +17,7 @@ from typing import Any
 
 from pevudlo.document.marks import headline
 from pevudlo.lang.replies import NoReply
-from pevudlo.lsp.client import CAPABILITIES, Client, client_of
+from pevudlo.lsp.client import CAPABILITIES, Client, client_of, found_in
 from pevudlo.lsp.diagnostics import diagnostics, told_of, ERROR
 from pevudlo.lsp.failures import (
     CANCELLED,
@@ -207,12 +207,19 @@ class Server:
             return
         try:
             if notice.wrong:
+                self._lose(notice)
                 raise Failed(INVALID_PARAMS, notice.wrong)
             self._do(notice.method, notice.params)
         except Failed as failed:
             self._tell("window/logMessage", type=ERROR, message=f"{notice.method}: {failed}")
         except Exception as error:
             self._tell("window/logMessage", type=ERROR, message=f"{notice.method}: {type(error).__name__}: {error}")
+
+    def _lose(self, notice: Notice) -> None:
+        """Notes that the text of a file is another in the editor, where a change of it isn't of the protocol."""
+        uri = found_in(notice.params, "textDocument", "uri")
+        if notice.method == "textDocument/didChange" and isinstance(uri, str) and uri in self.files:
+            self.files[uri].is_lost = True
 
     def _do(self, method: str, params: Any) -> None:
         """Does what a notice in its shape tells. Of methods that aren't known nothing is done. Raises Failed."""

@@ -15,6 +15,7 @@ from pevudlo.prompt.lines import Piped, Reader, Terminal, is_terminal
 from pevudlo.prompt.prompt import Prompt, talk
 from pevudlo.prompt.session import Session, Stopped
 from pevudlo.prompt.status import StatusLine
+from pevudlo.running.held import WrongVariable
 from pevudlo.wire.library_places import find_library_or_none
 from pevudlo.wire.program import NotFound, find
 
@@ -72,7 +73,7 @@ def main(words: list[str]) -> int:
         return ends_badly(f"can't read {visible(said.file)}: {why(error)}")
     try:
         run(begun(said.workers, said.program), said.file, said.quiet)
-    except NotFound as error:
+    except (NotFound, WrongVariable) as error:
         return ends_badly(str(error))
     except Stopped as stopped:
         return ends_badly(f"no program runs: {stopped}")

@@ -4,6 +4,7 @@ from __future__ import annotations
 
 import time
 from collections.abc import Callable, Iterator, Sequence
+from contextlib import nullcontext
 from pathlib import Path
 from typing import TypeVar
 
@@ -23,7 +24,6 @@ from pevudlo.lang.replies import (
 )
 from pevudlo.progress import PROGRESS, Progress, line_of
 from pevudlo.running.background import Background
-from pevudlo.running.history import MOST_STEPS
 from pevudlo.talk import EDITS, Answer, Peer, Talk
 from pevudlo.wire.book import Book
 from pevudlo.wire.pipe import Pipe, PipeError
@@ -104,11 +104,12 @@ class Session:
             raise Stopped(self._end) from error
         self._board = board = self._talk.board
         if isinstance(self._talk.peer, Book):
-            self.background = Background(self._talk.peer, lambda: board, self.workers, MOST_STEPS)
+            self.background = Background(self._talk.peer, lambda: board, self.workers)
         self._marks, self._undone = [], []
-        for number, line in enumerate(self.accepted, 1):
-            told.at(line_of(number, len(self.accepted)))
-            self._retell(line, told)
+        with nullcontext() if self.background is None else self.background.without_steps():
+            for number, line in enumerate(self.accepted, 1):
+                told.at(line_of(number, len(self.accepted)))
+                self._retell(line, told)
 
     def begin(self) -> None:
         """Starts a program to which nothing was told, and forgets the rest. Raises Stopped where none starts."""

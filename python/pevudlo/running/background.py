@@ -11,7 +11,7 @@ from threading import get_ident
 from pevudlo.interrupts import undisturbed
 from pevudlo.lang.board import Board
 from pevudlo.running.crew import SMALL, Crew, News, Progress
-from pevudlo.running.history import History, Step
+from pevudlo.running.history import MOST_STEPS, History, Step
 from pevudlo.wire.book import Book
 
 
@@ -28,12 +28,20 @@ class Background:
     Threads begin at the first `start`. Where nobody holds this any more they end.
     """
 
-    def __init__(self, book: Book, board: Callable[[], Board], workers: int, steps: int) -> None:
+    def __init__(
+        self,
+        book: Book,
+        board: Callable[[], Board],
+        workers: int,
+        steps: int = MOST_STEPS,
+        most_bytes: int | None = None,
+    ) -> None:
+        """`steps` and `most_bytes` are how many edits are kept to be taken back, and how many bytes they may take."""
         self.book, self.workers, self.steps = book, workers, steps
-        self.history = History(book, board, steps)
+        self.history = History(book, board, steps, most_bytes if steps else 0)
         self._board = board
         if steps:
-            book.keep = self.history.keep
+            book.keep, book.see_run = self.history.keep, self.history.look_and_trim
         self.crew = Crew(book, workers, lambda: is_small(board()))
         book.settler = self.crew.settle
         self._leave = weakref.finalize(self, Crew.leave, self.crew)
@@ -68,6 +76,18 @@ class Background:
             before = frozenset(self.book.unsettled())
             yield touched
             touched.rows = tuple(row for row in self.book.unsettled() if row not in before)
+
+    @contextmanager
+    def without_steps(self) -> Iterator[None]:
+        """Edits within are no steps, and no snapshots are made for them. Behind it there is nothing to take back."""
+        keep, self.book.keep = self.book.keep, None
+        try:
+            yield
+        finally:
+            with self.book.lock:
+                self.book.keep = keep
+                if self.book.is_open:
+                    self.history.begin()
 
     def undo(self) -> str:
         """Takes the last edit back, and gives its line."""

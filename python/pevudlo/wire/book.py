@@ -19,6 +19,9 @@ from pevudlo.wire.library_calls import Outcome, trouble
 
 EDITS = ("set ", "field ", "input ", "insert ", "delete ", "replace ")
 LOOKS = ("show ", "list", "faults")
+SOME_ROWS = 64
+"""For so many ids of rows there is room at first."""
+
 WORDS = {1: Word.KEPT, 2: Word.REPEATED, 3: Word.STALE, 4: Word.GONE, 5: Word.FOREIGN}
 
 Keep = Callable[[str], Optional[Callable[[str], None]]]
@@ -54,11 +57,18 @@ class Book(Library):
     settler: Callable[[], int] | None = None
     """Who settles in the place of the thread that calls."""
 
+    see_run: Callable[[], None] | None = None
+    """Is called behind rows that ran, with the lock held."""
+
+    is_copy = False
+    """Whether it began as a snapshot of another one, so that rows may have had results before."""
+
     def _begin(self, calls: Calls, held: Held) -> None:
         super()._begin(calls, held)
         self.news = threading.Condition(self._lock)
-        # How often something was told that may make a row ready.
-        self.changes = 0
+        # How often something was told that may make a row ready, and how many results of rows were kept.
+        self.changes = self.ran = 0
+        self._ids = room_of(SOME_ROWS)
 
     def tell(self) -> None:
         """Wakes who waits for news: something has changed. The lock is held."""
@@ -81,6 +91,8 @@ class Book(Library):
                 lines = super().ask(line)
                 if kept is not None and not lines[0].startswith("refused"):
                     kept(lines[0])
+                if lines == [Word.KEPT.value]:
+                    self._has_run(1)
                 self.tell()
                 return lines
         finally:
@@ -94,6 +106,11 @@ class Book(Library):
     def settle(self, goes_on: Callable[[], bool] = lambda: True) -> int:
         """Settles all rows, and gives how many ran."""
         return super().settle(goes_on) if self.settler is None else self.settler()
+
+    def _has_run(self, count: int) -> None:
+        self.ran += count
+        if self.see_run is not None:
+            self.see_run()
 
     def _kept(self, line: str) -> Callable[[str], None] | None:
         """What is to be called once an edit is accepted."""
@@ -131,7 +148,10 @@ class Book(Library):
         """Brings the result of an order, and drops it."""
         try:
             self._check(*self._call("paris_bring", slot.at, slot.verdict_at, slot.now_at))
-            return WORDS[slot.verdict.value]
+            word = WORDS[slot.verdict.value]
+            if word is Word.KEPT:
+                self._has_run(1)
+            return word
         finally:
             self.drop(slot)
 
@@ -153,17 +173,27 @@ class Book(Library):
 
     def unsettled(self) -> tuple[int, ...]:
         """The ids of the rows that are unsettled, in program order."""
+        return tuple(memoryview(self.unsettled_words()).cast("Q"))
+
+    def unsettled_words(self) -> bytes:
+        """The same as words in memory, which takes little time however many they are."""
         with self.lock:
-            count = self.unsettled_count()
-            room = room_of(max(count, 1))
-            self._check(*self._call("paris_unsettled", room.address, count, self._told_at))
-        return tuple(map(int, room.numbers[:count]))
+            while (count := self._list_unsettled()) > len(self._ids):
+                self._ids = room_of(2 * count)
+            return ctypes.string_at(self._ids.address, 8 * count)
+
+    def _list_unsettled(self) -> int:
+        """Puts the ids of the unsettled rows into their room, as far as they fit, and gives how many they are."""
+        room = self._ids
+        return self._check(*self._call("paris_unsettled", room.address, len(room), self._told_at))
 
     def settle_for(self, key: str, place: int) -> int | None:
         """Runs the rows that a value stands on, and gives how many ran. None where the look is refused."""
         name = key.encode("utf-8", "surrogateescape")
         with self.lock:
             outcome, ran = self._call("paris_settle_for", name, len(name), place, self._told_at)
+            if outcome in (Outcome.OK, Outcome.PARTLY):
+                self._has_run(ran)
             self.tell()
         if outcome in (Outcome.NO_MEMORY, Outcome.PARTLY):
             raise trouble(outcome)
@@ -181,6 +211,7 @@ class Book(Library):
         """A snapshot to look at: what is done here leaves it as it is."""
         book = Book.over(self._calls, self.snapshot())
         assert isinstance(book, Book)
+        book.is_copy = True
         return book
 
     def copy(self) -> Book:

@@ -128,10 +128,20 @@ class Library:
 
     def run(self, most: int) -> int:
         """Runs so many rows at most that are ready, and gives how many ran."""
-        outcome, count = self._call("paris_run", most, self._told_at)
+        try:
+            self.waiting.add(get_ident())
+            with self.lock:
+                outcome, count = self._call("paris_run", most, self._told_at)
+                if outcome in (Outcome.OK, Outcome.PARTLY):
+                    self._has_run(count)
+        finally:
+            self.waiting.discard(get_ident())
         if outcome != Outcome.OK:
             raise trouble(outcome)
         return count
+
+    def _has_run(self, count: int) -> None:
+        """Is told how many rows ran, with the lock held."""
 
     def ask(self, line: str) -> list[str]:
         """The lines of the reply to one line; none for an empty line or a comment, which have no reply.

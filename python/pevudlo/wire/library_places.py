@@ -8,7 +8,8 @@ from collections.abc import Callable
 from functools import cache
 from pathlib import Path
 
-from pevudlo.wire.program import NATIVE, ROOT, WHEEL, NotFound, is_program
+from pevudlo.wire.builds import BUILD_VARIABLE
+from pevudlo.wire.program import NATIVE, ROOT, WHEEL, NotFound, files_of_builds, is_program
 
 LIBRARY_VARIABLE = "PARIS_LIBRARY"
 LIBRARY = "libparis.so"
@@ -27,20 +28,20 @@ def library_of_variable(looked: list[str]) -> Path | None:
 
 def library_of_package(looked: list[str]) -> Path | None:
     """The library that was installed with this package."""
-    if not (NATIVE / LIBRARY).is_file():
+    found = next(filter(Path.is_file, files_of_builds(NATIVE, LIBRARY)), None)
+    if found is None:
         looked.append("this package was installed without one")
-        return None
-    return NATIVE / LIBRARY
+    return found
 
 
 def library_of_repository(looked: list[str]) -> Path | None:
     """The repository's library: that of dist/ where it is of the sources there, else what bindings/c/build made."""
-    unpack, made = ROOT / "bindings" / "c" / "unpack", ROOT / "bindings" / "c" / "out" / LIBRARY
+    unpack, made = ROOT / "bindings" / "c" / "unpack", ROOT / "bindings" / "c" / "out"
     trouble = trouble_of(unpack) if is_program(unpack) else f"{ROOT} is no repository of it"
-    if trouble and not made.is_file():
-        looked.append(trouble)
-        return None
-    return made
+    found = next(filter(Path.is_file, files_of_builds(made, LIBRARY)), None)
+    if found is None:
+        looked.append(trouble or f"dist/lib has none for {os.environ.get(BUILD_VARIABLE)}")
+    return found
 
 
 @cache

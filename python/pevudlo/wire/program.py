@@ -9,12 +9,14 @@ from functools import cache
 from pathlib import Path
 from typing import Callable, Iterable
 
+from pevudlo.wire.builds import BUILD_VARIABLE, allowed
+
 VARIABLE = "PARIS_FRONT"
 NAME = "paris_front"
 PACKAGE = Path(__file__).resolve().parents[1]
 # The top of the repository, where this package stands in it.
 ROOT = PACKAGE.parents[1]
-# The program and the library of a package that was installed with them.
+# The programs and the libraries of a package that was installed with them.
 NATIVE = PACKAGE / "native"
 
 
@@ -37,6 +39,17 @@ def is_program(path: Path) -> bool:
     return path.is_file() and os.access(path, os.X_OK)
 
 
+def files_of_builds(folder: Path, name: str) -> list[Path]:
+    """Where a folder has this file in each build that may run here, the better one first.
+
+    Raises NotFound where PEVUDLO_CPU is wrong.
+    """
+    try:
+        return [build.below(folder) / name for build in allowed()]
+    except ValueError as error:
+        raise NotFound([str(error)], name) from None
+
+
 def by_variable(looked: list[str]) -> Path | None:
     """The program that the variable names. A variable that is wrong is an error and not passed over."""
     named = os.environ.get(VARIABLE, "")
@@ -50,10 +63,10 @@ def by_variable(looked: list[str]) -> Path | None:
 
 def by_package(looked: list[str]) -> Path | None:
     """The program that was installed with this package."""
-    if not is_program(NATIVE / NAME):
+    found = next(filter(is_program, files_of_builds(NATIVE, NAME)), None)
+    if found is None:
         looked.append("this package was installed without one")
-        return None
-    return NATIVE / NAME
+    return found
 
 
 def by_repository(looked: list[str], root: Path = ROOT) -> Path | None:
@@ -62,16 +75,19 @@ def by_repository(looked: list[str], root: Path = ROOT) -> Path | None:
     if not (is_program(front) and (root / "dist" / "sums").is_file()):
         looked.append(f"{root} is no repository of it")
         return None
-    program = said_by(front)
+    program = said_by(front, os.environ.get(BUILD_VARIABLE, ""))
     if program is None:
         looked.append(f"{front} --where names no program")
     return program
 
 
 @cache
-def said_by(front: Path) -> Path | None:
-    """What `--where` answers: asked once, since it reads all sources."""
-    ran = subprocess.run([front, "--where"], stdout=subprocess.PIPE, stdin=subprocess.DEVNULL, text=True)
+def said_by(front: Path, build: str) -> Path | None:
+    """What `--where` answers for a build: asked once, since it reads all sources."""
+    environment = {**os.environ, BUILD_VARIABLE: build}
+    ran = subprocess.run(
+        [front, "--where"], stdout=subprocess.PIPE, stdin=subprocess.DEVNULL, text=True, env=environment
+    )
     program = Path(ran.stdout.strip())
     return program if ran.returncode == 0 and is_program(program) else None
 

@@ -9,5 +9,5 @@ pub returns : goal.returns
 returns c =
     let n : ℕ = length c.args.x.now.numbers in
     let xs : List (List Bool) = c.low.result.now in
-    c.from_planes.ensures ∙ ap (λ (m : ℕ). value_of_planes m c.in_ok-planes.planes.items) c.len.ensures ∙ ap (value_of_planes n) c.in_ok-planes.ensures
+    c.from_layers.ensures ∙ ap (λ (m : ℕ). value_of_planes m c.in_ok-planes.planes.items) c.len.ensures ∙ ap (value_of_planes n) c.in_ok-planes.ensures
     ∙ copied_field n c.args.bits (operand c.args.bits c.args.x.now) xs (held n n c.args.bits (operand c.args.bits c.args.x.now) xs refl c.low.ensures.count c.low.ensures.long c.low.ensures.at)

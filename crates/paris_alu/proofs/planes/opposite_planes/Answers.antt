@@ -23,14 +23,14 @@ pub combined-requires : goal.combined-requires
 combined-requires c =
     read_long c.args.x.now c.loop-k.k c.index-x-k.result c.requires c.loop-k-test.true c.index-x-k.is ∙ sym c.loop-k.invariant.long
 
-pub or_in-requires : goal.or_in-requires
-or_in-requires c =
+pub put-requires : goal.put-requires
+put-requires c =
     c.loop-k.invariant.long ∙ sym (read_long c.args.x.now c.loop-k.k c.index-x-k-in-loop-k.result c.requires c.loop-k-test.true c.index-x-k-in-loop-k.is)
 
 pub returns-in_err-push-clause-long : goal.returns-in_err-push-clause-long
 returns-in_err-push-clause-long c =
     let lx : length c.index-x-k-in-loop-k.result ≡ length c.args.borrow.now = read_long c.args.x.now c.loop-k.k c.index-x-k-in-loop-k.result c.requires c.loop-k-test.true c.index-x-k-in-loop-k.is in
-    ap length c.or_in.ensures ∙ length-zip2 (λ p q. p || q) c.loop-k.borrow c.index-x-k-in-loop-k.result (c.loop-k.invariant.long ∙ sym lx) ∙ c.loop-k.invariant.long
+    ap length c.in_ok-put.ensures.ok ∙ length-zip2 (λ p q. p || q) c.loop-k.borrow c.index-x-k-in-loop-k.result (c.loop-k.invariant.long ∙ sym lx) ∙ c.loop-k.invariant.long
 
 pub loop-k-preserved : goal.loop-k-preserved
 loop-k-preserved c =
@@ -43,9 +43,9 @@ loop-k-preserved c =
     let ex' : x' ≡ x = get_or_read c.args.x.now k x' c.loop-k-test.true c.index-x-k-in-loop-k.is [] ∙ sym ex in
     let nx : length x ≡ n = ap length ex ∙ c.requires k c.loop-k-test.true in
     let s : List Bool = c.in_ok-plane.plane in
-    let b' : List Bool = c.or_in.new.self in
+    let b' : List Bool = c.put.new.self in
     let es : s ≡ zip2 differ x b = c.in_ok-plane.ensures in
-    let eb : b' ≡ zip2 (λ p q. p || q) b x = c.or_in.ensures ∙ ap (λ (p : List Bool). zip2 (λ p q. p || q) b p) ex' in
+    let eb : b' ≡ zip2 (λ p q. p || q) b x = c.in_ok-put.ensures.ok ∙ ap (λ (p : List Bool). zip2 (λ p q. p || q) b p) ex' in
     let ls : length s ≡ n = ap length es ∙ length-zip2 differ x b (nx ∙ sym c.loop-k.invariant.long) ∙ nx in
     let lb : length b' ≡ n = ap length eb ∙ length-zip2 (λ p q. p || q) b x (c.loop-k.invariant.long ∙ sym nx) ∙ c.loop-k.invariant.long in
     record {

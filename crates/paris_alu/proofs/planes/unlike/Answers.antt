@@ -9,7 +9,7 @@ use Rattle.paris_alu.proofs.planes.unlike.Goals as goal
 
 pub loop-k-init : goal.loop-k-init
 unfolding number_at
-loop-k-init c = clear_is c.args.vps c.in_ok-unlike.unlike _ c.in_ok-unlike.ensures (λ v. refl)
+loop-k-init c = clear_is c.args.vps c.filled-unlike.result _ c.filled-unlike.ensures (λ v. refl)
 
 pub put_triple-requires-clause-second : goal.put_triple-requires-clause-second
 put_triple-requires-clause-second c =
@@ -35,5 +35,5 @@ loop-k-preserved c =
     let nb : length b ≡ c.args.vps = ap length c.loop-k.invariant ∙ length-bits_everywhere c.args.vps _ in
     chain_more unlike_bit (λ p q. not (eqb p q)) (λ p q. not (eqb p q)) c.args.vps k c.args.x.now c.args.y.now x y b c.put_triple.new.self
     (unlike_step (2 ^ k)) c.loop-k-test.true iny ex ey c.loop-k.invariant
-    (ap length c.put_triple.ensures ∙ length_triple unlike_bit b x y nb nx ny)
-    (λ v h. ap (λ (l : List Bool). get_or l v false) c.put_triple.ensures ∙ get_triple unlike_bit b x y v nb nx ny h)
+    (ap length c.in_ok-put_triple.ensures.ok ∙ length_triple unlike_bit b x y nb nx ny)
+    (λ v h. ap (λ (l : List Bool). get_or l v false) c.in_ok-put_triple.ensures.ok ∙ get_triple unlike_bit b x y v nb nx ny h)

@@ -9,7 +9,7 @@ use Rattle.paris_alu.proofs.planes.unlike_rest.Goals as goal
 
 pub loop-plane-init : goal.loop-plane-init
 unfolding number_at
-loop-plane-init c = clear_is (length c.args.rest.now) c.in_ok-unlike.unlike _ (c.in_ok-unlike.ensures ∙ ap (λ (n : ℕ). replicate n false) c.len.ensures) (λ v. refl)
+loop-plane-init c = clear_is (length c.args.rest.now) c.filled-unlike.result _ (c.filled-unlike.ensures ∙ ap (λ (n : ℕ). replicate n false) c.len.ensures) (λ v. refl)
 
 pub put_triple-requires-clause-second : goal.put_triple-requires-clause-second
 put_triple-requires-clause-second c =
@@ -35,5 +35,5 @@ loop-plane-preserved c =
     let nb : length b ≡ n = ap length c.loop-plane.invariant ∙ length-bits_everywhere n _ in
     chain_more unlike_bit (λ p q. not (eqb p q)) (λ p q. not (eqb p q)) n k c.args.x.now ys x y b c.put_triple.new.self
     (unlike_step (2 ^ k)) c.loop-plane-test.true iny ex ey c.loop-plane.invariant
-    (ap length c.put_triple.ensures ∙ length_triple unlike_bit b x y nb nx refl)
-    (λ v h. ap (λ (l : List Bool). get_or l v false) c.put_triple.ensures ∙ get_triple unlike_bit b x y v nb nx refl h)
+    (ap length c.in_ok-put_triple.ensures.ok ∙ length_triple unlike_bit b x y nb nx refl)
+    (λ v h. ap (λ (l : List Bool). get_or l v false) c.in_ok-put_triple.ensures.ok ∙ get_triple unlike_bit b x y v nb nx refl h)

@@ -25,7 +25,7 @@ returns c =
     let plane : after ≡ carry_plane UnsignedAddCarry L c.args.x.now c.args.y.now (bit_in c.args.carry.now) =
     carried_plane n L f g before after xs ys ss hx hy a ∙ ap (λ (p : List Bool). carry_plane UnsignedAddCarry L c.args.x.now c.args.y.now (bit_in p)) c.in_ok-carry.ensures in
     record {
-      value = c.from_planes.ensures ∙ ap (λ (m : ℕ). value_of_planes m ss) c.len-vps.ensures ∙ carried_field n L f g before after ss a
+      value = c.from_layers.ensures ∙ ap (λ (m : ℕ). value_of_planes m ss) c.len-vps.ensures ∙ carried_field n L f g before after ss a
           ∙ ap (λ (p : List Bool). binary_field UnsignedAddCarry L c.args.x.now c.args.y.now (bit_in p)) c.in_ok-carry.ensures;
       carry = plane;
       overflow = c.in_ok-overflow.ensures ∙ plane;

@@ -7,8 +7,8 @@ use Rattle.paris_field.proofs.Places.{Holds, held}
 use Rattle.paris_alu.proofs.Resized.{all_extended, extended_long, kept_le, kept_some, no_longer, resized_overflow, resized_value, rest_long, shorter}
 use Rattle.paris_alu.proofs.widths.extend.Goals as goal
 
-pub from_planes-requires-clause-long : goal.from_planes-requires-clause-long
-from_planes-requires-clause-long c =
+pub from_layers-requires-clause-long : goal.from_layers-requires-clause-long
+from_layers-requires-clause-long c =
     let n : ℕ = length c.args.x.now.numbers in
     let xs : List (List Bool) = c.low-xs.result.now in
     let kept : ℕ = c.min-kept.result in
@@ -43,7 +43,7 @@ returns c =
     let lz : length zs ≡ L = extended_long kept L xs zs rest (omega (arith, within.0, c.low-xs.ensures.count)) within.1 c.in_ok-planes.ensures in
     let over : List (List Bool) → List Bool = λ hs. bits_everywhere (length rest) (λ v. not (eqb (number_at hs v) (number_at (replicate (length hs) rest) v))) in
     record {
-      value = c.from_planes.ensures ∙ ap (λ (m : ℕ). value_of_planes m zs) c.len-vps.ensures
+      value = c.from_layers.ensures ∙ ap (λ (m : ℕ). value_of_planes m zs) c.len-vps.ensures
           ∙ resized_value c.args.sign n M L kept f xs zs top rest hx c.requires.from_some (no_longer M L kept which) et er c.in_ok-planes.ensures lz;
       overflow = resized_overflow c.args.sign n M L kept f xs top rest c.in_ok-overflow.overflow hx c.requires.from_some c.requires.positive which et er lr (c.in_ok-overflow.ensures ∙ ap over (take_rest xs kept));
     }

@@ -64,4 +64,4 @@ returns-clause-receivers g c =
     let start : Joined _ = record { mask = c.low_mask-mask.result; words = c.in_ok-words.words; receivers = c.in_ok-receivers.receivers; by = record {} } in
     let begun = none_joined op c.low_mask-mask.result c.len.result c.in_ok-words.words.items c.in_ok-receivers.receivers (c.len.ensures ∙ sym long) c.in_ok-receivers.ensures in
     let come = c.deliver_mail.ensures.come c.in_default.is start begun in
-    come.1.1 ∙ ap (λ k. receivers_of k mail) long
+    c.from_plane-receivers.ensures ∙ come.1.1 ∙ ap (λ k. receivers_of k mail) long

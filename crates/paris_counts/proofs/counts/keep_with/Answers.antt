@@ -1,4 +1,4 @@
-use Rattle.std.proofs.Common.{◌≡◌, ℕ, ◌+◌, ◌-◌, ◌*◌, ◌/◌, ◌<◌, ◌≤◌, ◌&&◌, ◌∙◌, List, Bool, length, arith, ap, sym, refl, inl, inr, subst, bit_and}
+use Rattle.std.proofs.Common.{◌≡◌, ℕ, ◌+◌, ◌-◌, ◌*◌, ◌/◌, ◌<◌, ◌&&◌, ◌∙◌, List, Bool, length, arith, ap, sym, refl, inl, inr}
 use Rattle.std.proofs.lemmas.Bool.{cases_eq}
 use Rattle.paris_plane.specs.Bits.{word_bit}
 use Rattle.paris_plane.specs.Laws.{and_by_bit}

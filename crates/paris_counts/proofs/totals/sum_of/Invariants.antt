@@ -1,4 +1,4 @@
-use Rattle.std.proofs.Common.{◌≡◌, length, drop}
+use Rattle.std.proofs.Common.{◌≡◌, drop}
 use Rattle.paris_field.specs.Numbers.{number_at, has}
 use Rattle.paris_counts.specs.Masked.{masked_sum}
 use Rattle.paris_counts.proofs.totals.sum_of.Given as goal

@@ -32,4 +32,4 @@ merged-requires-clause-room c =
 
 pub returns : goal.returns
 returns c =
-    c.in_ok-push-2.ensures.items ∙ ap (λ (ys : List FieldNumbers). ys ++ c.in_ok-value.value ∷ []) c.in_ok-values.ensures.items ∙ move_part_left c.args.order.now c.args.to.now c.args.from.now c.args.bits c.requires.acts c.input-x.result.now c.input-x.ensures.value c.input-x.ensures.count c.input.result.now c.in_ok-value.value c.in_ok-all.all c.low-low.result.now c.input.ensures.value c.input.ensures.count (c.in_ok-all.ensures ∙ ap (λ n. replicate n true) (c.len.ensures ∙ c.input-x.ensures.count)) (λ v below. c.low-low.ensures.at v (subst (λ n. v < n) (sym c.input-x.ensures.count) below)) c.in_ok-value.ensures.width c.in_ok-value.ensures.numbers
+    c.in_ok-push-2.ensures.items ∙ ap (λ (ys : List FieldNumbers). ys ++ c.in_ok-value.value ∷ []) c.in_ok-values.ensures.items ∙ move_part_left c.args.order.now c.args.to.now c.args.from.now c.args.bits c.requires.acts c.input-x.result.now c.input-x.ensures.value c.input-x.ensures.count c.input.result.now c.in_ok-value.value c.filled-all.result c.low-low.result.now c.input.ensures.value c.input.ensures.count (c.filled-all.ensures ∙ ap (λ n. replicate n true) (c.len.ensures ∙ c.input-x.ensures.count)) (λ v below. c.low-low.ensures.at v (subst (λ n. v < n) (sym c.input-x.ensures.count) below)) c.in_ok-value.ensures.width c.in_ok-value.ensures.numbers

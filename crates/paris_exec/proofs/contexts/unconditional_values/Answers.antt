@@ -64,13 +64,13 @@ pub flag_plane-operand-requires : goal.flag_plane-operand-requires
 flag_plane-operand-requires c =
     all_source c.args.order.now (AndContextWithTest c.in-AndContextWithTest.field-0) (c.requires.acts ∙ ap OnAll c.in-AndContextWithTest.is) (Flag c.args.order.now.plan.set_no Test) (or_true_second (key_eq (Flag c.args.order.now.plan.set_no Test) (Flag c.args.order.now.plan.set_no Context)) (has_key ((Flag c.args.order.now.plan.set_no Test) ∷ []) (Flag c.args.order.now.plan.set_no Test)) (first_key (Flag c.args.order.now.plan.set_no Test) []))
 
-pub returns-in_ok-ones-in-SetContext : goal.returns-in_ok-ones-in-SetContext
-returns-in_ok-ones-in-SetContext c =
-    ok_then _ _ c.bits_alone.result (λ values is. is ∙ set_left c.args.order.now c.in-SetContext.field-0 (c.requires.acts ∙ ap OnAll c.in-SetContext.is) c.in_ok-ones-in-SetContext.field-0 (c.in_ok-ones-in-SetContext.ensures ∙ ap (λ n. replicate n true) (c.vps-vps.ensures.value ∙ ap processor_count (c.geometry.ensures ∙ ap (λ (p : Plan). p.axes) c.plan.ensures)))) c.bits_alone.ensures
+pub returns-in-SetContext : goal.returns-in-SetContext
+returns-in-SetContext c =
+    ok_then _ _ c.bits_alone.result (λ values is. is ∙ set_left c.args.order.now c.in-SetContext.field-0 (c.requires.acts ∙ ap OnAll c.in-SetContext.is) c.filled.result (c.filled.ensures ∙ ap (λ n. replicate n true) (c.vps-vps.ensures.value ∙ ap processor_count (c.geometry.ensures ∙ ap (λ (p : Plan). p.axes) c.plan.ensures)))) c.bits_alone.ensures
 
-pub returns-in_ok-zeros-in-ClearContext : goal.returns-in_ok-zeros-in-ClearContext
-returns-in_ok-zeros-in-ClearContext c =
-    ok_then _ _ c.bits_alone-in-ClearContext.result (λ values is. is ∙ clear_left c.args.order.now c.in-ClearContext.field-0 (c.requires.acts ∙ ap OnAll c.in-ClearContext.is) c.in_ok-zeros-in-ClearContext.field-0 (c.in_ok-zeros-in-ClearContext.ensures ∙ ap (λ n. replicate n false) (c.vps-vps.ensures.value ∙ ap processor_count (c.geometry.ensures ∙ ap (λ (p : Plan). p.axes) c.plan.ensures)))) c.bits_alone-in-ClearContext.ensures
+pub returns-in-ClearContext : goal.returns-in-ClearContext
+returns-in-ClearContext c =
+    ok_then _ _ c.bits_alone-in-ClearContext.result (λ values is. is ∙ clear_left c.args.order.now c.in-ClearContext.field-0 (c.requires.acts ∙ ap OnAll c.in-ClearContext.is) c.filled-in-ClearContext.result (c.filled-in-ClearContext.ensures ∙ ap (λ n. replicate n false) (c.vps-vps.ensures.value ∙ ap processor_count (c.geometry.ensures ∙ ap (λ (p : Plan). p.axes) c.plan.ensures)))) c.bits_alone-in-ClearContext.ensures
 
 pub returns-in_ok-bits-in-LoadContext : goal.returns-in_ok-bits-in-LoadContext
 returns-in_ok-bits-in-LoadContext c =

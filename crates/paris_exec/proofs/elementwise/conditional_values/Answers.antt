@@ -16,16 +16,16 @@ pub put_flag_alone-requires-in-ClearTest-clause-read : goal.put_flag_alone-requi
 put_flag_alone-requires-in-ClearTest-clause-read c =
     flag_read c.args.order.now (ClearTest c.in-ClearTest.field-0) (c.requires.acts ∙ ap OnSelected c.in-ClearTest.is) Test refl
 
-pub returns-in_ok-ones-in-SetTest : goal.returns-in_ok-ones-in-SetTest
-returns-in_ok-ones-in-SetTest c =
+pub returns-in-SetTest : goal.returns-in-SetTest
+returns-in-SetTest c =
     ok_then _ _ c.put_flag_alone.result (λ values is.
-    is ∙ set_test_left c.args.order.now c.in-SetTest.field-0 (c.requires.acts ∙ ap OnSelected c.in-SetTest.is) c.in_ok-ones-in-SetTest.field-0
-    (c.in_ok-ones-in-SetTest.ensures ∙ ap (λ n. replicate n true) (c.vps-vps.ensures.value ∙ ap processor_count (c.geometry.ensures ∙ ap (λ (p : Plan). p.axes) c.plan.ensures))))
+    is ∙ set_test_left c.args.order.now c.in-SetTest.field-0 (c.requires.acts ∙ ap OnSelected c.in-SetTest.is) c.filled.result
+    (c.filled.ensures ∙ ap (λ n. replicate n true) (c.vps-vps.ensures.value ∙ ap processor_count (c.geometry.ensures ∙ ap (λ (p : Plan). p.axes) c.plan.ensures))))
     c.put_flag_alone.ensures
 
-pub returns-in_ok-zeros-in-ClearTest : goal.returns-in_ok-zeros-in-ClearTest
-returns-in_ok-zeros-in-ClearTest c =
+pub returns-in-ClearTest : goal.returns-in-ClearTest
+returns-in-ClearTest c =
     ok_then _ _ c.put_flag_alone-in-ClearTest.result (λ values is.
-    is ∙ clear_test_left c.args.order.now c.in-ClearTest.field-0 (c.requires.acts ∙ ap OnSelected c.in-ClearTest.is) c.in_ok-zeros-in-ClearTest.field-0
-    (c.in_ok-zeros-in-ClearTest.ensures ∙ ap (λ n. replicate n false) (c.vps-vps.ensures.value ∙ ap processor_count (c.geometry.ensures ∙ ap (λ (p : Plan). p.axes) c.plan.ensures))))
+    is ∙ clear_test_left c.args.order.now c.in-ClearTest.field-0 (c.requires.acts ∙ ap OnSelected c.in-ClearTest.is) c.filled-in-ClearTest.result
+    (c.filled-in-ClearTest.ensures ∙ ap (λ n. replicate n false) (c.vps-vps.ensures.value ∙ ap processor_count (c.geometry.ensures ∙ ap (λ (p : Plan). p.axes) c.plan.ensures))))
     c.put_flag_alone-in-ClearTest.ensures

@@ -1,6 +1,4 @@
-use Rattle.std.proofs.Common.{◌∙◌, ◌++◌, ◌∷◌, [], ap, sym, length, map, slice_index_or, false, Bool, List}
-use Rattle.std.specs.Prelude.{not, ◌&&◌}
-use Rattle.std.specs.Simd.Lanes.{zip2}
+use Rattle.std.proofs.Common.{◌∙◌, ◌++◌, ◌∷◌, [], ap, sym, length, slice_index_or, false, Bool, List}
 use Rattle.paris_names.specs.declared.keys.FlagName.TheVariants.{Overflow}
 use Rattle.paris_names.specs.declared.keys.Key.TheVariants.{Field, Flag}
 use Rattle.paris_field.specs.Fields.{FieldNumbers}
@@ -11,7 +9,7 @@ use Rattle.paris_exec.proofs.planes.put_quotient.Goals as goal
 
 pub put_where-requires-clause-mask : goal.put_where-requires-clause-mask
 put_where-requires-clause-mask c =
-    ap length (c.and_in.ensures ∙ ap (λ (bs : List Bool). zip2 (λ a b. a && b) bs c.flag_plane-selected.result.now) (c.not_in.ensures ∙ ap (map not) c.in_ok-divided.ensures))
+    ap length c.in_ok-divided.ensures
     ∙ length-without c.args.new.overflow c.flag_plane-selected.result.now (c.requires.flags ∙ sym c.flag_plane-selected.ensures.count)
     ∙ c.requires.flags
 
@@ -22,5 +20,5 @@ returns c =
     ∙ ap (λ (y : FieldNumbers). c.in_ok-put_where.field-0 ∷ y ∷ []) c.in_ok-put_flag.ensures
     ∙ ap (λ (y : FieldNumbers). y ∷ put_value c.args.order.now (Flag c.args.order.now.plan.set_no Overflow) (flag_value c.args.new.overflow) ∷ [])
     (c.in_ok-put_where.ensures
-    ∙ ap (λ (bs : List Bool). put_value_where c.args.order.now (λ v. slice_index_or bs v false) (Field c.args.to.now.field) c.args.new.value) (c.and_in.ensures ∙ ap (λ (bs : List Bool). zip2 (λ a b. a && b) bs c.flag_plane-selected.result.now) (c.not_in.ensures ∙ ap (map not) c.in_ok-divided.ensures))
+    ∙ ap (λ (bs : List Bool). put_value_where c.args.order.now (λ v. slice_index_or bs v false) (Field c.args.to.now.field) c.args.new.value) c.in_ok-divided.ensures
     ∙ put_without c.args.order.now (Field c.args.to.now.field) c.args.new.value c.args.new.overflow c.flag_plane-selected.result.now c.requires.flags c.flag_plane-selected.ensures.count c.flag_plane-selected.ensures.bits)

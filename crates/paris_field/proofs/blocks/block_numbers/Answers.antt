@@ -13,16 +13,16 @@ loop-i-preserved c =
     let high : ℕ = get_or c.low_words-high.result i 0 in
     let low_fits : low < 2 ^ 64 = omega arith in
     let high_fits : high < 2 ^ 64 = omega arith in
-    let rest = take_rest c.args.planes.now c.min.result in
-    let value : v < c.args.vps → high * 2 ^ 64 + low ≡ number_at c.args.planes.now v = λ within.
-    let low_is : low ≡ number_at (take 64 c.args.planes.now) v = word_is low c.args.planes.now v low_fits (λ k h. c.low_words-low.ensures i k (omega arith) h within) in
-    let high_is : high ≡ number_at (take 64 (drop c.min.result c.args.planes.now)) v = word_is high (drop c.min.result c.args.planes.now) v high_fits (λ k h. c.low_words-high.ensures i k (omega arith) h within ∙ ap (λ l. get_or (plane_at l k) v false) rest) in
+    let rest = take_rest c.args.layers.now c.min.result in
+    let value : v < c.args.vps → high * 2 ^ 64 + low ≡ number_at c.args.layers.now v = λ within.
+    let low_is : low ≡ number_at (take 64 c.args.layers.now) v = word_is low c.args.layers.now v low_fits (λ k h. c.low_words-low.ensures i k (omega arith) h within) in
+    let high_is : high ≡ number_at (take 64 (drop c.min.result c.args.layers.now)) v = word_is high (drop c.min.result c.args.layers.now) v high_fits (λ k h. c.low_words-high.ensures i k (omega arith) h within ∙ ap (λ l. get_or (plane_at l k) v false) rest) in
     omega (
       arith,
       low_is,
       high_is,
-      ap (λ m. number_at (take 64 (drop m c.args.planes.now)) v) c.min.ensures,
-      halves c.args.planes.now v c.requires.narrow,
+      ap (λ m. number_at (take 64 (drop m c.args.layers.now)) v) c.min.ensures,
+      halves c.args.layers.now v c.requires.narrow,
     ) in
     record {
       long = length-set c.loop-i.numbers i _ ∙ c.loop-i.invariant.long;

@@ -7,5 +7,5 @@ use Rattle.paris_field.proofs.blocks.block_words.Goals as goal
 pub returns : goal.returns
 returns c = λ i hi within.
     let v : ℕ = 64 * c.args.block + i in
-    word_is (get_or c.low_words-words.result i 0) c.args.planes.now v (c.words_fit.ensures i) (λ k hk. c.low_words-words.ensures i k hi hk within)
-    ∙ ap (λ ps. number_at ps v) (take_all 64 c.args.planes.now c.requires.narrow)
+    word_is (get_or c.low_words-words.result i 0) c.args.layers.now v (c.words_fit.ensures i) (λ k hk. c.low_words-words.ensures i k hi hk within)
+    ∙ ap (λ ps. number_at ps v) (take_all 64 c.args.layers.now c.requires.narrow)

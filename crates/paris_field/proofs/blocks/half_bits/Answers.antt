@@ -25,5 +25,5 @@ returns c =
           ∙ c.rows_of-rows.ensures k i (omega arith) hi below
       | inr many ↦
           half_past row s k many
-          ∙ sym (ap (λ p. get_or p (64 * c.args.block + i) false) (get_or-past c.args.planes.now k [] (omega (arith, many, c.requires.narrow))))
+          ∙ sym (ap (λ p. get_or p (64 * c.args.block + i) false) (get_or-past c.args.layers.now k [] (omega (arith, many, c.requires.narrow))))
     ]

@@ -8,5 +8,5 @@ returns c =
     let count : ℕ = c.min-count.result in
     let room : count ≤ length c.block_words-words.result = omega arith in
     c.in_ok-extend_from_slice.ensures.items ∙ ap (λ l. l ++ take count c.block_words-words.result) c.requires.below
-    ∙ numbers_append (64 * c.args.block) count c.args.planes.now c.block_words-words.result room (λ i h. c.block_words-words.ensures i (omega arith) (omega arith))
-    ∙ ap (λ n. numbers n c.args.planes.now) (omega arith)
+    ∙ numbers_append (64 * c.args.block) count c.args.layers.now c.block_words-words.result room (λ i h. c.block_words-words.ensures i (omega arith) (omega arith))
+    ∙ ap (λ n. numbers n c.args.layers.now) (omega arith)

@@ -20,9 +20,9 @@ loop-k-init c =
 pub loop-k-preserved : goal.loop-k-preserved
 loop-k-preserved c =
     let k : ℕ = c.loop-k.k in
-    let inside : k < length c.args.planes.now = omega arith in
-    let x : List Bool = c.index-planes-k.result in
-    let at : x ≡ plane_at c.args.planes.now k = get_or_read c.args.planes.now k x inside c.index-planes-k.is [] in
+    let inside : k < length c.args.layers.now = omega arith in
+    let x : List Bool = c.index-layers-k.result in
+    let at : x ≡ plane_at c.args.layers.now k = get_or_read c.args.layers.now k x inside c.index-layers-k.is [] in
     let long : length x ≡ c.args.vps = ap length at ∙ c.requires.long k inside in
     record {
       long = length-set c.loop-k.rows k c.word.result ∙ c.loop-k.invariant.long;
@@ -40,5 +40,5 @@ returns c =
     λ k i hk hi below.
     elim (cases_lt k c.loop-k.k) [
       | inl made ↦ c.loop-k.invariant.bits k made i hi below
-      | inr past ↦ no_row c.args.planes.now k i (64 * c.args.block + i) _ hi (omega (arith, past)) (c.loop-k.invariant.rest k past hk)
+      | inr past ↦ no_row c.args.layers.now k i (64 * c.args.block + i) _ hi (omega (arith, past)) (c.loop-k.invariant.rest k past hk)
     ]

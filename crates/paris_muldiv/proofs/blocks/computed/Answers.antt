@@ -18,7 +18,7 @@ returns-clause-value g c =
     let result : ℕ → ℕ → ℕ → ℕ = λ w x y. low w (binary_result g.O.NumberOp.operator w x y 0 0) in
     let width : length c.deref_mut.result.now ≡ L = ap length (c.deref_mut.ensures.value ∙ c.in_ok-planes.ensures) ∙ length-replicate L (replicate c.len-vps.result false) in
     let vps : length c.in_ok-overflow.overflow ≡ n = ap length c.in_ok-overflow.ensures ∙ length-replicate c.len-vps.result false ∙ c.len-vps.ensures in
-    c.from_planes.ensures
+    c.in_ok-value.ensures
     ∙ ap (value_of_planes c.len-vps.result) (written _ ps _ (c.put_all_results.auto.values ∙ c.deref_mut.ensures.len))
     ∙ ap (λ m. value_of_planes m ps) c.len-vps.ensures
     ∙ field_is n L ps (λ v. result L (operand L c.args.x.now v) (operand L c.args.y.now v)) (c.put_all_results.auto.values ∙ width) (λ v h.
@@ -38,7 +38,8 @@ returns-clause-overflow g c =
     let overflows : ℕ → ℕ → ℕ → Bool = λ w x y. binary_overflow g.O.NumberOp.operator w x y 0 in
     let width : length c.deref_mut.result.now ≡ L = ap length (c.deref_mut.ensures.value ∙ c.in_ok-planes.ensures) ∙ length-replicate L (replicate c.len-vps.result false) in
     let vps : length c.in_ok-overflow.overflow ≡ n = ap length c.in_ok-overflow.ensures ∙ length-replicate c.len-vps.result false ∙ c.len-vps.ensures in
-    plane_is c.put_all_results.new.overflow n (λ v. overflows L (operand L c.args.x.now v) (operand L c.args.y.now v)) (c.put_all_results.ensures.long ∙ vps) (λ v h.
+    c.from_plane.ensures
+    ∙ plane_is c.put_all_results.new.overflow n (λ v. overflows L (operand L c.args.x.now v) (operand L c.args.y.now v)) (c.put_all_results.ensures.long ∙ vps) (λ v h.
     let within : v < length c.in_ok-overflow.overflow = omega (arith, h, vps) in
     let there : v < length c.args.y.now.numbers = omega (arith, h, c.requires.same) in
     c.put_all_results.ensures.overflow v within

@@ -22,7 +22,7 @@ pub loop-j-preserved : goal.loop-j-preserved
 loop-j-preserved c =
     let j : ℕ = c.loop-j.j in
     let m : List Bool = c.args.mask.now in
-    let y : List Bool = c.index-y-j.result in
+    let y : List Bool = c.plane.result.now in
     let x : List Bool = c.put_masked.new.masked in
     let o : List Bool = get_or c.loop-j.sum j c.index-sum-j.result in
     let s : List Bool = c.accumulate_step.new.sum in
@@ -32,7 +32,7 @@ loop-j-preserved c =
     let iny : j < length c.args.y.now = omega arith in
     let es : o ≡ plane_at c.loop-j.sum j = sym c.index-sum-j.is ∙ get_or_read c.loop-j.sum j c.index-sum-j.result ins c.index-sum-j.is [] in
     let eo : o ≡ plane_at c.args.sum.now j = es ∙ plane_of_drop j c.loop-j.sum c.args.sum.now c.loop-j.invariant.left in
-    let ey : y ≡ plane_at c.args.y.now j = get_or_read c.args.y.now j y iny c.index-y-j.is [] in
+    let ey : y ≡ plane_at c.args.y.now j = c.plane.ensures ∙ get_or_read c.args.y.now j c.index-y-j.result iny c.index-y-j.is [] in
     let lx : length x ≡ length m = c.put_masked.ensures.long in
     let lo : length o ≡ length m = ap length es ∙ c.loop-j.invariant.sum j ins in
     let xo : length x ≡ length o = lx ∙ sym lo in

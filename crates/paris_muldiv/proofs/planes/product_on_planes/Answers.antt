@@ -28,7 +28,7 @@ returns-clause-value c =
     let y : ℕ → ℕ = operand L c.args.y.now in
     let planes : List (List Bool) = c.in_ok-planes.planes.items in
     let enough : L ≤ length planes = omega (arith, c.in_ok-planes.ensures.count, c.low.ensures.count) in
-    c.from_planes.ensures
+    c.in_ok-value.ensures
     ∙ ap (λ (m : ℕ). value_of_planes m c.truncate.new.self.items) c.len-vps.ensures
     ∙ ap (value_of_planes n) c.truncate.ensures.items
     ∙ field_is n L (take L planes) (λ v. x v * y v % 2 ^ L) (length-take-le L planes enough) (λ v h.
@@ -48,7 +48,8 @@ returns-clause-overflow c =
     let now : List (List Bool) = c.deref.result.now in
     let enough : L ≤ length planes = omega (arith, c.in_ok-planes.ensures.count, c.low.ensures.count) in
     let vps : length c.in_ok-overflow.overflow ≡ n = ap length c.in_ok-overflow.ensures ∙ length-replicate c.len-vps.result false ∙ c.len-vps.ensures in
-    plane_is c.put_any.new.any n (λ v. leb (2 ^ L) (x v * y v)) (c.put_any.ensures.long ∙ vps) (λ v h.
+    c.from_plane.ensures
+    ∙ plane_is c.put_any.new.any n (λ v. leb (2 ^ L) (x v * y v)) (c.put_any.ensures.long ∙ vps) (λ v h.
     let product : number_at planes v ≡ x v * y v =
     c.in_ok-planes.ensures.exact v (omega (arith, h, c.len-vps.ensures))
     ∙ ap (λ t. t * number_at c.low-2.result.now v) (c.low.ensures.at v h)

@@ -24,9 +24,9 @@ pub loop-k-preserved : goal.loop-k-preserved
 loop-k-preserved c =
     let k : ℕ = c.loop-k.k in
     let m : ℕ = length c.args.y.now in
-    let x : List Bool = c.index-x-k.result in
+    let x : List Bool = c.plane.result.now in
     let inx : k < length c.args.x.now = omega arith in
-    let ex : x ≡ plane_at c.args.x.now k = get_or_read c.args.x.now k x inx c.index-x-k.is [] in
+    let ex : x ≡ plane_at c.args.x.now k = c.plane.ensures ∙ get_or_read c.args.x.now k c.index-x-k.result inx c.index-x-k.is [] in
     let lx : length x ≡ length c.args.carry.now = ap length ex ∙ c.requires.x k inx in
     record {
       product = λ j h. c.add_row.ensures.product j h ∙ lx;

@@ -4,11 +4,11 @@ use Rattle.std.proofs.lemmas.Simd.{length-zip2}
 use Rattle.paris_muldiv.proofs.Turned.{put_where}
 use Rattle.paris_muldiv.proofs.signed_planes.put_overflow.Goals as goal
 
-pub or_in-requires : goal.or_in-requires
-or_in-requires c =
+pub put-requires-2 : goal.put-requires-2
+put-requires-2 c =
     let and : Bool → Bool → Bool = λ a b. a && b in
     let kept : length c.not_in.new.self ≡ length c.args.overflow.now = ap length c.not_in.ensures ∙ length-map c.args.overflow.now not in
-    ap length c.and_in.ensures ∙ length-zip2 and c.not_in.new.self c.args.top.now (kept ∙ sym c.requires.top) ∙ kept ∙ sym c.requires.wide
+    ap length c.in_ok-put.ensures.ok ∙ length-zip2 and c.not_in.new.self c.args.top.now (kept ∙ sym c.requires.top) ∙ kept ∙ sym c.requires.wide
 
 pub returns : goal.returns
-returns c = put_where c.args.wide.now c.args.top.now c.args.overflow.now c.not_in.new.self c.and_in.new.self c.or_in.new.self c.requires.wide c.requires.top c.not_in.ensures c.and_in.ensures c.or_in.ensures
+returns c = put_where c.args.wide.now c.args.top.now c.args.overflow.now c.not_in.new.self c.put.new.self c.put-2.new.self c.requires.wide c.requires.top c.not_in.ensures c.in_ok-put.ensures.ok c.in_ok-put-2.ensures.ok

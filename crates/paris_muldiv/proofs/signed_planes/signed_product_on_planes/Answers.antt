@@ -25,7 +25,7 @@ returns-clause-value c =
 
 pub returns-clause-overflow : goal.returns-clause-overflow
 returns-clause-overflow c =
-    c.put_overflow.ensures
+    c.in_ok-put_overflow.ensures
     ∙ signed_overflows c.args.bits c.args.x.now c.args.y.now c.in_ok-x_values.x_values c.in_ok-y_values.y_values c.in_ok-product.product.value c.in_ok-unlike.unlike
     c.in_ok-product.product.overflow c.plane-top.result.now c.in_ok-signed.signed.overflow c.requires.positive
     c.requires.same c.in_ok-unlike.ensures c.in_ok-x_values.ensures c.in_ok-y_values.ensures c.in_ok-product.ensures.value

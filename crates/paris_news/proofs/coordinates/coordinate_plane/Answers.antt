@@ -12,7 +12,8 @@ returns c =
     let a : ℕ = c.args.axis in
     let n : ℕ = processor_count axes in
     let of : ℕ → ℕ → ℕ → List Bool = λ m s len. bits_everywhere m (λ v. marked (c.args.place * s) (c.args.place * s + s) (v % (len * s))) in
-    c.in_ok-plane.ensures
+    c.from_plane.ensures
+    ∙ c.in_ok-plane.ensures
     ∙ ap (λ (m : ℕ). of m c.stride-stride.result c.len.result) c.vps-vps.ensures.value
     ∙ ap (λ (s : ℕ). of n s c.len.result) c.stride-stride.ensures.value
     ∙ ap (λ (len : ℕ). of n (stride axes a) len) c.len.ensures

@@ -12,7 +12,7 @@ returns c =
     let a : ℕ = c.args.axis in
     let n : ℕ = processor_count axes in
     let planes : List (List Bool) = c.in_ok-planes.planes.items in
-    c.from_planes.ensures ∙ ap (λ (m : ℕ). value_of_planes m planes) c.vps.ensures.value
+    c.from_layers.ensures ∙ ap (λ (m : ℕ). value_of_planes m planes) c.vps.ensures.value
     ∙ field_is n c.args.bits planes (λ v. operand c.args.bits c.args.x.now (neighbour axes a c.args.direction v)) (c.in_ok-planes.ensures.count ∙ c.low.ensures.count) (λ v h.
     let there : neighbour axes a c.args.direction v < n = neighbour_below axes a c.args.direction v c.vps.ensures.sound c.requires.axis h in
     c.in_ok-planes.ensures.at v h ∙ c.low.ensures.at (neighbour axes a c.args.direction v) (subst (λ m. neighbour axes a c.args.direction v < m) (sym c.requires.count) there))

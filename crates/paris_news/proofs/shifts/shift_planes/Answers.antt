@@ -23,14 +23,14 @@ loop-k-preserved c =
     let k : ℕ = c.loop-k.k in
     let x : List Bool = c.index-source-k.result in
     let ex : x ≡ plane_at c.args.source.now k = get_or_read c.args.source.now k x c.loop-k-test.true c.index-source-k.is [] in
-    let out : List Bool = c.shift_into.new.out in
-    let no : length out ≡ n = ap length c.shift_into.ensures ∙ length-bits_everywhere n _ in
+    let out : List Bool = c.in_ok-plane.plane in
+    let no : length out ≡ n = ap length c.in_ok-plane.ensures ∙ length-bits_everywhere n _ in
     record {
       count = ap length c.in_ok-push.ensures.items ∙ length_push c.loop-k.planes.items out ∙ ap (λ j. j + 1) c.loop-k.invariant.count;
       long = subst (λ (ps : List (List Bool)). AllOf n ps) (sym c.in_ok-push.ensures.items) (all_pushed n c.loop-k.planes.items out c.loop-k.invariant.long no);
       at = λ v h.
           moved_more n k v (neighbour c.args.geometry c.args.axis c.args.direction v) c.args.source.now c.loop-k.planes.items c.push.new.self.items x out c.loop-k-test.true ex c.loop-k.invariant.count c.in_ok-push.ensures.items
-          (shifted_bit n v (λ u. get_or x (neighbour c.args.geometry c.args.axis c.args.direction u) false) out c.shift_into.ensures h)
+          (shifted_bit n v (λ u. get_or x (neighbour c.args.geometry c.args.axis c.args.direction u) false) out c.in_ok-plane.ensures h)
           (c.loop-k.invariant.at v h);
     }
 

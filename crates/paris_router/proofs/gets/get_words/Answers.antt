@@ -61,7 +61,7 @@ returns-clause-value c =
     let sel : ℕ → Bool = has c.args.selected.now in
     let width : length c.deref_mut.result.now ≡ L = ap length (c.deref_mut.ensures.value ∙ c.in_ok-planes.ensures) ∙ length-replicate L (replicate c.len-vps.result false) in
     let many : length words ≡ n = ap length (c.deref.ensures.value ∙ c.in_ok-words.ensures.value) ∙ length-everywhere _ _ in
-    c.from_planes.ensures
+    c.in_ok-value-in-None.ensures
     ∙ ap (value_of_planes c.len-vps.result) (written _ ps _ (c.fetch_all.auto.values ∙ c.deref_mut.ensures.len))
     ∙ ap (λ m. value_of_planes m ps) c.len-vps.ensures
     ∙ field_is n L ps (λ v. cond (sel v) (operand L c.args.x.now (get_or c.args.addresses.now.numbers v 0)) 0) (c.fetch_all.auto.values ∙ width) (λ v h.

@@ -77,4 +77,4 @@ returns-clause-receivers c =
     let numbers : List ℕ = c.deref.result.now in
     let are = c.deref.ensures.value ∙ c.in_ok-numbers.ensures.value in
     let receivers = rw c.in-Ok.is at c.in_ok-arrived.ensures.receivers in
-    receivers ∙ ap (λ k. receivers_of k (senders addresses selected)) c.requires.addresses ∙ receivers_are n L addresses numbers x selected c.requires.addresses are
+    c.from_plane-receivers.ensures ∙ receivers ∙ ap (λ k. receivers_of k (senders addresses selected)) c.requires.addresses ∙ receivers_are n L addresses numbers x selected c.requires.addresses are

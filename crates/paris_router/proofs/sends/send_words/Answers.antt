@@ -68,4 +68,4 @@ returns-clause-receivers c =
     let zeros = c.in_ok-words.ensures.items_if_clones_equal (λ y h. h) in
     let come = subst (λ k. HasCome k mail c.deliver_mail.new.inbox.words.items c.deliver_mail.new.inbox.receivers c.deliver_mail.new.inbox.crowded) (ap length zeros ∙ length-replicate c.len-vps.result 0 ∙ c.len-vps.ensures)
     (c.deliver_mail.ensures.come c.in_default.is start (none_come c.len-vps.result start.words.items start.receivers start.crowded zeros c.in_ok-receivers.ensures c.in_ok-crowded.ensures)) in
-    come.1.0
+    c.from_plane-receivers.ensures ∙ come.1.0

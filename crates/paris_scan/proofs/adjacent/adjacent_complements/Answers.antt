@@ -25,16 +25,16 @@ returns g c =
     let who = has c.args.selected.now in
     let lows : List (List Bool) = c.low.result.now in
     let state : List (List Bool) = c.deref.result.now in
-    let held : state ≡ c.in_ok-state.state.items = c.deref.ensures.value in
+    let held : state ≡ c.in_ok-planes.planes.items = c.deref.ensures.value ∙ c.in_ok-state.ensures in
     let totals : List ℕ = c.in_ok-totals.totals.items in
     let lent : c.deref-2.result.now ≡ totals = c.deref-2.ensures.value in
     let turned : List ℕ = c.in_ok-turned.turned.items in
-    let count : length state ≡ L = ap length held ∙ c.in_ok-state.ensures.count ∙ c.low.ensures.count in
+    let count : length state ≡ L = ap length held ∙ c.in_ok-planes.ensures.count ∙ c.low.ensures.count in
     let values : ℕ → List ℕ = of_lines axes a c.args.selected.now L c.args.x.now in
     let same : n ≡ axis_length axes a = c.len-count.ensures in
     let all : length totals * n ≡ m = ap (λ k. k * n) (c.in_ok-totals.ensures.lines ∙ ap (λ k. k / n) c.requires.selected) ∙ all_lines n m (ap (λ k. m % k) same ∙ c.requires.adjacent.3) in
     let each : (u : ℕ) → u < m → who u ≡ true → number_at state u ≡ complement L (x u) = λ u h e.
-    ap (λ ps. number_at ps u) held ∙ c.in_ok-state.ensures.at u (omega (arith, h, c.requires.selected)) ∙ brought_where (who u) (complement (length lows) (number_at lows u)) e
+    ap (λ ps. number_at ps u) held ∙ c.in_ok-planes.ensures.at u (omega (arith, h, c.requires.selected)) ∙ brought_where (who u) (complement (length lows) (number_at lows u)) e
     ∙ ap (λ k. complement k (number_at lows u)) c.low.ensures.count ∙ ap (complement L) (c.low.ensures.at u (omega (arith, h, c.requires.count))) in
     let total : (v : ℕ) → v < m → slice_index totals (v / n) ≡ shows L (line_values axes a who (λ u. complement L (x u)) v) =
     total_at shows L n axes a c.args.selected.now (λ u. complement L (x u)) state totals c.requires.adjacent same c.requires.selected count each c.in_ok-totals.ensures.lines c.in_ok-totals.ensures.values in

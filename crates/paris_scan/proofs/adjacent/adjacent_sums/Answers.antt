@@ -38,10 +38,10 @@ returns c =
     ∙ lines_are L n m rests (λ v. combined Sum L (unit Sum L) (values v)) (λ v h.
     c.in_ok-rests.ensures.values (v / n) (omega (arith, there v h, ap length c.deref-3.ensures.value)) ∙ ap (λ (xs : List ℕ). slice_index xs (v / n) % limit) c.deref-3.ensures.value
     ∙ ap (λ s. s % limit) (at v h) ∙ ap (λ k. sum (values v) % k) c.power-limit.ensures ∙ sym (combined_sum L (values v))) in
-    let over : c.in_ok-overflow.overflow ≡ sums_overflow L m values =
-    c.in_ok-overflow.ensures ∙ ap (λ (bs : List Bool). bits_everywhere c.len.result (λ v. has bs (v / n))) c.deref-2.ensures.value
+    let over : c.from_plane.result ≡ sums_overflow L m values =
+    c.from_plane.ensures ∙ c.in_ok-overflow.ensures ∙ ap (λ (bs : List Bool). bits_everywhere c.len.result (λ v. has bs (v / n))) c.deref-2.ensures.value
     ∙ ap (λ k. bits_everywhere k (λ v. has reach (v / n))) (c.len.ensures ∙ c.requires.count)
     ∙ bits_same m (λ v. has reach (v / n)) (λ v. leb (2 ^ L) (sum (values v))) (λ v h.
     c.in_ok-reach.ensures.values (v / n) (omega (arith, there v h, ap length c.deref.ensures.value)) ∙ ap (λ (xs : List ℕ). leb limit (slice_index xs (v / n))) c.deref.ensures.value
     ∙ ap (leb limit) (at v h) ∙ ap (λ k. leb k (sum (values v))) c.power-limit.ensures) in
-    ap (λ x. pair x c.in_ok-overflow.overflow) value ∙ ap (pair (combined_field Sum L m values)) over
+    ap (λ x. pair x c.from_plane.result) value ∙ ap (pair (combined_field Sum L m values)) over

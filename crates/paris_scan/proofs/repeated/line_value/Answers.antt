@@ -23,6 +23,6 @@ pub returns : goal.returns
 returns c =
     let n : ℕ = c.args.count in
     let xs : List ℕ = c.args.numbers.now in
-    c.from_planes.ensures
+    c.in_ok-value.ensures
     ∙ field_is c.args.vps c.args.width c.in_ok-planes.planes.items (λ v. slice_index xs (v / n)) c.in_ok-planes.ensures.width
     (λ v h. c.in_ok-planes.ensures.numbers v h ∙ mod-eq_of_lt (c.requires.fit (v / n) (line_below (length xs) n v c.requires.some (omega (arith, h, c.requires.all)))))

@@ -12,6 +12,6 @@ returns c =
     let xs : List (List Bool) = c.args.planes.items in
     let ps : List (List Bool) = c.invert_planes.new.planes in
     let count : length ps ≡ length xs = c.invert_planes.auto.planes ∙ ap length c.deref_mut.ensures.value in
-    c.from_planes.ensures ∙ ap (value_of_planes n) (written _ ps _ (c.invert_planes.auto.planes ∙ c.deref_mut.ensures.len))
+    c.in_ok-value.ensures ∙ ap (value_of_planes n) (written _ ps _ (c.invert_planes.auto.planes ∙ c.deref_mut.ensures.len))
     ∙ field_is n (length xs) ps (λ v. complement (length xs) (number_at xs v)) count (λ v h.
     inverted_number n v xs ps c.requires.long count (λ k below. c.invert_planes.ensures.at k (omega (arith, below, ap length c.deref_mut.ensures.value)) ∙ ap (λ (qs : List (List Bool)). map not (plane_at qs k)) c.deref_mut.ensures.value) h)

@@ -14,5 +14,5 @@ returns c =
     let planes = c.args.planes in
     let below : planes.len - 1 ≡ L = omega (arith, long, planes.ok) in
     let made : FieldNumbers → Option (List Bool) → Combined = λ v o. record { value = v; overflow = o } in
-    ap (λ v. made v c.pop-overflow.result) (c.from_planes-value.ensures ∙ sum_field c.args.vps L c.args.planes.items c.pop-overflow.new.self.items values long (c.pop-overflow.ensures.rest ∙ ap (λ (k : ℕ). take k c.args.planes.items) below) each)
-    ∙ ap (made (combined_field Sum L c.args.vps values)) (sum_bits c.args.vps L c.args.planes.items c.pop-overflow.result values long c.requires.long (c.pop-overflow.ensures.value [] (omega (arith, long, planes.ok)) ∙ ap (λ (k : ℕ). Some (plane_at c.args.planes.items k)) below) each)
+    ap (λ v. made v c.as_layer-overflow.result) (c.in_ok-value.ensures ∙ sum_field c.args.vps L c.args.planes.items c.pop-top.new.self.items values long (c.pop-top.ensures.rest ∙ ap (λ (k : ℕ). take k c.args.planes.items) below) each)
+    ∙ ap (made (combined_field Sum L c.args.vps values)) (c.as_layer-overflow.ensures ∙ sum_bits c.args.vps L c.args.planes.items c.pop-top.result values long c.requires.long (c.pop-top.ensures.value [] (omega (arith, long, planes.ok)) ∙ ap (λ (k : ℕ). Some (plane_at c.args.planes.items k)) below) each)

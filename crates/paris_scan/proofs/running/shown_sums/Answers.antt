@@ -45,7 +45,8 @@ returns-clause-overflow c =
     let by : ℕ = c.args.steps.now.by in
     let begins : ℕ → Bool = has c.args.steps.now.begins in
     let n : ℕ = length c.args.words.items in
-    ap Some (overs_before c.args.bits n d by begins sums c.args.overflow c.in_ok-before-in-Exclusive.before over (c.in_ok-before-in-Exclusive.ensures.long ∙ c.requires.long)
+    ap Some (c.from_plane-in-Exclusive.ensures
+    ∙ overs_before c.args.bits n d by begins sums c.args.overflow c.in_ok-before-in-Exclusive.before over (c.in_ok-before-in-Exclusive.ensures.long ∙ c.requires.long)
     (λ v h none. subst (λ m. HasBefore d by m v) c.requires.count (c.args.steps.now.reach v (omega (arith, h, c.requires.count)) none))
     (λ v h. c.in_ok-before-in-Exclusive.ensures.bits v (omega (arith, h, c.requires.long)))
     ∙ ap (λ (i : Inclusion). over_sums c.args.bits n (shown_value 0 i d by begins sums)) (sym c.in-Exclusive.is))

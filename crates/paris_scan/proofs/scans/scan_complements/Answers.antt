@@ -18,7 +18,7 @@ returns g c =
     let turned : ℕ → ℕ = λ u. complement L (operand L c.args.x.now u) in
     let count : length state ≡ L = c.in_ok-state.ensures.count ∙ c.low.ensures.count in
     let values : ℕ → List ℕ = scanned axes c.args.along.now.axis c.args.along.now.direction c.args.along.now.inclusion c.args.segments.now c.args.selected.now L c.args.x.now in
-    c.complement_value.ensures
+    c.in_ok-value.ensures
     ∙ complements_are c.len.result n L planes shows values (c.len.ensures ∙ c.requires.count) (c.in_ok-planes.ensures.count ∙ count) (λ v h.
     c.in_ok-planes.ensures.shows L (has c.args.selected.now) turned (omega (arith, count, c.requires.plain)) (λ u. complement_fits L (operand L c.args.x.now u))
     (complement_brought shows L (g.met.C.Combine.none L) (g.met.C.Commute.one L) n c.args.selected.now c.args.x.now c.low.result.now state c.requires.selected c.requires.count c.low.ensures.count c.low.ensures.at c.in_ok-state.ensures.at) v h

@@ -35,7 +35,7 @@ returns c =
     let state : List (List Bool) = c.in_ok-state.state.items in
     let long : length c.in_ok-at.at ≡ n = ap length c.in_ok-at.ensures ∙ length-bits_everywhere n here in
     let count : length state ≡ L = c.in_ok-state.ensures.count ∙ c.low.ensures.count in
-    c.from_planes.ensures ∙ ap (λ (m : ℕ). value_of_planes m planes) c.vps-vps.ensures.value
+    c.in_ok-value.ensures ∙ ap (λ (m : ℕ). value_of_planes m planes) c.vps-vps.ensures.value
     ∙ field_is n L planes (λ v. value (at_coordinate axes a v c.args.place)) (c.in_ok-planes.ensures.count ∙ count) (λ v h.
     c.in_ok-planes.ensures.shows L here value (omega (arith, count)) (operand_fits L c.args.x.now) (λ u below.
     c.in_ok-state.ensures.at u (omega (arith, below, long))

@@ -20,7 +20,7 @@ returns c =
     let values : ℕ → List ℕ = of_lines axes c.args.axis c.args.selected.now L c.args.x.now in
     let sums : ℕ → Combined = λ m. record { value = combined_field Sum L m values; overflow = Some (sums_overflow L m values) } in
     let long : c.len.result ≡ n = c.len.ensures ∙ c.requires.count in
-    c.sum_value.ensures L values (c.in_ok-planes.ensures.count ∙ count) (λ v h.
+    c.in_ok-combined.ensures L values (c.in_ok-planes.ensures.count ∙ count) (λ v h.
     c.in_ok-planes.ensures.shows L (has c.args.selected.now) (operand L c.args.x.now) count (operand_fits L c.args.x.now)
     (operand_shown sum_shown L (none_sum L) (one_sum L) n c.args.selected.now c.args.x.now c.low.result.now state c.requires.selected c.requires.count c.low.ensures.at c.in_ok-state.ensures.at) v (omega (arith, h, long)))
     ∙ ap sums long

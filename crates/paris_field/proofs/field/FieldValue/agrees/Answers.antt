@@ -10,8 +10,8 @@ pub returns : goal.returns
 returns c =
     let vps : c.self.inside.vps ≡ c.other.inside.vps = omega arith in (
       λ h. equal_fields c.self.inside.vps c.other.inside.vps c.self.inside.planes.items c.other.inside.planes.items _ _ c.self.view_is c.other.view_is vps
-          (sym c.deref.ensures.value ∙ c.same_planes.ensures.0 h ∙ c.deref-2.ensures.value),
-      λ e. c.same_planes.ensures.1 (c.deref.ensures.value
+          (sym c.deref.ensures.value ∙ c.same_layers.ensures.0 h ∙ c.deref-2.ensures.value),
+      λ e. c.same_layers.ensures.1 (c.deref.ensures.value
           ∙ same_fields c.self.inside.vps c.other.inside.vps c.self.inside.planes.items c.other.inside.planes.items _ _ c.self.view_is c.other.view_is vps c.self.invariant.1 c.other.invariant.1 e
           ∙ sym c.deref-2.ensures.value),
     )

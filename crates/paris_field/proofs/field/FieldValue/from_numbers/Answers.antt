@@ -5,15 +5,18 @@ use Rattle.std.proofs.lemmas.List.Elements.{All-get_or}
 use Rattle.paris_plane.proofs.Bits.{written}
 use Rattle.paris_field.specs.Numbers.{value_of_planes}
 use Rattle.paris_field.proofs.Values.{value_is}
+use Rattle.std.proofs.lemmas.Result.{IfOk-weaker}
 use Rattle.paris_field.proofs.field.FieldValue.from_numbers.Goals as goal
 
 pub returns : goal.returns
 returns c =
     let n : ℕ = length c.args.numbers.now in
     let width : length c.deref_mut.result.now ≡ c.args.width = ap length (c.deref_mut.ensures.value ∙ c.in_ok-planes.ensures) ∙ length-replicate c.args.width (replicate n false) in
-    ap (value_of_planes n) (written _ c.put_all.new.planes _ (c.put_all.auto.planes ∙ c.deref_mut.ensures.len))
+    IfOk-weaker c.from_planes.result _ _
+    (λ r e. e ∙ ap (value_of_planes n) (written _ c.put_all.new.planes _ (c.put_all.auto.planes ∙ c.deref_mut.ensures.len))
     ∙ value_is n c.args.width c.put_all.new.planes c.args.numbers.now
     (c.put_all.auto.planes ∙ width) refl (λ v h.
     c.put_all.ensures.numbers v h
     ∙ ap (λ w. get_or c.args.numbers.now v 0 % 2 ^ w) width
-    ∙ mod-eq_of_lt (All-get_or (λ x. x < 2 ^ c.args.width) c.args.numbers.now v 0 (omega arith) c.requires.fit))
+    ∙ mod-eq_of_lt (All-get_or (λ x. x < 2 ^ c.args.width) c.args.numbers.now v 0 (omega arith) c.requires.fit)))
+    c.from_planes.ensures

@@ -5,8 +5,8 @@ use Rattle.paris_field.proofs.Lists.{length-numbers, merged_are}
 use Rattle.paris_field.proofs.Values.{width_is, vps_is, all_of}
 use Rattle.paris_field.proofs.field.FieldValue.merged.Goals as goal
 
-pub merged_planes-requires-clause-old : goal.merged_planes-requires-clause-old
-merged_planes-requires-clause-old c =
+pub merged_layers-requires-clause-old : goal.merged_layers-requires-clause-old
+merged_layers-requires-clause-old c =
     all_of c.self.inside.vps (length c.args.mask.now) c.self.inside.planes.items c.deref.result.now c.deref.ensures.value
     (sym (vps_is c.self.inside.vps c.self.inside.planes.items c.self.view_is) ∙ sym c.requires.mask) c.self.invariant.1
 

@@ -6,6 +6,7 @@ use Rattle.paris_plane.proofs.Bits.{written}
 use Rattle.paris_field.specs.Fields.{overwritten}
 use Rattle.paris_field.specs.Numbers.{value_of_planes, number_at}
 use Rattle.paris_field.proofs.Values.{width_is, vps_is, at_is, value_is, put_is, length-overwritten}
+use Rattle.std.proofs.lemmas.Result.{IfOk-weaker}
 use Rattle.paris_field.proofs.field.FieldValue.with_numbers.Goals as goal
 
 pub put_numbers-requires-clause-within : goal.put_numbers-requires-clause-within
@@ -16,7 +17,8 @@ returns c =
     let same : c.deref_mut.result.now ≡ c.self.inside.planes.items = c.deref_mut.ensures.value ∙ c.in_ok-planes.ensures ∙ c.deref-2.ensures.value in
     let width : length c.deref_mut.result.now ≡ c.args.self.now.width = ap length same ∙ width_is c.self.inside.vps c.self.inside.planes.items c.self.view_is in
     let many : length c.args.self.now.numbers ≡ c.self.inside.vps = vps_is c.self.inside.vps c.self.inside.planes.items c.self.view_is in
-    ap (value_of_planes c.self.inside.vps) (written _ c.put_numbers.new.planes _ (c.put_numbers.auto.planes ∙ c.deref_mut.ensures.len))
+    IfOk-weaker c.from_planes.result _ _
+    (λ r e. e ∙ ap (value_of_planes c.self.inside.vps) (written _ c.put_numbers.new.planes _ (c.put_numbers.auto.planes ∙ c.deref_mut.ensures.len))
     ∙ value_is c.self.inside.vps c.args.self.now.width c.put_numbers.new.planes (overwritten c.args.self.now.numbers c.args.from c.args.numbers.now)
     (c.put_numbers.auto.planes ∙ width)
     (length-overwritten c.args.self.now.numbers c.args.numbers.now c.args.from c.requires.within ∙ many)
@@ -26,4 +28,5 @@ returns c =
     (λ u _ outside. elim (cases_lt u c.args.from) [
       | inl below ↦ c.put_numbers.ensures.before u below
       | inr above ↦ c.put_numbers.ensures.after u (outside above)
-    ]) v (omega arith))
+    ]) v (omega arith)))
+    c.from_planes.ensures

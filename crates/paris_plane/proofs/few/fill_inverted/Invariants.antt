@@ -1,8 +1,0 @@
-use Rattle.std.proofs.Common.{◌≡◌, ℕ, ◌<◌, ◌*◌, ◌-◌, ◌^◌, bit_xor, get_or}
-use Rattle.paris_plane.proofs.few.fill_inverted.Given as goal
-
-abbrev pub invariant-loop-k : goal.invariant-loop-k
-invariant-loop-k l = (j : ℕ) → j < 4 * l.k → get_or l.out j 0 ≡ bit_xor (get_or l.xs j 0) (2 ^ 64 - 1)
-
-abbrev pub invariant-loop-i : goal.invariant-loop-i
-invariant-loop-i l = (j : ℕ) → j < l.i → get_or l.out j 0 ≡ bit_xor (get_or l.xs j 0) (2 ^ 64 - 1)
