@@ -166,25 +166,27 @@ carry_all false false = refl
 pub carry_full : (bit : Bool) (xs ys : List Bool) → bit ≡ true → zip2 (λ a b. a || b) xs ys ≡ zip2 (carry_bit bit) xs ys
 carry_full bit xs ys is = zip2_alike (λ a b. a || b) (carry_bit true) xs ys carry_all ∙ ap (λ t. zip2 (carry_bit t) xs ys) (sym is)
 
-from_none : (a b : Bool) → (a || b) ≡ borrow_bit b false a
+from_none : (a b : Bool) → (b || a) ≡ borrow_bit b false a
 unfolding borrow_bit
 from_none true true = refl
 from_none true false = refl
 from_none false true = refl
 from_none false false = refl
 
-pub borrow_from_none : (bit : Bool) (ys bs : List Bool) → bit ≡ false → zip2 (λ a b. a || b) ys bs ≡ zip2 (λ y b. borrow_bit b bit y) ys bs
-borrow_from_none bit ys bs is = zip2_alike (λ a b. a || b) (λ y b. borrow_bit b false y) ys bs from_none ∙ ap (λ t. zip2 (λ y b. borrow_bit b t y) ys bs) (sym is)
+pub borrow_from_none : (bit : Bool) (ys bs : List Bool) → bit ≡ false → zip2 (λ a b. a || b) bs ys ≡ zip2 (λ y b. borrow_bit b bit y) ys bs
+borrow_from_none bit ys bs is =
+    zip2_turned (λ a b. a || b) bs ys ∙ zip2_alike (λ a b. b || a) (λ y b. borrow_bit b false y) ys bs from_none ∙ ap (λ t. zip2 (λ y b. borrow_bit b t y) ys bs) (sym is)
 
-from_all : (a b : Bool) → (a && b) ≡ borrow_bit b true a
+from_all : (a b : Bool) → (b && a) ≡ borrow_bit b true a
 unfolding borrow_bit
 from_all true true = refl
 from_all true false = refl
 from_all false true = refl
 from_all false false = refl
 
-pub borrow_from_all : (bit : Bool) (ys bs : List Bool) → bit ≡ true → zip2 (λ a b. a && b) ys bs ≡ zip2 (λ y b. borrow_bit b bit y) ys bs
-borrow_from_all bit ys bs is = zip2_alike (λ a b. a && b) (λ y b. borrow_bit b true y) ys bs from_all ∙ ap (λ t. zip2 (λ y b. borrow_bit b t y) ys bs) (sym is)
+pub borrow_from_all : (bit : Bool) (ys bs : List Bool) → bit ≡ true → zip2 (λ a b. a && b) bs ys ≡ zip2 (λ y b. borrow_bit b bit y) ys bs
+borrow_from_all bit ys bs is =
+    zip2_turned (λ a b. a && b) bs ys ∙ zip2_alike (λ a b. b && a) (λ y b. borrow_bit b true y) ys bs from_all ∙ ap (λ t. zip2 (λ y b. borrow_bit b t y) ys bs) (sym is)
 
 with_none : (a b : Bool) → cond a false b ≡ borrow_bit false a b
 unfolding borrow_bit
@@ -262,3 +264,19 @@ borrow_turned false true true = refl
 borrow_turned false true false = refl
 borrow_turned false false true = refl
 borrow_turned false false false = refl
+
+-- what is put in place of the carries or the borrows
+pub carry_in_place : (bit : Bool) (xs cs : List Bool) → zip2 (carry_bit bit) cs xs ≡ zip2 (carry_bit bit) xs cs
+carry_in_place bit xs cs =
+    zip2_turned (carry_bit bit) cs xs ∙ zip2_alike (λ x c. carry_bit bit c x) (carry_bit bit) xs cs (λ x c. carry_third bit c x ∙ carry_second x bit c)
+
+pub borrow_in_place : (bit : Bool) (xs bs : List Bool) → zip2 (borrow_bit bit) xs bs ≡ zip2 (λ x b. borrow_bit b x bit) xs bs
+borrow_in_place bit xs bs = zip2_alike (borrow_bit bit) (λ x b. borrow_bit b x bit) xs bs (λ x b. borrow_turned bit x b)
+
+pub turned_and : (bs xs : List Bool) → zip2 (λ a b. a && b) (map not bs) xs ≡ zip2 (λ x b. cond b false x) xs bs
+turned_and [] [] = refl
+turned_and [] (x ∷ xs) = refl
+turned_and (true ∷ bs) [] = refl
+turned_and (false ∷ bs) [] = refl
+turned_and (true ∷ bs) (x ∷ xs) = ap (λ t. false ∷ t) (turned_and bs xs)
+turned_and (false ∷ bs) (x ∷ xs) = ap (λ t. x ∷ t) (turned_and bs xs)

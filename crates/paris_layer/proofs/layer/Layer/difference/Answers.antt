@@ -1,55 +1,56 @@
-use Rattle.std.proofs.Common.{◌≡◌, ◌∙◌, ap, sym, ℕ, length, replicate}
-use Rattle.std.proofs.lemmas.Simd.{length-replicate}
+use Rattle.std.proofs.Common.{◌∙◌, ap, length, sym}
+use Rattle.std.proofs.lemmas.Result.{IfOk-weaker}
+use Rattle.std.proofs.lemmas.Simd.{length-zip2}
 use Rattle.paris_plane.specs.Bits.{sum_bit, borrow_bit}
-use Rattle.paris_plane.proofs.Bits.{length-zip3}
 use Rattle.paris_layer.specs.Forms.{form_bits}
-use Rattle.paris_layer.proofs.AllSame.{zip3_same}
+use Rattle.paris_layer.proofs.AllSame.{zip2_alike, zip2_turned, zip3_left, zip3_middle, zip3_right, sum_second, sum_third}
 use Rattle.paris_layer.proofs.layer.Layer.difference.Goals as goal
-use Rattle.paris_layer.proofs.layer.Layer.difference.Goals.{in-Words+in-Words+in-Same-1, in-Words+in-Same-1, in_default}
-use Rattle.paris_layer.proofs.layer.Layer.difference.Goals.{in-Same+in-Same-y-2+in-Words-1, in-Same+in-Words-1, in-Words-1}
 
-pub returns-in-Same-Same-Same-clause-differences : goal.returns-in-Same-Same-Same-clause-differences
-returns-in-Same-Same-Same-clause-differences c =
-    let was : form_bits c.match-borrow.borrow-inside.form ≡ c.args.borrow.now =
-    elim c.match-borrow.branch [
-      | in-Words+in-Words+in-Same-1 w ↦ ap (λ i. form_bits i.form) w.borrow-inside-is ∙ sym (ap form_bits w.in-Words.is) ∙ c.borrow.view_is
-      | in-Words+in-Same-1 w ↦ ap (λ i. form_bits i.form) w.borrow-inside-is ∙ sym (ap form_bits w.in-Words.is) ∙ c.borrow.view_is
-      | in_default w ↦ ap (λ i. form_bits i.form) w.borrow-inside-is ∙ c.borrow.view_is
-    ] in
-    let s = c.in-Same-Same-Same in
-    let x : replicate s.len s.a ≡ c.args.x.now = sym (ap form_bits s.is-0) ∙ c.x.view_is in
-    let y : replicate s.field-0-1 s.b ≡ c.args.y.now = sym (ap form_bits s.is-1) ∙ c.y.view_is in
-    c.filled-difference.ensures ∙ ap (λ b. replicate s.len b) c.sum_of.ensures
-    ∙ zip3_same sum_bit s.len s.field-0-1 s.field-0-2 s.a s.b s.c c.args.x.now c.args.y.now c.args.borrow.now x y (sym (ap form_bits s.is-2) ∙ was) c.requires.second c.requires.borrows
+pub returns-in_ok-result-in-Same-clause-long : goal.returns-in_ok-result-in-Same-clause-long
+returns-in_ok-result-in-Same-clause-long c =
+    ap length (c.next.view_is ∙ c.in_ok-result-in-Same.ensures.borrows)
+    ∙ length-zip2 (borrow_bit c.in-Same.bit) c.args.x.now c.args.y.now c.requires.second ∙ c.requires.borrows
 
-pub returns-in-Same-Same-Same-clause-borrows : goal.returns-in-Same-Same-Same-clause-borrows
-returns-in-Same-Same-Same-clause-borrows c =
-    let was : form_bits c.match-borrow.borrow-inside.form ≡ c.args.borrow.now =
-    elim c.match-borrow.branch [
-      | in-Words+in-Words+in-Same-1 w ↦ ap (λ i. form_bits i.form) w.borrow-inside-is ∙ sym (ap form_bits w.in-Words.is) ∙ c.borrow.view_is
-      | in-Words+in-Same-1 w ↦ ap (λ i. form_bits i.form) w.borrow-inside-is ∙ sym (ap form_bits w.in-Words.is) ∙ c.borrow.view_is
-      | in_default w ↦ ap (λ i. form_bits i.form) w.borrow-inside-is ∙ c.borrow.view_is
-    ] in
-    let s = c.in-Same-Same-Same in
-    let x : replicate s.len s.a ≡ c.args.x.now = sym (ap form_bits s.is-0) ∙ c.x.view_is in
-    let y : replicate s.field-0-1 s.b ≡ c.args.y.now = sym (ap form_bits s.is-1) ∙ c.y.view_is in
-    let same : s.len ≡ s.field-0-2 =
-    sym (length-replicate s.len s.a) ∙ ap length x ∙ c.requires.borrows ∙ sym (ap length (sym (ap form_bits s.is-2) ∙ was)) ∙ length-replicate s.field-0-2 s.c in
-    c.filled-in-Same-Same-Same.view_is ∙ c.filled.ensures ∙ ap (λ b. replicate s.len b) c.borrow_of.ensures
-    ∙ ap (λ (k : ℕ). replicate k (borrow_bit s.c s.a s.b)) same ∙ zip3_same borrow_bit s.field-0-2 s.len s.field-0-1 s.c s.a s.b c.args.borrow.now c.args.x.now c.args.y.now (sym (ap form_bits s.is-2) ∙ was) x y (sym c.requires.borrows) (sym c.requires.borrows ∙ c.requires.second)
+pub returns-in_ok-result-in-Same-clause-differences : goal.returns-in_ok-result-in-Same-clause-differences
+returns-in_ok-result-in-Same-clause-differences c =
+    let s = c.in-Same in
+    c.in_ok-result-in-Same.ensures.differences
+    ∙ zip2_alike (sum_bit s.bit) (λ x y. sum_bit x y s.bit) c.args.x.now c.args.y.now (λ x y. sym (sum_third x y s.bit))
+    ∙ sym (zip3_right sum_bit s.field-0 s.bit c.args.x.now c.args.y.now c.args.borrow.now (sym (ap form_bits s.is) ∙ c.borrow.view_is) c.requires.second c.requires.borrows)
 
-pub returns-clause-long : goal.returns-clause-long
-returns-clause-long c =
-    let was : form_bits c.match-borrow.borrow-inside.form ≡ c.args.borrow.now =
-    elim c.match-borrow.branch [
-      | in-Words+in-Words+in-Same-1 w ↦ ap (λ i. form_bits i.form) w.borrow-inside-is ∙ sym (ap form_bits w.in-Words.is) ∙ c.borrow.view_is
-      | in-Words+in-Same-1 w ↦ ap (λ i. form_bits i.form) w.borrow-inside-is ∙ sym (ap form_bits w.in-Words.is) ∙ c.borrow.view_is
-      | in_default w ↦ ap (λ i. form_bits i.form) w.borrow-inside-is ∙ c.borrow.view_is
-    ] in
-    let then : form_bits c.match-x-2.borrow-inside.form ≡ form_bits c.match-borrow.borrow-inside.form =
-    elim c.match-x-2.branch [
-      | in-Same+in-Same-y-2+in-Words-1 w ↦ ap (λ i. form_bits i.form) w.borrow-inside-is
-      | in-Same+in-Words-1 w ↦ ap (λ i. form_bits i.form) w.borrow-inside-is
-      | in-Words-1 w ↦ ap (λ i. form_bits i.form) w.borrow-inside-is
-    ] in
-    ap length (c.next.view_is ∙ c.in_ok-result.ensures.borrows) ∙ length-zip3 borrow_bit _ _ _ (ap length (then ∙ was) ∙ sym c.requires.borrows) (ap length (then ∙ was) ∙ sym c.requires.borrows ∙ c.requires.second) ∙ ap length (then ∙ was)
+pub returns-in_ok-result-in-Same-clause-borrows : goal.returns-in_ok-result-in-Same-clause-borrows
+returns-in_ok-result-in-Same-clause-borrows c =
+    let s = c.in-Same in
+    c.next.view_is ∙ c.in_ok-result-in-Same.ensures.borrows
+    ∙ sym (zip3_left borrow_bit s.field-0 s.bit c.args.borrow.now c.args.x.now c.args.y.now (sym (ap form_bits s.is) ∙ c.borrow.view_is) (sym c.requires.borrows))
+
+pub returns-in-Words-Same-clause-differences : goal.returns-in-Words-Same-clause-differences
+returns-in-Words-Same-clause-differences c =
+    let s = c.in-Words-Same in
+    IfOk-weaker c.take_bit.result _ _
+    (λ r e. e ∙ zip2_alike (sum_bit s.bit) (λ x z. sum_bit x s.bit z) c.args.x.now c.args.borrow.now (λ x z. sym (sum_second x s.bit z))
+    ∙ sym (zip3_middle sum_bit s.field-0-1 s.bit c.args.x.now c.args.y.now c.args.borrow.now (sym (ap form_bits s.is-1) ∙ c.y.view_is) c.requires.second))
+    c.take_bit.ensures.differences
+
+pub returns-in-Words-Same-clause-borrows : goal.returns-in-Words-Same-clause-borrows
+returns-in-Words-Same-clause-borrows c =
+    let s = c.in-Words-Same in
+    IfOk-weaker c.take_bit.result _ _
+    (λ r e. e ∙ zip2_turned (λ x b. borrow_bit b x s.bit) c.args.x.now c.args.borrow.now
+    ∙ sym (zip3_right borrow_bit s.field-0-1 s.bit c.args.borrow.now c.args.x.now c.args.y.now (sym (ap form_bits s.is-1) ∙ c.y.view_is) (sym c.requires.borrows) (sym c.requires.borrows ∙ c.requires.second)))
+    c.take_bit.ensures.borrows
+
+pub returns-in-Same-default-clause-differences : goal.returns-in-Same-default-clause-differences
+returns-in-Same-default-clause-differences c =
+    let s = c.in-Same-default in
+    IfOk-weaker c.take_from_bit.result _ _
+    (λ r e. e ∙ sym (zip3_left sum_bit s.field-0-0 s.bit c.args.x.now c.args.y.now c.args.borrow.now (sym (ap form_bits s.is-0) ∙ c.x.view_is) c.requires.second))
+    c.take_from_bit.ensures.differences
+
+pub returns-in-Same-default-clause-borrows : goal.returns-in-Same-default-clause-borrows
+returns-in-Same-default-clause-borrows c =
+    let s = c.in-Same-default in
+    IfOk-weaker c.take_from_bit.result _ _
+    (λ r e. e ∙ zip2_turned (λ y b. borrow_bit b s.bit y) c.args.y.now c.args.borrow.now
+    ∙ sym (zip3_middle borrow_bit s.field-0-0 s.bit c.args.borrow.now c.args.x.now c.args.y.now (sym (ap form_bits s.is-0) ∙ c.x.view_is) (sym c.requires.borrows)))
+    c.take_from_bit.ensures.borrows
