@@ -73,7 +73,7 @@ def test_a_script_of_nearly_a_command_s_name_is_run(tmp_path: Path) -> None:
 
 
 @pytest.mark.parametrize("given", [None, "", "glibc.malloc.check=0"])
-def test_the_program_asks_for_huge_pages_where_the_user_says_nothing(given: str | None) -> None:
+def test_the_program_gets_settings_of_memory_where_the_user_says_nothing(given: str | None) -> None:
     environment = {name: value for name, value in os.environ.items() if name != "GLIBC_TUNABLES"}
     if given is not None:
         environment["GLIBC_TUNABLES"] = given
@@ -83,9 +83,10 @@ def test_the_program_asks_for_huge_pages_where_the_user_says_nothing(given: str 
         child.stdin.write("list\n")
         child.stdin.flush()
         assert child.stdout.readline() == "rows 0\n"
-        found = Path(f"/proc/{child.pid}/environ").read_text().split("\0")
-    wanted = "glibc.malloc.hugetlb=1" if given is None else given
-    assert f"GLIBC_TUNABLES={wanted}" in found
+        # (the C library puts an end behind each setting that it has read)
+        found = Path(f"/proc/{child.pid}/environ").read_text().replace("\0", ":")
+    wanted = "glibc.malloc.hugetlb=1:glibc.malloc.tcache_count=127" if given is None else given
+    assert f":GLIBC_TUNABLES={wanted}:" in f":{found}"
 
 
 def test_a_terminal_is_told_what_is_waited_for() -> None:
