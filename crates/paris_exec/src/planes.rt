@@ -97,20 +97,24 @@ fn put(order: &Order, key: &Key, new: FieldValue) -> Result<FieldValue, AllocErr
     put_where(order, flag_plane(order, &FlagName::Context), key, new)
 }
 
-/// The same for a flag of the set.
+/// The same for a flag of the set. Where all processors are selected, no copy is made.
 fn put_flag(
     alloc: Global,
     order: &Order,
     flag: &FlagName,
-    new: &Layer,
+    new: Layer,
 ) -> Result<FieldValue, AllocError>
     requires context { has_key (reads order.now.plan) (Flag order.now.plan.set_no Context) ≡ true }
     requires read { has_key (reads order.now.plan) (Flag order.now.plan.set_no flag.now) ≡ true }
-    requires count { length new.now ≡ processor_count order.now.plan.axes }
-    ensures { IfOk result (λ value. value ≡ put_value order.now (Flag order.now.plan.set_no flag.now) (flag_value new.now)) }
+    requires count { length new ≡ processor_count order.now.plan.axes }
+    ensures { IfOk result (λ value. value ≡ put_value order.now (Flag order.now.plan.set_no flag.now) (flag_value new)) }
 {
     let selected = flag_plane(order, &FlagName::Context);
-    let bits = Layer::selected(alloc, selected, new, flag_plane(order, flag))?;
+    let old = flag_plane(order, flag);
+    if selected.is_all(true) {
+        return FieldValue::from_layer(alloc, new);
+    }
+    let bits = Layer::selected(alloc, selected, &new, old)?;
     FieldValue::from_layer(alloc, bits)
 }
 
@@ -143,7 +147,7 @@ pub(crate) fn put_flag_alone(
     ensures { IfOk result (λ values. values.items ≡ put_value order.now (Flag order.now.plan.set_no flag.now) (flag_value new) ∷ []) }
 {
     let mut values = Vec::with_capacity(alloc, 1)?;
-    values.push(put_flag(alloc, order, flag, &new)?)?;
+    values.push(put_flag(alloc, order, flag, new)?)?;
     Ok(values)
 }
 
@@ -161,8 +165,9 @@ pub(crate) fn put_overflowing(
     ensures { IfOk result (λ values. values.items ≡ put_value order.now (Field to.now.field) new.value ∷ put_value order.now (Flag order.now.plan.set_no Overflow) (flag_value new.overflow) ∷ []) }
 {
     let Overflowing { value, overflow } = new;
-    let mut values = put_field(alloc, order, to, value)?;
-    values.push(put_flag(alloc, order, &FlagName::Overflow, &overflow)?)?;
+    let mut values = Vec::with_capacity(alloc, 2)?;
+    values.push(put(order, &Key::Field(to.field), value)?)?;
+    values.push(put_flag(alloc, order, &FlagName::Overflow, overflow)?)?;
     Ok(values)
 }
 
@@ -185,7 +190,7 @@ pub(crate) fn put_quotient(
     let divided = Layer::combined::<Without>(alloc, selected, &overflow)?;
     let mut values = Vec::with_capacity(alloc, 2)?;
     values.push(put_where(order, &divided, &Key::Field(to.field), value)?)?;
-    values.push(put_flag(alloc, order, &FlagName::Overflow, &overflow)?)?;
+    values.push(put_flag(alloc, order, &FlagName::Overflow, overflow)?)?;
     Ok(values)
 }
 
@@ -208,8 +213,9 @@ pub(crate) fn put_sum(
         carry,
         overflow,
     } = new;
-    let mut values = put_field(alloc, order, to, value)?;
-    values.push(put_flag(alloc, order, &FlagName::Carry, &carry)?)?;
-    values.push(put_flag(alloc, order, &FlagName::Overflow, &overflow)?)?;
+    let mut values = Vec::with_capacity(alloc, 3)?;
+    values.push(put(order, &Key::Field(to.field), value)?)?;
+    values.push(put_flag(alloc, order, &FlagName::Carry, carry)?)?;
+    values.push(put_flag(alloc, order, &FlagName::Overflow, overflow)?)?;
     Ok(values)
 }
