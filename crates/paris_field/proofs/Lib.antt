@@ -7,3 +7,5 @@ pub mod Halves
 pub mod Addresses
 pub mod Places
 pub mod HalfWords
+pub mod Eights
+pub mod Spread

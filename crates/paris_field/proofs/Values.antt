@@ -5,7 +5,7 @@ use Rattle.std.proofs.Math.ListN.{get_or-append}
 use Rattle.std.specs.Bool.{Decides}
 use Rattle.std.proofs.lemmas.Bool.Decides.{Decides-and, Decides-eqb, Decides-like, same_from_decides}
 use Rattle.std.proofs.lemmas.Slice.Eq.{slice_eq-Decides}
-use Rattle.std.proofs.lemmas.List.{get_or-take, length-take-le, length-map, get_or-map, get_or-replicate, length-replicate, length-append, length-drop, get_or-append_right, get_or-drop}
+use Rattle.std.proofs.lemmas.List.{get_or-take, length-take-le, length-map, get_or-map, get_or-replicate, length-replicate, length-append, length-drop, get_or-append_right, get_or-drop, drop_all, append-nil}
 use Rattle.std.proofs.lemmas.List.Elements.{All-from_get_or}
 use Rattle.paris_model.specs.Store.{bit}
 use Rattle.paris_field.specs.Fields.{FieldNumbers, AllFit, field_eq, overwritten}
@@ -120,6 +120,17 @@ eq_is r x y same = same_from_decides r (field_eq x y) same (Decides-field_eq x y
 pub length-overwritten : (xs ys : List ℕ) (from : ℕ) → from + length ys ≤ length xs → length (overwritten xs from ys) ≡ length xs
 length-overwritten xs ys from room =
     omega (arith, length-append (take from xs) (ys ++ drop (from + length ys) xs), length-append ys (drop (from + length ys) xs), length-take-le from xs (omega arith), length-drop (from + length ys) xs)
+
+-- in place of all of them
+overwritten_whole : (xs ys : List ℕ) (from : ℕ) → from + length ys ≤ length xs → length ys ≡ length xs → ys ≡ overwritten xs from ys
+overwritten_whole xs ys from room whole =
+    let none : from ≡ 0 = omega arith in
+    sym (ap (λ f. take f xs ++ (ys ++ drop (f + length ys) xs)) none ∙ ap (λ l. ys ++ l) (drop_all (0 + length ys) xs (omega arith)) ∙ append-nil ys)
+
+pub whole_value : (v w : ℕ) (xs ys : List ℕ) (from : ℕ) {f : FieldNumbers} → from + length ys ≤ length xs → length ys ≡ length xs → v ≡ w → f ≡ record { width = v; numbers = ys } → f ≡ record { width = w; numbers = overwritten xs from ys }
+unfolding made
+whole_value v w xs ys from room whole width is =
+    is ∙ ap (λ k. made k ys) width ∙ ap (made w) (overwritten_whole xs ys from room whole)
 
 pub put_is : (old new : ℕ → ℕ) (xs ys : List ℕ) (from : ℕ) → from + length ys ≤ length xs → ((v : ℕ) → v < length xs → old v ≡ get_or xs v 0) → ((i : ℕ) → i < length ys → new (from + i) ≡ get_or ys i 0) → ((v : ℕ) → v < length xs → (from ≤ v → from + length ys ≤ v) → new v ≡ old v) → (v : ℕ) → v < length xs → new v ≡ get_or (overwritten xs from ys) v 0
 put_is old new xs ys from room at put others v h =

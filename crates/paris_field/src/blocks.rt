@@ -1,10 +1,11 @@
 //! Numbers in blocks of 64 processors: 64 planes of a block are a square of bits, whose turn has a word of each processor's number.
 
-ghost use Rattle.std.specs.Prelude.{◌≡◌, ◌≢◌, ℕ, ◌+◌, ◌*◌, ◌/◌, ◌%◌, ◌^◌, ◌<◌, ◌≤◌, IfOk, OnOk, false, length, min, slice_index, slice_index_or, take};
+ghost use Rattle.std.specs.Prelude.{◌≡◌, ◌≢◌, ℕ, ◌+◌, ◌*◌, ◌/◌, ◌%◌, ◌^◌, ◌<◌, ◌≤◌, IfOk, OnOk, false, length, min, slice_index, slice_index_or, take, []};
 ghost use Rattle.paris_model.specs.Store.{low};
 ghost use Rattle.paris_plane.specs.Bits.{word_bit};
 ghost use Rattle.paris_field.specs.Numbers.{AllOf, number_at, numbers, plane_at};
 
+use crate::quads::quad_words;
 use crate::transpose::{transpose8, transpose16, transpose32, transpose64};
 use paris_layer::Layer;
 use paris_plane::Plane;
@@ -232,14 +233,60 @@ fn push_words(
     Ok(())
 }
 
-/// The numbers of `vps` processors, each a word, block by block.
+/// Adds the numbers of a quad, each a word, to those of the processors below.
+fn push_quad(
+    list: &mut Vec<u64>,
+    layers: &[Layer],
+    quad: usize,
+    vps: usize,
+) -> Result<(), AllocError>
+    requires narrow { length layers.now ≤ 64 }
+    requires within { 256 * quad + 256 ≤ vps }
+    requires long { AllOf vps layers.now }
+    requires below { list.old.items ≡ numbers (256 * quad) layers.now }
+    ensures { OnOk result (list.new.items ≡ numbers (256 * quad + 256) layers.now) }
+{
+    let words = quad_words(layers, quad, vps);
+    list.extend_from_slice(&words)?;
+    Ok(())
+}
+
+/// Puts the numbers of the first quads, each a word, into an empty list.
+fn push_quads(
+    list: &mut Vec<u64>,
+    layers: &[Layer],
+    quads: usize,
+    vps: usize,
+) -> Result<(), AllocError>
+    requires narrow { length layers.now ≤ 64 }
+    requires within { 256 * quads ≤ vps }
+    requires long { AllOf vps layers.now }
+    requires empty { list.old.items ≡ [] }
+    ensures { OnOk result (list.new.items ≡ numbers (256 * quads) layers.now) }
+{
+    for quad in 0..quads {
+        push_quad(list, layers, quad, vps)?;
+    }
+    Ok(())
+}
+
+/// How many of the first quads are turned whole. None are where the planes of a block lie in squares of 16 by 16 bits.
+pub(crate) fn whole_quads(width: usize, vps: usize) -> usize
+    ensures { 256 * result ≤ vps }
+{
+    if width <= 16 { 0 } else { vps / 256 }
+}
+
+/// The numbers of `vps` processors, each a word: quad by quad, and then block by block.
 pub fn words_in(alloc: Global, layers: &[Layer], vps: usize) -> Result<Vec<u64>, AllocError>
     requires narrow { length layers.now ≤ 64 }
     requires long { AllOf vps layers.now }
     ensures { IfOk result (λ list. list.items ≡ numbers vps layers.now) }
 {
     let mut list = Vec::with_capacity(alloc, vps)?;
-    for block in 0..vps.div_ceil(64) {
+    let quads = whole_quads(layers.len(), vps);
+    push_quads(&mut list, layers, quads, vps)?;
+    for block in 4 * quads..vps.div_ceil(64) {
         push_words(&mut list, layers, block, vps)?;
     }
     Ok(list)

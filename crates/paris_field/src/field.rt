@@ -10,7 +10,7 @@ use crate::planes::{
     address_layers, constant_layers, copy_layers, layers_of, merge_layers, merged_layers,
     number_in, planes_of, put_numbers, same_layers, zero_layers, zero_planes,
 };
-use crate::words::{put_words_from, words_of};
+use crate::words::{put_all_words, put_words_from, words_of};
 use paris_layer::Layer;
 use paris_plane::Plane;
 use std::alloc::{AllocError, Global};
@@ -102,7 +102,7 @@ impl FieldValue {
     {
         let vps = words.len();
         let mut planes = zero_planes(alloc, width as usize, vps)?;
-        put_words_from(&mut planes, 0, words, vps);
+        put_all_words(&mut planes, words);
         FieldValue::from_planes(planes, vps)
     }
 
@@ -229,6 +229,9 @@ impl FieldValue {
         requires fit { AllFit self.now.width words.now }
         ensures { IfOk result (λ value. value ≡ record { width = self.now.width; numbers = overwritten self.now.numbers from words.now }) }
     {
+        if words.len() == self.vps {
+            return FieldValue::from_words(*self.planes.allocator(), self.width(), words);
+        }
         let mut planes = planes_of(*self.planes.allocator(), &self.planes)?;
         put_words_from(&mut planes, from, words, self.vps);
         FieldValue::from_planes(planes, self.vps)

@@ -3,8 +3,10 @@
 
 mod blocks;
 mod field;
+mod lanes;
 mod pairs;
 mod planes;
+mod quads;
 mod shared;
 mod transpose;
 mod words;

@@ -6,8 +6,9 @@ ghost use Rattle.paris_plane.specs.Bits.{word_bit};
 ghost use Rattle.paris_field.specs.Fields.{AllFit};
 ghost use Rattle.paris_field.specs.Numbers.{AllOf, number_at, plane_at};
 
-use crate::blocks::put_rows;
+use crate::blocks::{put_rows, whole_quads};
 use crate::planes::put_number;
+use crate::quads::put_quad_words;
 use paris_plane::Plane;
 use std::alloc::{AllocError, Global};
 
@@ -100,6 +101,35 @@ pub(crate) fn put_words_from(planes: &mut [Plane], from: usize, words: &[u64], v
     for block in from / 64..(from + words.len()).div_ceil(64) {
         put_in_block(planes, from, words, block, vps);
     }
+}
+
+/// Puts words into the processors of the first quads, as far as their bits have planes.
+fn put_quads(planes: &mut [Plane], words: &[u64], quads: usize)
+    requires narrow { length planes.old ≤ 64 }
+    requires within { 256 * quads ≤ length words.now }
+    requires long { AllOf (length words.now) planes.old }
+    ensures long { AllOf (length words.now) planes.new }
+    ensures put { (v : ℕ) → v < 256 * quads → number_at planes.new v ≡ low (length planes.old) (slice_index words.now v) }
+{
+    for quad in 0..quads {
+        put_quad_words(planes, &words[256 * quad..], quad, words.len());
+    }
+}
+
+/// Puts a word into each processor: quad by quad, and then block by block, as far as its bits have planes.
+pub(crate) fn put_all_words(planes: &mut [Plane], words: &[u64])
+    requires narrow { length planes.old ≤ 128 }
+    requires long { AllOf (length words.now) planes.old }
+    ensures long { AllOf (length words.now) planes.new }
+    ensures put { (v : ℕ) → v < length words.now → number_at planes.new v ≡ low (length planes.old) (slice_index words.now v) }
+{
+    if planes.len() > 64 {
+        put_words_from(planes, 0, words, words.len());
+        return;
+    }
+    let quads = whole_quads(planes.len(), words.len());
+    put_quads(planes, words, quads);
+    put_words_from(planes, 256 * quads, &words[256 * quads..], words.len());
 }
 
 /// Numbers below `2 ^ 64` as words.
