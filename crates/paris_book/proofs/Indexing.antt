@@ -95,6 +95,10 @@ remove_fewer (x ∷ xs) (suc i) = let rest = remove_fewer xs i in omega (arith, 
 pub found_in_index : (rows : List Entry) (index : List (ℕ × Footprint)) (id : ℕ) → footprints data_plan rows ≡ index → IsSome (place_of rows id) → IsSome (place_of index id)
 found_in_index rows index id is there = subst IsSome (sym (place_of-footprints data_plan rows id) ∙ ap (λ (l : List (ℕ × Footprint)). place_of l id) is) there
 
+-- and has their ids
+pub ids_indexed : (rows : List Entry) (index : List (ℕ × Footprint)) → footprints data_plan rows ≡ index → ids_of rows ≡ ids_of index
+ids_indexed rows index is = sym (ids-footprints data_plan rows) ∙ ap (λ (l : List (ℕ × Footprint)). ids_of l) is
+
 -- there is a status for each place
 pub as_many : (rows : List Entry) (index : List (ℕ × Footprint)) (statuses : List Status) → IsIndexed rows index statuses → length statuses ≡ length rows
 as_many rows index statuses w = ap length (sym w.standing) ∙ length-map rows status_in

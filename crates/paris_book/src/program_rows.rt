@@ -83,7 +83,7 @@ impl Rows {
         ensures next_id { IfOk result (λ rows. rows.next_id ≡ self.now.next_id) }
     {
         let program = self.program.copy()?;
-        let index = self.index.copy()?;
+        let index = self.index.copy(self.alloc)?;
         let statuses = self.statuses.copy()?;
         Ok(Rows {
             alloc: self.alloc,
@@ -320,7 +320,7 @@ impl Rows {
         self.statuses.insert(place, row.status())?;
         let id = self.program.put_at(place, row);
         add_row(&mut self.index, &self.program, place, plan);
-        self.index.share(self.alloc);
+        self.index.share();
         Ok(id)
     }
 
@@ -333,11 +333,12 @@ impl Rows {
         ensures own { KeepsOwn self.old self.new }
     {
         self.index.own(self.alloc)?;
-        self.index.own_row(id)?;
+        self.index.own_row(&self.program, id)?;
+        self.program.own_to_delete(id)?;
         let place = self.program.place_of(id).unwrap();
-        self.program.delete(id)?;
-        self.index.remove(id);
-        self.index.share(self.alloc);
+        self.index.remove(&self.program, id);
+        let _row = self.program.delete(id);
+        self.index.share();
         self.statuses.remove(place);
         Ok(())
     }
@@ -352,13 +353,13 @@ impl Rows {
     {
         let plan = row.shared_plan()?;
         self.index.own(self.alloc)?;
-        self.index.room_to_replace(id, plan.get())?;
+        self.index.room_to_replace(&self.program, id, plan.get())?;
         self.program.own(id)?;
         let place = self.program.place_of(id).unwrap();
         self.statuses.set(place, row.status());
         self.program.replace(id, row);
-        self.index.replace(id, plan);
-        self.index.share(self.alloc);
+        self.index.replace(&self.program, id, plan);
+        self.index.share();
         Ok(())
     }
 }

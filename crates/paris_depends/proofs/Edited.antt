@@ -9,13 +9,14 @@ use Rattle.std.proofs.lemmas.Option.{slice_get-map}
 use Rattle.paris_names.specs.declared.keys.Key.{Key}
 use Rattle.paris_names.specs.Keys.{has_key, key_slot}
 use Rattle.paris_program.specs.Program.{id_at, place_of, with_row}
+use Rattle.paris_program.proofs.CallerLemmas.{row_there}
 use Rattle.paris_depends.specs.Index.{Footprint}
 use Rattle.paris_depends.specs.Lists.{Lists, HasRoomFor, room_at}
 use Rattle.paris_depends.specs.Places.{count_to, nth_place}
 use Rattle.paris_depends.specs.Sides.{AreEntries, entries, keys_on, test_of}
 use Rattle.paris_depends.specs.declared.sides.Side.{Side}
-use Rattle.paris_depends.proofs.CallerLemmas.{remove-insert}
-use Rattle.paris_depends.proofs.Kept.{entries-insert}
+use Rattle.paris_depends.proofs.CallerLemmas.{remove-insert, same_place}
+use Rattle.paris_depends.proofs.Kept.{entries-insert, ids-insert}
 use Rattle.paris_depends.proofs.Places.{count_within, found_at, item_at_place, length-ids, place_count}
 
 -- the id of a row is that at its place
@@ -80,7 +81,7 @@ module _ (side : Side) (key : Key) (rows : List (ℕ × Footprint)) (place : ℕ
       omega (arith, ap length is, count_within test (remove rows place) place, length-ids (filter test (remove rows place)), count-remove test rows place)
 
   -- an entry is one of those before the place where its row stands before it
-  pub ranked : (ids : List ℕ) (m id at : ℕ) → IsDistinct nat_eq (keys_of rows) → place < length rows → AreEntries side key rows place ids → slice_get ids m ≡ Some id → IfSome (place_of rows id) (λ q. at ≡ q)
+  ranked : (ids : List ℕ) (m id at : ℕ) → IsDistinct nat_eq (keys_of rows) → place < length rows → AreEntries side key rows place ids → slice_get ids m ≡ Some id → IfSome (place_of rows id) (λ q. at ≡ q)
       → (at < place → m < count_to test rows place) × (place ≤ at → count_to test rows place ≤ m)
   ranked ids m id at distinct within (inl is) there found =
       let e = entry_row test rows m id (ap (λ (l : List ℕ). slice_get l m) (sym is) ∙ there) in
@@ -98,6 +99,22 @@ module _ (side : Side) (key : Key) (rows : List (ℕ × Footprint)) (place : ℕ
       let counted = place_count test base m place (omega (arith, long)) in
       let same = count-remove test rows place in
       ((λ h. let c = counted.0 (s.2 (omega (arith, here))) in omega (arith, same, c)), (λ h. let c = counted.1 (s.3 (omega (arith, here))) in omega (arith, same, c)))
+
+  -- the same, by the places of other rows with the same ids
+  pub ranked_by : {S : Type 0} (others : List (ℕ × S)) → keys_of others ≡ keys_of rows → (ids : List ℕ) (m id at : ℕ) → IsDistinct nat_eq (keys_of others) → place < length rows → AreEntries side key rows place ids → slice_get ids m ≡ Some id → IfSome (place_of others id) (λ q. at ≡ q)
+      → (at < place → m < count_to test rows place) × (place ≤ at → count_to test rows place ≤ m)
+  ranked_by others same ids m id at distinct within is there found =
+      let P : List ℕ → Type 0 = IsDistinct nat_eq in
+      ranked ids m id at (subst P same distinct) within is there (subst (λ (o : Option ℕ). IfSome o (λ q. at ≡ q)) (same_place others rows id same) found)
+
+-- where the other rows of a program are those of an index, the ids are those of the program once its row is put in
+pub all_ids : {S T : Type 0} (rows : List (ℕ × S)) (others : List (ℕ × T)) (id place : ℕ) (x : T) → place_of rows id ≡ Some place → remove (keys_of rows) place ≡ keys_of others → keys_of rows ≡ keys_of (insert others place (id, x))
+all_ids {S} rows others id place x at same =
+    let there = row_there rows id place at in
+    sym
+    (ids-insert others place (id, x)
+    ∙ ap (λ ids. insert ids place id) (sym same)
+    ∙ put-back (keys_of rows) place id (slice_get-map (λ (r : ℕ × S). r.0) rows place ∙ ap (option_map (λ (r : ℕ × S). r.0)) there.1))
 
 -- the entries of all rows, by those of all but one
 pub entries-back : (side : Side) (rows : List (ℕ × Footprint)) (i : ℕ) (x : ℕ × Footprint) (k : Key) → slice_get rows i ≡ Some x

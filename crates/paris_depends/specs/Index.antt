@@ -14,11 +14,10 @@ pub record Footprint : Type 0 where
   pub read : List Key
 
 -- what fits with no more memory, where no copy may share it: for each place, and for the end, whether a row can be put in there; for each
--- row whether it may be changed; and how many more ids fit, among all, and among the writers and the readers of each key
+-- row whether it may be changed; and how many more ids fit among the writers and the readers of each key
 pub record Room : Type 0 where
   pub places : List Bool
   pub own : List Bool
-  pub spare : ℕ
   pub writers : List ℕ
   pub readers : List ℕ
 
@@ -59,7 +58,6 @@ pub record HasRoom (room : Room) (f : Footprint) : Type 0 where
 
 -- a row with this footprint can be put in at a place with no more memory
 pub record CanAdd (room : Room) (place : ℕ) (f : Footprint) : Type 0 where
-  pub spare : 0 < room.spare
   pub there : slice_get room.places place ≡ Some true
   pub lists : HasRoom room f
 

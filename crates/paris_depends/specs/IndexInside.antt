@@ -13,7 +13,6 @@ indexed i = record {
   room = record {
     places = i.table.room;
     own = i.table.own;
-    spare = i.table.spare;
     writers = i.writers.room;
     readers = i.readers.room;
   };

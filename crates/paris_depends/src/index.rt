@@ -121,20 +121,23 @@ impl Index {
         self.readers.at(key.slot(), i)
     }
 
-    /// How many keys the row with this id writes: at most three.
-    pub fn keys(&self, id: RowId) -> usize
-        requires { IsSome (keys_written self.now.rows id.0) }
+    /// How many keys the row with this id writes: at most three. The index is of the program's rows.
+    pub fn keys<T>(&self, program: &Program<T>, id: RowId) -> usize
+        requires of { ids_of program.now.rows ≡ ids_of self.now.rows }
+        requires there { IsSome (keys_written self.now.rows id.0) }
         ensures value { IfSome (keys_written self.now.rows id.0) (λ keys. result ≡ length keys) }
         ensures few { result ≤ 3 }
     {
-        match self.table.row(id) {
+        match self.table.row(program, id) {
             Some(row) => row.written().len(),
             None => unreachable!(),
         }
     }
 
-    /// A key that the row with this id writes: the one at this place among them, counted from 0 in the order of its plan.
-    pub fn key(&self, id: RowId, i: usize, looks: &mut Looks) -> Key
+    /// A key that the row with this id writes: the one at this place among them, counted from 0 in the order of its plan. The index is
+    /// of the program's rows.
+    pub fn key<T>(&self, program: &Program<T>, id: RowId, i: usize, looks: &mut Looks) -> Key
+        requires of { ids_of program.now.rows ≡ ids_of self.now.rows }
         requires within { (keys : List AnyKey) → keys_written self.now.rows id.0 ≡ Some keys → i < length keys }
         requires there { IsSome (keys_written self.now.rows id.0) }
         requires few { looks.old < 2 ^ 63 }
@@ -142,7 +145,7 @@ impl Index {
         ensures looks { looks.new ≡ looks.old + 1 }
     {
         looks.add_one();
-        match self.table.row(id) {
+        match self.table.row(program, id) {
             Some(row) => row.written()[i],
             None => unreachable!(),
         }
@@ -162,13 +165,15 @@ impl Index {
         room_for(&mut self.readers, plan.reads())
     }
 
-    /// Makes the row with this id one that may be changed, with the lists of its keys. The rows stay, also where memory is refused.
-    pub fn own(&mut self, id: RowId) -> Result<(), AllocError>
-        requires { IsSome (place_of self.old.rows id.0) }
+    /// Makes the row with this id one that may be changed, with the lists of its keys. The index is of the program's rows. They stay,
+    /// also where memory is refused.
+    pub fn own<T>(&mut self, program: &Program<T>, id: RowId) -> Result<(), AllocError>
+        requires of { ids_of program.now.rows ≡ ids_of self.old.rows }
+        requires there { IsSome (place_of self.old.rows id.0) }
         ensures rows { self.new.rows ≡ self.old.rows }
         ensures ok { OnOk result (CanChange self.new id.0) }
     {
-        let place = self.table.place_of(id).unwrap();
+        let place = self.table.place_of(program, id).unwrap();
         self.table.own(place)?;
         let row = self.table.at(place);
         room_for(&mut self.writers, row.keys_on(Side::Writers))?;
@@ -193,40 +198,93 @@ impl Index {
         requires room { CanAdd self.old.room (place_in program.now.rows id.0) (footprint plan) }
         ensures { self.new.rows ≡ insert self.old.rows (place_in program.now.rows id.0) (id.0, footprint plan) }
     {
+        // The length is what says that one more row fits.
+        let _len = program.len();
         let place = program.place_of(id).unwrap();
         self.table.put(place, id, plan);
-        put_all(&mut self.writers, &self.table, Side::Writers, place);
-        put_all(&mut self.readers, &self.table, Side::Readers, place);
+        put_all(
+            &mut self.writers,
+            program,
+            &self.table,
+            Side::Writers,
+            place,
+        );
+        put_all(
+            &mut self.readers,
+            program,
+            &self.table,
+            Side::Readers,
+            place,
+        );
     }
 
-    /// Takes the row with this id out, which may be changed. It takes no memory.
-    pub fn remove(&mut self, id: RowId)
+    /// Takes the row with this id out, which may be changed. The index is of the program's rows, with this one. It takes no memory.
+    pub fn remove<T>(&mut self, program: &Program<T>, id: RowId)
+        requires of { ids_of program.now.rows ≡ ids_of self.old.rows }
         requires there { IsSome (place_of self.old.rows id.0) }
         requires own { CanChange self.old id.0 }
         ensures { self.new.rows ≡ remove self.old.rows (place_in self.old.rows id.0) }
     {
-        let place = self.table.place_of(id).unwrap();
-        take_all_out(&mut self.writers, &self.table, Side::Writers, place);
-        take_all_out(&mut self.readers, &self.table, Side::Readers, place);
+        let place = self.table.place_of(program, id).unwrap();
+        take_all_out(
+            &mut self.writers,
+            program,
+            &self.table,
+            Side::Writers,
+            place,
+        );
+        take_all_out(
+            &mut self.readers,
+            program,
+            &self.table,
+            Side::Readers,
+            place,
+        );
         self.table.take_out(place);
     }
 
-    /// Gives the row with this id, which may be changed, another plan, for which there is room. It takes no memory.
-    pub fn replace(&mut self, id: RowId, plan: SharedPlan)
+    /// Gives the row with this id, which may be changed, another plan, for which there is room. The index is of the program's rows. It
+    /// takes no memory.
+    pub fn replace<T>(&mut self, program: &Program<T>, id: RowId, plan: SharedPlan)
+        requires of { ids_of program.now.rows ≡ ids_of self.old.rows }
         requires there { IsSome (place_of self.old.rows id.0) }
         requires own { CanChange self.old id.0 }
         requires room { HasRoom self.old.room (footprint plan) }
         ensures { self.new.rows ≡ with_row self.old.rows (place_in self.old.rows id.0) (footprint plan) }
     {
-        let place = self.table.place_of(id).unwrap();
-        take_all_out(&mut self.writers, &self.table, Side::Writers, place);
-        take_all_out(&mut self.readers, &self.table, Side::Readers, place);
+        let place = self.table.place_of(program, id).unwrap();
+        take_all_out(
+            &mut self.writers,
+            program,
+            &self.table,
+            Side::Writers,
+            place,
+        );
+        take_all_out(
+            &mut self.readers,
+            program,
+            &self.table,
+            Side::Readers,
+            place,
+        );
         self.table.replace(place, plan);
-        put_all(&mut self.writers, &self.table, Side::Writers, place);
-        put_all(&mut self.readers, &self.table, Side::Readers, place);
+        put_all(
+            &mut self.writers,
+            program,
+            &self.table,
+            Side::Writers,
+            place,
+        );
+        put_all(
+            &mut self.readers,
+            program,
+            &self.table,
+            Side::Readers,
+            place,
+        );
     }
 
-    /// Makes the rows and the lists ones that copies share. What memory is refused for stays as it is.
+    /// Makes the rows and the lists ones that copies share. It takes no memory.
     pub fn share(&mut self)
         ensures { self.new.rows ≡ self.old.rows }
     {

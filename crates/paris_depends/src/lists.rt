@@ -41,11 +41,11 @@ fn widen(alloc: Global, lists: &mut Vec<IdList>, slot: usize) -> Result<(), Allo
 }
 
 /// Makes each list one that several indexes can have.
-fn share_each(alloc: Global, lists: &mut [IdList])
+fn share_each(lists: &mut [IdList])
     ensures { map ids_held lists.new ≡ map ids_held lists.old }
 {
     for list in lists.iter_mut() {
-        list.share(alloc);
+        list.share();
     }
 }
 
@@ -108,11 +108,11 @@ impl Lists {
         self.lists[slot].take_out(i);
     }
 
-    /// Makes the lists ones that copies share. A list for which memory is refused stays as it is.
+    /// Makes the lists ones that copies share. It takes no memory.
     pub(crate) fn share(&mut self)
         ensures { (s : ℕ) → list_at self.new s ≡ list_at self.old s }
     {
-        share_each(self.alloc, self.lists.as_mut_slice());
+        share_each(self.lists.as_mut_slice());
     }
 
     /// A copy, with the same ids. It has the shared lists in common with this one, and copies of the others.

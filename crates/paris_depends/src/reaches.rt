@@ -208,8 +208,8 @@ pub(crate) fn add_writes<T>(
 {
     // The length is what says that at most 64 halvings find an entry.
     let _len = program.len();
-    for i in 0..index.keys(id) {
-        let key = index.key(id, i, looks);
+    for i in 0..index.keys(program, id) {
+        let key = index.key(program, id, i, looks);
         let reach = reach_from(program, index, &key, place, looks);
         reaches.push(reach)?;
     }

@@ -1,7 +1,6 @@
 //! The rows of an index in program order, which copies share until one of them changes them.
 
-ghost use Rattle.std.specs.Prelude.{◌≡◌, ◌<◌, ◌≤◌, [], None, Some, IfOk, IfSome, OnOk, insert, length, nat_eq, remove, slice_get};
-ghost use Rattle.std.specs.List.{IsDistinct};
+ghost use Rattle.std.specs.Prelude.{◌≡◌, ◌^◌, ◌<◌, ◌≤◌, [], Some, IfOk, IfSome, OnOk, insert, length, remove, slice_get};
 ghost use Rattle.std.specs.Option.{option_copied, option_map};
 ghost use Rattle.paris_program.specs.Program.{ids_of, place_of, row_of, with_row};
 ghost use Rattle.paris_depends.specs.Index.{footprint};
@@ -11,28 +10,24 @@ use crate::row_keys::RowKeys;
 use paris_blocks::Blocks;
 use paris_instr::SharedPlan;
 use paris_names::RowId;
-use paris_program::Ids;
+use paris_program::Program;
 use std::alloc::{AllocError, Global};
 use std::marker::Model;
 
-/// Rows in program order, each with an id of its own and its keys. Some may be changed; the others may be shared with copies of the
-/// table. A clause sees the rows, which of them may be changed, where a row can be put in with no more memory, and how many more ids
-/// fit.
+/// Rows in program order, each with its id and its keys. Where a row stands is asked of the program. Some may be changed; the others may
+/// be shared with copies of the table. A clause sees the rows, which of them may be changed, and where a row can be put in with no more
+/// memory.
 #[derive(Drop)]
 pub(crate) struct RowTable {
-    alloc: Global,
-    ids: Ids,
     rows: Blocks<RowKeys>,
 }
 
 impl Model for RowTable {
-    ghost use Rattle.paris_depends.specs.RowTable.{RowTable as Tabled, tabled, IsTable};
+    ghost use Rattle.paris_depends.specs.RowTable.{RowTable as Tabled, tabled};
 
     ghost Value = { Tabled };
 
     ghost view = { tabled };
-
-    ghost invariant = { IsTable };
 }
 
 impl RowTable {
@@ -41,19 +36,17 @@ impl RowTable {
         ensures { result.rows ≡ [] }
     {
         RowTable {
-            alloc,
-            ids: Ids::new(alloc),
             rows: Blocks::new(alloc),
         }
     }
 
-    /// The place of the row with this id, counted from 0. `None` where no row has it.
-    pub(crate) fn place_of(&self, id: RowId) -> Option<usize>
+    /// The place of the row with this id, counted from 0, in a table of the program's rows. `None` where no row has it.
+    pub(crate) fn place_of<T>(&self, program: &Program<T>, id: RowId) -> Option<usize>
+        requires { ids_of program.now.rows ≡ ids_of self.now.rows }
         ensures value { result ≡ place_of self.now.rows id.0 }
         ensures within { IfSome result (λ place. place < length self.now.rows) }
-        ensures distinct { IsDistinct nat_eq (ids_of self.now.rows) }
     {
-        self.ids.place_of(id.0)
+        program.place_of(id)
     }
 
     /// The row at a place, counted from 0.
@@ -64,11 +57,12 @@ impl RowTable {
         self.rows.at(place)
     }
 
-    /// The row with this id. `None` where there is none.
-    pub(crate) fn row(&self, id: RowId) -> Option<&RowKeys>
+    /// The row with this id, in a table of the program's rows. `None` where there is none.
+    pub(crate) fn row<T>(&self, program: &Program<T>, id: RowId) -> Option<&RowKeys>
+        requires { ids_of program.now.rows ≡ ids_of self.now.rows }
         ensures { option_map (λ r. r.1) (option_copied result) ≡ row_of self.now.rows id.0 }
     {
-        match self.place_of(id) {
+        match self.place_of(program, id) {
             Some(place) => Some(self.at(place)),
             None => None,
         }
@@ -80,7 +74,6 @@ impl RowTable {
         ensures rows { self.new.rows ≡ self.old.rows }
         ensures ok { OnOk result (HasPlace self.new place) }
     {
-        self.ids.room()?;
         self.rows.room(place)
     }
 
@@ -93,16 +86,13 @@ impl RowTable {
         self.rows.own(place)
     }
 
-    /// Puts a row with a new id in at a place, before those that stand there, where there is room for it.
+    /// Puts a row in at a place, before those that stand there, where there is room for it.
     pub(crate) fn put(&mut self, place: usize, id: RowId, plan: SharedPlan)
         requires there { place ≤ length self.old.rows }
         requires room { HasPlace self.old place }
-        requires new { place_of self.old.rows id.0 ≡ None }
+        requires few { length self.old.rows < 2 ^ 63 }
         ensures { self.new.rows ≡ insert self.old.rows place (id.0, footprint plan) }
     {
-        // The number of ids is what says that one more row fits.
-        let _few = self.ids.len();
-        self.ids.insert(place, id.0);
         self.rows.insert(place, RowKeys::new(id, plan));
     }
 
@@ -112,7 +102,6 @@ impl RowTable {
         requires own { IsOwnAt self.old place }
         ensures { self.new.rows ≡ remove self.old.rows place }
     {
-        self.ids.remove(place);
         let _row = self.rows.remove(place);
     }
 
@@ -126,7 +115,7 @@ impl RowTable {
         row.set_plan(plan);
     }
 
-    /// Makes the rows ones that copies share. Those for which memory is refused stay as they are.
+    /// Makes the rows ones that copies share. It takes no memory.
     pub(crate) fn share(&mut self)
         ensures { self.new.rows ≡ self.old.rows }
     {
@@ -137,12 +126,7 @@ impl RowTable {
     pub(crate) fn copy(&self) -> Result<RowTable, AllocError>
         ensures { IfOk result (λ copy. copy.rows ≡ self.now.rows) }
     {
-        let ids = self.ids.copy(self.alloc)?;
         let rows = self.rows.copy()?;
-        Ok(RowTable {
-            alloc: self.alloc,
-            ids,
-            rows,
-        })
+        Ok(RowTable { rows })
     }
 }

@@ -1,6 +1,6 @@
 //! The two sides of an index: for each key the rows that write it, and those that read it.
 
-ghost use Rattle.std.specs.Prelude.{◌≡◌, ℕ, ◌<◌, ◌≤◌, length, IfSome, OnOk, Some, nat_eq, remove, slice_get};
+ghost use Rattle.std.specs.Prelude.{◌≡◌, ℕ, List, ◌<◌, ◌≤◌, length, IfSome, OnOk, Some, nat_eq, remove, slice_get};
 ghost use Rattle.std.specs.List.{AllByRecursion, IsDistinct};
 ghost use Rattle.paris_names.specs.declared.keys.Key.{Key as AnyKey};
 ghost use Rattle.paris_names.specs.Keys.{key_eq, key_slot};
@@ -14,6 +14,7 @@ ghost use Rattle.paris_depends.specs.declared.sides.Side.{Side as AnySide};
 use crate::lists::Lists;
 use crate::row_table::RowTable;
 use paris_names::{Key, RowId};
+use paris_program::Program;
 use std::alloc::AllocError;
 
 /// The rows that write a key, or those that read it.
@@ -26,27 +27,28 @@ pub(crate) enum Side {
 }
 
 /// The place of the row with this id, or `usize::MAX` where there is none.
-fn place_among(rows: &RowTable, id: RowId) -> usize
-    ensures place { IfSome (place_of rows.now.rows id.0) (λ place. result ≡ place) }
-    ensures distinct { IsDistinct nat_eq (ids_of rows.now.rows) }
+fn place_among<T>(program: &Program<T>, id: RowId) -> usize
+    ensures place { IfSome (place_of program.now.rows id.0) (λ place. result ≡ place) }
+    ensures distinct { IsDistinct nat_eq (ids_of program.now.rows) }
 {
-    match rows.place_of(id) {
+    match program.place_of(id) {
         Some(place) => place,
         None => usize::MAX,
     }
 }
 
-/// How many ids of a list stand among the rows before a place, by halving. The list may lack the row at that place.
-fn rank(rows: &RowTable, lists: &Lists, slot: usize, place: usize) -> usize
+/// How many ids of a list stand among the rows of a program before a place, by halving. The list may lack the row at that place.
+fn rank<T>(program: &Program<T>, lists: &Lists, slot: usize, place: usize) -> usize
     ensures within { result ≤ length (list_at lists.now slot) }
-    ensures rank { (side : AnySide) (key : AnyKey) → AreEntries side key rows.now.rows place (list_at lists.now slot) → place < length rows.now.rows → result ≡ count_to (test_of side key) rows.now.rows place }
+    ensures rank { (rows : List (ℕ × Footprint)) (side : AnySide) (key : AnyKey) → ids_of program.now.rows ≡ ids_of rows → AreEntries side key rows place (list_at lists.now slot) → place < length rows
+        → result ≡ count_to (test_of side key) rows place }
 {
     let mut low = 0;
     let mut high = lists.len(slot);
     while low < high {
         let middle = low + (high - low) / 2;
         let id = lists.at(slot, middle);
-        let at = place_among(rows, id);
+        let at = place_among(program, id);
         if at < place {
             low = middle + 1;
         } else {
@@ -68,8 +70,16 @@ pub(crate) fn room_for(lists: &mut Lists, keys: &[Key]) -> Result<(), AllocError
     Ok(())
 }
 
-/// Puts the id of the row at a place into the list of each of its keys on a side. The lists have the entries of all other rows.
-pub(crate) fn put_all(lists: &mut Lists, rows: &RowTable, side: Side, place: usize)
+/// Puts the id of the row at a place into the list of each of its keys on a side. The lists have the entries of all other rows of the
+/// program.
+pub(crate) fn put_all<T>(
+    lists: &mut Lists,
+    program: &Program<T>,
+    rows: &RowTable,
+    side: Side,
+    place: usize,
+)
+    requires of { ids_of program.now.rows ≡ ids_of rows.now.rows }
     requires within { place < length rows.now.rows }
     requires lists { (k : AnyKey) → list_at lists.old (key_slot k) ≡ entries side (remove rows.now.rows place) k }
     requires room { (r : ℕ × Footprint) → slice_get rows.now.rows place ≡ Some r → HasRoomFor lists.old (keys_on side r.1) }
@@ -78,13 +88,20 @@ pub(crate) fn put_all(lists: &mut Lists, rows: &RowTable, side: Side, place: usi
 {
     let row = rows.at(place);
     for key in row.keys_on(side) {
-        let i = rank(rows, lists, key.slot(), place);
+        let i = rank(program, lists, key.slot(), place);
         lists.put(key.slot(), i, row.id());
     }
 }
 
 /// Takes the id of the row at a place out of the list of each of its keys on a side.
-pub(crate) fn take_all_out(lists: &mut Lists, rows: &RowTable, side: Side, place: usize)
+pub(crate) fn take_all_out<T>(
+    lists: &mut Lists,
+    program: &Program<T>,
+    rows: &RowTable,
+    side: Side,
+    place: usize,
+)
+    requires of { ids_of program.now.rows ≡ ids_of rows.now.rows }
     requires within { place < length rows.now.rows }
     requires lists { (k : AnyKey) → list_at lists.old (key_slot k) ≡ entries side rows.now.rows k }
     requires room { (r : ℕ × Footprint) → slice_get rows.now.rows place ≡ Some r → HasRoomFor lists.old (keys_on side r.1) }
@@ -94,7 +111,7 @@ pub(crate) fn take_all_out(lists: &mut Lists, rows: &RowTable, side: Side, place
 {
     let row = rows.at(place);
     for key in row.keys_on(side) {
-        let i = rank(rows, lists, key.slot(), place);
+        let i = rank(program, lists, key.slot(), place);
         lists.take_out(key.slot(), i);
     }
 }

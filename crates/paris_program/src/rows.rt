@@ -1,6 +1,6 @@
 //! Rows in program order, by their ids.
 
-ghost use Rattle.std.specs.Prelude.{◌≡◌, ℕ, Bool, ◌+◌, ◌^◌, ◌<◌, ◌≤◌, ◌↔◌, [], length, remove, slice_get, None, Some, IsTrue, IsSome, IfOk, IfErr, IfSome, OnOk, OnErr};
+ghost use Rattle.std.specs.Prelude.{◌≡◌, ℕ, Bool, ◌+◌, ◌^◌, ◌<◌, ◌≤◌, ◌↔◌, [], length, remove, slice_get, None, Some, IsTrue, IsSome, IfOk, IfErr, IfSome, OnOk};
 ghost use Rattle.std.specs.Option.{option_copied};
 
 use crate::shared_ids::SharedIds;
@@ -27,7 +27,7 @@ impl<T> Model for Program<T> {
 
     ghost Value = { Program T };
 
-    ghost view = { λ p. record { rows = p.rows.items; next_id = p.next_id; own = p.rows.own; room = p.rows.room; spare = own_spare p.ids } };
+    ghost view = { λ p. record { rows = p.rows.items; next_id = p.next_id; own = p.rows.own; room = p.rows.room; own_ids = p.ids.held.own; spare = own_spare p.ids } };
 
     ghost invariant = { λ p. IsKept p.next_id (ids_held p.ids) p.rows.items };
 }
@@ -51,9 +51,10 @@ impl<T> Program<T> {
     /// How many rows there are.
     pub fn len(&self) -> usize
         ensures value { result ≡ length self.now.rows }
+        ensures few { result < 2 ^ 63 }
         ensures sound { IsProgram self.now }
     {
-        self.rows.len()
+        self.ids.len()
     }
 
     /// Whether there are no rows.
@@ -133,7 +134,7 @@ impl<T> Program<T> {
 }
 
 impl<T: Clone + Drop> Program<T> {
-    ghost use Rattle.paris_program.specs.Program.{place_of, place_in, row_of, Inserts, Stays, HasRoom, IsOwnRow, KeepsOwn};
+    ghost use Rattle.paris_program.specs.Program.{place_of, place_in, Inserts, Stays, HasRoom, CanDelete, IsOwnRow, KeepsOwn};
 
     /// A program with the same rows under the same ids, and the same next id. The rows that may be changed here may be changed there,
     /// and it shares the others with this one. What clones the data of a row gives equals.
@@ -237,29 +238,22 @@ impl<T: Clone + Drop> Program<T> {
         self.insert_at(self.len(), row)
     }
 
-    /// Takes the row with this id out, and hands out its data. The others keep their order. Where memory is refused the program is as
-    /// before.
-    pub fn delete(&mut self, id: RowId) -> Result<T, AllocError>
+    /// Makes the row with this id, which is there, one that can be taken out with no more memory. The rows and the ids stay, also where
+    /// memory is refused.
+    pub fn own_to_delete(&mut self, id: RowId) -> Result<(), AllocError>
         requires equal { (row copy : T) → T.is_clone row copy → copy ≡ row }
-        requires there { IsSome (place_of self.old.rows id.0) }
-        ensures value { IfOk result (λ row. Some row ≡ row_of self.old.rows id.0) }
-        ensures rows { OnOk result (self.new.rows ≡ remove self.old.rows (place_in self.old.rows id.0)) }
+        ensures rows { self.new.rows ≡ self.old.rows }
         ensures next_id { self.new.next_id ≡ self.old.next_id }
-        ensures err { OnErr result (Stays self.old self.new) }
         ensures own { KeepsOwn self.old self.new }
+        ensures ok { OnOk result (CanDelete self.new id.0) }
     {
-        let place = self.place_of(id).unwrap();
-        self.rows.own(place)?;
-        self.ids.own(self.alloc)?;
-        self.ids.remove(place);
-        self.ids.share(self.alloc);
-        let (_, row) = self.rows.remove(place);
-        Ok(row)
+        self.own(id)?;
+        self.ids.own(self.alloc)
     }
 }
 
 impl<T: Drop> Program<T> {
-    ghost use Rattle.paris_program.specs.Program.{place_of, place_in, row_of, with_row, Inserts, HasRoom, IsOwnRow, KeepsOwn, AreOwn, NoneWithin};
+    ghost use Rattle.paris_program.specs.Program.{place_of, place_in, row_of, with_row, Inserts, HasRoom, CanDelete, IsOwnRow, KeepsOwn, AreOwn, NoneWithin};
 
     /// Puts a row at a place, counted from 0, before the rows that stand there, under the next id, and returns that id. There is room
     /// for it, so it cannot fail.
@@ -275,10 +269,26 @@ impl<T: Drop> Program<T> {
         let _len = self.rows.len();
         let id = self.next_id;
         self.ids.insert(place, id);
-        self.ids.share(self.alloc);
+        self.ids.share();
         self.rows.insert(place, (id, row));
         self.next_id = id + 1;
         RowId(id)
+    }
+
+    /// Takes the row with this id out, and hands out its data. The others keep their order. It takes no memory.
+    pub fn delete(&mut self, id: RowId) -> T
+        requires there { IsSome (place_of self.old.rows id.0) }
+        requires own { CanDelete self.old id.0 }
+        ensures value { Some result ≡ row_of self.old.rows id.0 }
+        ensures rows { self.new.rows ≡ remove self.old.rows (place_in self.old.rows id.0) }
+        ensures next_id { self.new.next_id ≡ self.old.next_id }
+        ensures own { KeepsOwn self.old self.new }
+    {
+        let place = self.place_of(id).unwrap();
+        self.ids.remove(place);
+        self.ids.share();
+        let (_, row) = self.rows.remove(place);
+        row
     }
 
     /// Puts other data into the row with this id, which may be changed, and hands out what it had. The row keeps its id and its place.

@@ -82,9 +82,16 @@ impl Rows {
     /// Takes a row out.
     fn delete(&mut self, rt: &impl Abort, id: RowId) {
         assert!(rt; self.program.place_of(id).is_some());
-        self.index.own(id).ok().expect(rt, "there is memory");
-        drop(self.program.delete(id).ok().expect(rt, "there is memory"));
-        self.index.remove(id);
+        self.index
+            .own(&self.program, id)
+            .ok()
+            .expect(rt, "there is memory");
+        self.program
+            .own_to_delete(id)
+            .ok()
+            .expect(rt, "there is memory");
+        self.index.remove(&self.program, id);
+        drop(self.program.delete(id));
     }
 
     /// The same rows once more, which have all that can be shared in common with these.
@@ -144,15 +151,15 @@ impl Rows {
     /// How many keys a row writes.
     fn key_count(&self, rt: &impl Abort, id: RowId) -> usize {
         assert!(rt; self.program.place_of(id).is_some());
-        self.index.keys(id)
+        self.index.keys(&self.program, id)
     }
 
     /// A key that a row writes, and that it takes one look.
     fn key(&self, rt: &impl Abort, id: RowId, i: usize) -> Key {
         assert!(rt; self.program.place_of(id).is_some());
-        assert!(rt; i < self.index.keys(id));
+        assert!(rt; i < self.index.keys(&self.program, id));
         let mut looks = Looks::new();
-        let key = self.index.key(id, i, &mut looks);
+        let key = self.index.key(&self.program, id, i, &mut looks);
         assert!(rt; looks.count() == 1);
         key
     }

@@ -54,8 +54,11 @@ impl Beside {
         assert!(rt; place < self.list.len());
         let id = self.list.remove(place);
         assert!(rt; self.program.place_of(RowId(id)).is_some());
-        let row = self.program.delete(RowId(id));
-        assert!(rt; row.ok().expect(rt, "there is memory") == 0);
+        self.program
+            .own_to_delete(RowId(id))
+            .ok()
+            .expect(rt, "there is memory");
+        assert!(rt; self.program.delete(RowId(id)) == 0);
     }
 
     /// Puts rows in and takes some out, at any places.

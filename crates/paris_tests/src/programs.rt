@@ -48,7 +48,11 @@ fn put(rt: &impl Abort, program: &mut Program<u64>, spot: Spot, row: u64) -> Row
 
 fn delete(rt: &impl Abort, program: &mut Program<u64>, id: u64) -> u64 {
     assert!(rt; program.place_of(RowId(id)).is_some());
-    program.delete(RowId(id)).ok().expect(rt, "there is memory")
+    program
+        .own_to_delete(RowId(id))
+        .ok()
+        .expect(rt, "there is memory");
+    program.delete(RowId(id))
 }
 
 fn replace(rt: &impl Abort, program: &mut Program<u64>, id: u64, row: u64) -> u64 {

@@ -14,7 +14,7 @@ use Rattle.paris_depends.proofs.Kept.{all-at}
 use Rattle.paris_depends.proofs.sides.put_all.Goals as goal
 
 pub loop-key-init : goal.loop-key-init
-loop-key-init c =
+loop-key-init g c =
     let room = c.requires.room c.at-row.result.now c.at-row.ensures in
     record {
       lists = c.requires.lists;
@@ -22,7 +22,7 @@ loop-key-init c =
     }
 
 pub loop-key-preserved : goal.loop-key-preserved
-loop-key-preserved c =
+loop-key-preserved g c =
     let keys : List Key = c.keys_on-key-items.result.now in
     let i : ℕ = c.loop-key.key-index in
     let key : Key = c.key-item.result in
@@ -33,7 +33,7 @@ loop-key-preserved c =
     let old : Key → List ℕ = entries c.args.side (remove rows c.args.place) in
     let new : Key → List ℕ = entries c.args.side rows in
     let there = c.loop-key.invariant.lists key ∙ ap (λ b. cond b (new key) (old key)) (new-once keys i key each c.loop-key-test.true c.key-item.is) in
-    let rank = c.rank-i.ensures.rank c.args.side key (inr (ap (list_at c.loop-key.lists) c.slot.ensures.value ∙ there)) c.requires.within in
+    let rank = c.rank-i.ensures.rank rows c.args.side key c.requires.of (inr (ap (list_at c.loop-key.lists) c.slot.ensures.value ∙ there)) c.requires.within in
     let has = ap (λ ks. has_key ks key) (sym c.keys_on-key-items.ensures) ∙ has_key-at keys i key c.loop-key-test.true c.key-item.is in
     let back = entries-back c.args.side rows c.args.place row key c.at-row.ensures ∙ ap (λ b. cond b (insert (old key) (count_to (test_of c.args.side key) rows c.args.place) row.0) (old key)) has in
     let id = c.id.ensures in
@@ -46,7 +46,7 @@ loop-key-preserved c =
     }
 
 pub returns : goal.returns
-returns c = λ k.
+returns g c = λ k.
     let rows : List (ℕ × Footprint) = c.args.rows.now.rows in
     c.loop-key.invariant.lists k
     ∙ ap (λ ks. cond (has_key ks k) (entries c.args.side rows k) (entries c.args.side (remove rows c.args.place) k)) (take_all c.loop-key.key-index c.keys_on-key-items.result.now c.loop-key-test.false ∙ c.keys_on-key-items.ensures)

@@ -8,7 +8,7 @@ use Rattle.paris_depends.specs.Sides.{entries}
 use Rattle.paris_depends.proofs.sides.put_all.Given as goal
 
 abbrev pub invariant-loop-key : goal.invariant-loop-key
-invariant-loop-key l = record {
+invariant-loop-key g l = record {
   lists : (k : Key) → list_at l.lists (key_slot k) ≡ cond (has_key (take l.key-index l.key-items) k) (entries l.fn.side l.rows.rows k) (entries l.fn.side (remove l.rows.rows l.place) k);
   room : (k : Key) → has_key (drop l.key-index l.key-items) k ≡ true → 0 < room_at l.lists (key_slot k);
 }

@@ -13,7 +13,7 @@ use Rattle.paris_depends.proofs.Kept.{all-at, entries-remove, entry-within}
 use Rattle.paris_depends.proofs.sides.take_all_out.Goals as goal
 
 pub take_out-requires : goal.take_out-requires
-take_out-requires c =
+take_out-requires g c =
     let keys : List Key = c.keys_on-key-items.result.now in
     let key : Key = c.key-item.result in
     let rows : List (ℕ × Footprint) = c.args.rows.now.rows in
@@ -26,7 +26,7 @@ take_out-requires c =
     in
     let here = ap (list_at c.loop-key.lists) c.slot.ensures.value ∙ old in
     let here' = ap (list_at c.loop-key.lists) c.slot-in-loop-key.ensures.value ∙ old in
-    let rank = c.rank-i.ensures.rank c.args.side key (inl here) c.requires.within in
+    let rank = c.rank-i.ensures.rank rows c.args.side key c.requires.of (inl here) c.requires.within in
     let has = ap (λ ks. has_key ks key) (sym c.keys_on-key-items.ensures) ∙ has_key-at keys c.loop-key.key-index key c.loop-key-test.true c.key-item.is in
     let below = entry-within c.args.side rows c.args.place row key there has in
     let room = c.requires.room row there key has in
@@ -35,7 +35,7 @@ take_out-requires c =
     record { there = rw (here', rank) below; room = omega (arith, room, slot, more) }
 
 pub loop-key-preserved : goal.loop-key-preserved
-loop-key-preserved c =
+loop-key-preserved g c =
     let keys : List Key = c.keys_on-key-items.result.now in
     let i : ℕ = c.loop-key.key-index in
     let key : Key = c.key-item.result in
@@ -46,7 +46,7 @@ loop-key-preserved c =
     let old : Key → List ℕ = entries c.args.side rows in
     let new : Key → List ℕ = λ k. remove (old k) (count_to (test_of c.args.side k) rows c.args.place) in
     let there = c.loop-key.invariant.lists key ∙ ap (λ b. cond b (new key) (old key)) (new-once keys i key each c.loop-key-test.true c.key-item.is) in
-    let rank = c.rank-i.ensures.rank c.args.side key (inl (ap (list_at c.loop-key.lists) c.slot.ensures.value ∙ there)) c.requires.within in
+    let rank = c.rank-i.ensures.rank rows c.args.side key c.requires.of (inl (ap (list_at c.loop-key.lists) c.slot.ensures.value ∙ there)) c.requires.within in
     record {
       lists = turned-more keys i key c.loop-key-test.true c.key-item.is c.slot-in-loop-key.result (list_at c.loop-key.lists) (list_at c.take_out.new.self) (λ s. remove (list_at c.loop-key.lists s) c.rank-i.result) new old
           c.slot-in-loop-key.ensures.value c.take_out.ensures.ids
@@ -56,7 +56,7 @@ loop-key-preserved c =
     }
 
 pub returns-clause-ids : goal.returns-clause-ids
-returns-clause-ids c = λ k.
+returns-clause-ids g c = λ k.
     let rows : List (ℕ × Footprint) = c.args.rows.now.rows in
     let old : List ℕ = entries c.args.side rows k in
     c.loop-key.invariant.lists k

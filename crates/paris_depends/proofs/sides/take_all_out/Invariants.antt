@@ -9,7 +9,7 @@ use Rattle.paris_depends.specs.Sides.{entries, test_of}
 use Rattle.paris_depends.proofs.sides.take_all_out.Given as goal
 
 abbrev pub invariant-loop-key : goal.invariant-loop-key
-invariant-loop-key l = record {
+invariant-loop-key g l = record {
   lists : (k : Key) → list_at l.lists (key_slot k) ≡ cond (has_key (take l.key-index l.key-items) k) (remove (entries l.fn.side l.rows.rows k) (count_to (test_of l.fn.side k) l.rows.rows l.place)) (entries l.fn.side l.rows.rows k);
   more : (s : ℕ) → room_at l.fn.lists s ≤ room_at l.lists s;
 }

@@ -1,7 +1,7 @@
 use Rattle.std.proofs.Common.{◌<◌, ℕ, List, length, sym, ap, ◌∙◌, subst, arith}
 use Rattle.std.specs.Prelude.{set, IfSome, IsSome}
-use Rattle.paris_program.specs.Program.{Program, place_of, place_in, with_row}
-use Rattle.paris_program.proofs.CallerLemmas.{length-with_row}
+use Rattle.paris_program.specs.Program.{Program, ids_of, place_of, place_in, with_row}
+use Rattle.paris_program.proofs.CallerLemmas.{ids-with_row, length-with_row}
 use Rattle.paris_model.specs.Instructions.{Plan}
 use Rattle.paris_depends.specs.Index.{Footprint, footprint}
 use Rattle.paris_book.specs.Entries.{Entry}
@@ -9,12 +9,25 @@ use Rattle.paris_book.specs.Indexed.{is_unsettled_entry}
 use Rattle.paris_book.specs.Marks.{data_plan}
 use Rattle.paris_book.specs.Rows.{RowData}
 use Rattle.paris_book.specs.SharedIndexes.{HasOwnRoom, indexed_in}
-use Rattle.paris_book.proofs.Indexing.{as_many, found_in_index, replaced_all, standing_replaced}
+use Rattle.paris_book.proofs.Indexing.{as_many, found_in_index, ids_indexed, replaced_all, standing_replaced}
 use Rattle.paris_book.proofs.Holding.{held_still, replaced_own, replaced_rows}
 use Rattle.paris_book.proofs.program_rows.Rows.replace.Goals as goal
 
+pub room_to_replace-requires-clause-of : goal.room_to_replace-requires-clause-of
+room_to_replace-requires-clause-of c = rw c.in_ok-own.ensures.rows (ids_indexed c.self.inside.program.rows (indexed_in c.self.inside.index) c.self.invariant.listed.indexed)
+
 pub room_to_replace-requires-clause-there : goal.room_to_replace-requires-clause-there
 room_to_replace-requires-clause-there c = rw c.in_ok-own.ensures.rows (found_in_index c.self.inside.program.rows (indexed_in c.self.inside.index) c.args.id.0 c.self.invariant.listed.indexed (rw (← c.self.view_is) at c.requires))
+
+pub replace-requires-2-clause-of : goal.replace-requires-2-clause-of
+replace-requires-2-clause-of c =
+    let p = c.self.inside.program in
+    let at = ap (λ (l : List Entry). place_of l c.args.id.0) (sym c.in_ok-own-2.ensures.rows) ∙ sym c.place_of.ensures.value ∙ c.unwrap-place.ensures in
+    let is = replaced_rows p c.own-2.new.self c.replace.new.self c.args.id.0 c.args.row c.in_ok-own-2.ensures.rows c.replace.ensures.rows c.unwrap-place.result at in
+    ap (λ (l : List Entry). ids_of l) is
+    ∙ ids-with_row p.rows c.unwrap-place.result c.args.row
+    ∙ ids_indexed p.rows (indexed_in c.self.inside.index) c.self.invariant.listed.indexed
+    ∙ ap (λ (l : List (ℕ × Footprint)). ids_of l) (sym (c.in_ok-room_to_replace.ensures.rows ∙ c.in_ok-own.ensures.rows))
 
 pub replace-requires-2-clause-there : goal.replace-requires-2-clause-there
 replace-requires-2-clause-there c =

@@ -9,7 +9,7 @@ use Rattle.paris_depends.proofs.Slots.{on_ok}
 use Rattle.paris_depends.proofs.index.Index.own.Goals as goal
 
 pub returns-clause-ok : goal.returns-clause-ok
-returns-clause-ok c =
+returns-clause-ok g c =
     let rows : List (ℕ × Footprint) = c.own.new.self.rows in
     let place = c.unwrap-place.result in
     let at : place_of rows c.args.id.0 ≡ Some place = ap (λ (l : List (ℕ × Footprint)). place_of l c.args.id.0) c.in_ok-own.ensures.rows ∙ sym c.place_of.ensures.value ∙ c.unwrap-place.ensures in

@@ -1,7 +1,8 @@
 use Rattle.std.proofs.Common.{◌<◌, ℕ, List, Option, length, sym, ap, ◌∙◌, subst}
 use Rattle.std.specs.Prelude.{IfSome}
 use Rattle.std.specs.List.{AllByRecursion}
-use Rattle.paris_program.specs.Program.{id_at}
+use Rattle.paris_program.specs.Program.{id_at, ids_of}
+use Rattle.paris_program.proofs.CallerLemmas.{ids-with_row}
 use Rattle.paris_program.proofs.Edits.{row_at_place}
 use Rattle.paris_depends.specs.Index.{Footprint, Index, CanChange, HasRoom, footprint}
 use Rattle.paris_depends.specs.IndexInside.{IsRow}
@@ -13,23 +14,31 @@ use Rattle.paris_depends.proofs.RowsOnce.{footprint-sound, once-on}
 use Rattle.paris_depends.proofs.index.Index.replace.Goals as goal
 
 pub take_all_out-requires-clause-room : goal.take_all_out-requires-clause-room
-take_all_out-requires-clause-room c = λ r here.
+take_all_out-requires-clause-room g c = λ r here.
     let can = subst (λ (i : Index). CanChange i c.args.id.0) (sym c.self.view_is) c.requires.own in
     (can.lists r.1 (row_at_place c.self.inside.table.rows c.args.id.0 c.unwrap-place.result r (sym c.place_of.ensures.value ∙ c.unwrap-place.ensures) here)).writers
 
 pub take_all_out-requires-clause-once : goal.take_all_out-requires-clause-once
-take_all_out-requires-clause-once c = once-on Writers c.self.inside.table.rows c.self.invariant.sound
+take_all_out-requires-clause-once g c = once-on Writers c.self.inside.table.rows c.self.invariant.sound
 
 pub take_all_out-requires-2-clause-room : goal.take_all_out-requires-2-clause-room
-take_all_out-requires-2-clause-room c = λ r here.
+take_all_out-requires-2-clause-room g c = λ r here.
     let can = subst (λ (i : Index). CanChange i c.args.id.0) (sym c.self.view_is) c.requires.own in
     (can.lists r.1 (row_at_place c.self.inside.table.rows c.args.id.0 c.unwrap-place.result r (sym c.place_of.ensures.value ∙ c.unwrap-place.ensures) here)).readers
 
 pub take_all_out-requires-2-clause-once : goal.take_all_out-requires-2-clause-once
-take_all_out-requires-2-clause-once c = once-on Readers c.self.inside.table.rows c.self.invariant.sound
+take_all_out-requires-2-clause-once g c = once-on Readers c.self.inside.table.rows c.self.invariant.sound
+
+pub put_all-requires-clause-of : goal.put_all-requires-clause-of
+put_all-requires-clause-of g c =
+    let rows : List (ℕ × Footprint) = c.self.inside.table.rows in
+    c.requires.of
+    ∙ sym (ap (λ (i : Index). ids_of i.rows) c.self.view_is)
+    ∙ sym (ids-with_row rows c.unwrap-place.result (footprint c.args.plan))
+    ∙ ap (λ (l : List (ℕ × Footprint)). ids_of l) (sym c.replace.ensures)
 
 pub put_all-requires-clause-lists : goal.put_all-requires-clause-lists
-put_all-requires-clause-lists c = λ k.
+put_all-requires-clause-lists g c = λ k.
     let rows : List (ℕ × Footprint) = c.self.inside.table.rows in
     let place = c.unwrap-place.result in
     let row : ℕ × Footprint = (id_at rows place, footprint c.args.plan) in
@@ -38,7 +47,7 @@ put_all-requires-clause-lists c = λ k.
     c.take_all_out.ensures.ids k ∙ ap (λ (l : List (ℕ × Footprint)). entries Writers l k) (sym facts.1)
 
 pub put_all-requires-clause-room : goal.put_all-requires-clause-room
-put_all-requires-clause-room c =
+put_all-requires-clause-room g c =
     let rows : List (ℕ × Footprint) = c.self.inside.table.rows in
     let place = c.unwrap-place.result in
     let row : ℕ × Footprint = (id_at rows place, footprint c.args.plan) in
@@ -49,15 +58,23 @@ put_all-requires-clause-room c =
     (room_kept c.self.inside.writers c.take_all_out.new.lists (footprint c.args.plan).written c.take_all_out.ensures.more room.writers)
 
 pub put_all-requires-clause-once : goal.put_all-requires-clause-once
-put_all-requires-clause-once c =
+put_all-requires-clause-once g c =
     let rows : List (ℕ × Footprint) = c.self.inside.table.rows in
     let place = c.unwrap-place.result in
     let row : ℕ × Footprint = (id_at rows place, footprint c.args.plan) in
     let sound = subst (λ (l : List (ℕ × Footprint)). AllByRecursion (λ (r : ℕ × Footprint). IsRow r.1) l) (sym c.replace.ensures) (all-written (λ (r : ℕ × Footprint). IsRow r.1) rows place row (footprint-sound c.args.plan) c.self.invariant.sound) in
     once-on Writers c.replace.new.self.rows sound
 
+pub put_all-requires-2-clause-of : goal.put_all-requires-2-clause-of
+put_all-requires-2-clause-of g c =
+    let rows : List (ℕ × Footprint) = c.self.inside.table.rows in
+    c.requires.of
+    ∙ sym (ap (λ (i : Index). ids_of i.rows) c.self.view_is)
+    ∙ sym (ids-with_row rows c.unwrap-place.result (footprint c.args.plan))
+    ∙ ap (λ (l : List (ℕ × Footprint)). ids_of l) (sym c.replace.ensures)
+
 pub put_all-requires-2-clause-lists : goal.put_all-requires-2-clause-lists
-put_all-requires-2-clause-lists c = λ k.
+put_all-requires-2-clause-lists g c = λ k.
     let rows : List (ℕ × Footprint) = c.self.inside.table.rows in
     let place = c.unwrap-place.result in
     let row : ℕ × Footprint = (id_at rows place, footprint c.args.plan) in
@@ -66,7 +83,7 @@ put_all-requires-2-clause-lists c = λ k.
     c.take_all_out-2.ensures.ids k ∙ ap (λ (l : List (ℕ × Footprint)). entries Readers l k) (sym facts.1)
 
 pub put_all-requires-2-clause-room : goal.put_all-requires-2-clause-room
-put_all-requires-2-clause-room c =
+put_all-requires-2-clause-room g c =
     let rows : List (ℕ × Footprint) = c.self.inside.table.rows in
     let place = c.unwrap-place.result in
     let row : ℕ × Footprint = (id_at rows place, footprint c.args.plan) in
@@ -77,7 +94,7 @@ put_all-requires-2-clause-room c =
     (room_kept c.self.inside.readers c.take_all_out-2.new.lists (footprint c.args.plan).read c.take_all_out-2.ensures.more room.readers)
 
 pub put_all-requires-2-clause-once : goal.put_all-requires-2-clause-once
-put_all-requires-2-clause-once c =
+put_all-requires-2-clause-once g c =
     let rows : List (ℕ × Footprint) = c.self.inside.table.rows in
     let place = c.unwrap-place.result in
     let row : ℕ × Footprint = (id_at rows place, footprint c.args.plan) in
@@ -85,7 +102,7 @@ put_all-requires-2-clause-once c =
     once-on Readers c.replace.new.self.rows sound
 
 pub invariant_of-self : goal.invariant_of-self
-invariant_of-self c =
+invariant_of-self g c =
     let rows : List (ℕ × Footprint) = c.self.inside.table.rows in
     let place = c.unwrap-place.result in
     let row : ℕ × Footprint = (id_at rows place, footprint c.args.plan) in
