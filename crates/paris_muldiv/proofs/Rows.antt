@@ -46,6 +46,11 @@ row_added p q w low mid old c b y e sum =
     let moved : q * c ≡ p * (w * c) = ap (λ t. t * c) e ∙ mul_assoc p w c in
     omega (arith, scaled, moved)
 
+-- a row of zeros, and a plane of zeros above it
+pub nothing_added : (q p low z b y : ℕ) → z ≡ 0 → b ≡ 0 → low + q * z ≡ low + p * (b * y)
+nothing_added q p low z b y none zero_row =
+    ap (λ t. low + q * t) none ∙ omega arith ∙ ap (λ t. low + p * (t * y)) (sym zero_row)
+
 -- where any plane has a 1
 pub any_more : (p n : ℕ) (x : Bool) → 0 < p → (ltb 0 n || x) ≡ ltb 0 (n + p * bit x)
 any_more p n true some = grind (arith, nat_tests, mul-one p)

@@ -42,7 +42,7 @@ fn add_where(y: &[Lent<'_>], mask: &Plane, sum: &mut [Plane], carry: &mut Plane,
 
 /// Adds the numbers of `y`, `k` bits higher, to the planes of a product that are made so far, where bit `k` of the other factor
 /// is 1. One more plane is made then.
-fn add_row(
+fn add_mixed_row(
     y: &[Lent<'_>],
     bit: &Plane,
     k: usize,
@@ -63,6 +63,32 @@ fn add_row(
     carry.fill(false);
     add_where(y, bit, &mut product[k..k + y.len()], carry, masked);
     product[k + y.len()].raise_from(carry, 0);
+}
+
+/// The same. Where that bit is 0 throughout, nothing is added.
+fn add_row(
+    y: &[Lent<'_>],
+    bit: &Plane,
+    k: usize,
+    product: &mut [Plane],
+    carry: &mut Plane,
+    masked: &mut Plane,
+)
+    requires room { k + length y.now < length product.old }
+    requires y { AllOf (length bit.now) y.now }
+    requires product { AllOf (length bit.now) product.old }
+    requires carry { length carry.old ≡ length bit.now }
+    requires masked { length masked.old ≡ length bit.now }
+    ensures product { AllOf (length bit.now) product.new }
+    ensures carry { length carry.new ≡ length bit.now }
+    ensures masked { length masked.new ≡ length bit.now }
+    ensures row { (v : ℕ) → v < length bit.now → number_at (take (k + length y.now + 1) product.new) v ≡ number_at (take (k + length y.now) product.old) v + 2 ^ k * (bit_in bit.now v * number_at y.now v) }
+{
+    if bit.is_all(false) {
+        product[k + y.len()].fill(false);
+        return;
+    }
+    add_mixed_row(y, bit, k, product, carry, masked);
 }
 
 /// Puts the products of the numbers of `x` and `y` into planes of zeros, as many as both have.

@@ -6,7 +6,7 @@ use Rattle.paris_model.specs.Store.{bit}
 use Rattle.paris_field.specs.Numbers.{bit_in, plane_at}
 use Rattle.paris_field.proofs.Numbers.{zero_bit_in, plane_of_drop}
 use Rattle.paris_muldiv.proofs.Rows.{row_put}
-use Rattle.paris_muldiv.proofs.planes.add_row.Goals as goal
+use Rattle.paris_muldiv.proofs.planes.add_mixed_row.Goals as goal
 
 pub returns-clause-row : goal.returns-clause-row
 returns-clause-row c =
