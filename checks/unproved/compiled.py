@@ -24,7 +24,7 @@ from pathlib import Path
 ROOT = Path(__file__).resolve().parents[2]
 CRATES = ROOT / "crates"
 CHECKS = ROOT / "checks"
-TEXTS = (CHECKS / "unproved/src", CHECKS / "no-memory/calls/src", CHECKS / "schedules/src")
+TEXTS = tuple(CHECKS / it for it in ("unproved/src", "no-memory/calls/src", "schedules/src", "whole/src"))
 ENDING = ".text"
 NAME = "unproved_calls"
 LIBRARY = "paris_c"
@@ -155,10 +155,12 @@ Edit = tuple[str, str, str]
 
 
 def read_edit(crate: str, name: str) -> list[Edit]:
-    """A must-fail edit, whose texts are a line each: the files, what stands there, and what stands for it."""
+    """A must-fail edit, whose texts are a line each: the files, what stands there, and what stands for it. Comments are left out."""
     edits, file, old = list[Edit](), "", ""
     for line in (CHECKS / "gate/edits" / crate / f"{name}.edit").read_text().splitlines():
         word, _, text = line.partition(": ")
+        if word.startswith("#"):
+            continue
         if word == "file":
             file = f"{crate}/{text}"
         elif word == "old":
