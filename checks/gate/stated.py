@@ -3,8 +3,7 @@
 Definitions and lemmas are cited by their names, which a `use` of the file brings from the file that declares them. Of the code below a crate
 sees types, their methods and public functions, with their contracts, and no private function. So its proofs rest on the pieces that its own
 files cite, on what these cite, and so on. A word in code may name a type in the same crate, or in one that its line in crates.txt names, and
-in a body a function or a method too: it brings all of that name there. A contract calls none. In its own crate a function sees all: private
-functions, fields, and what a type says of its inside. So there a file is cut into pieces of its own kind, for what the function's file cites.
+in a body a function or a method too: it brings all of that name there. A contract calls none.
 """
 
 import re
@@ -46,13 +45,11 @@ class Piece:
 
 @dataclass
 class Source:
-    """A file of definitions, of lemmas or of code, by the name under which others cite it: `crate.specs.File`, or `crate.code`; as its own
-    crate sees it, or as others do."""
+    """A file of definitions, of lemmas or of code, by the name under which others cite it: `crate.specs.File`, or `crate.code`."""
 
     crate: str
     module: str
     text: str
-    is_own: bool = False
     uses: dict[str, set[str]] = field(default_factory=dict)
     pieces: list[Piece] = field(default_factory=list)
 
@@ -60,7 +57,7 @@ class Source:
         for path, names, name in USED.findall(self.text):
             for word in (names or name).split(","):
                 self.uses.setdefault(word.strip(), set()).add(path)
-        self.pieces = [*(of_code(self.text, self.is_own) if self.module.endswith(CODE) else of_definitions(self.text))]
+        self.pieces = [*(of_code if self.module.endswith(CODE) else of_definitions)(self.text)]
 
 
 @cache
@@ -87,19 +84,19 @@ def of_definitions(text: str) -> Iterator[Piece]:
             begun.append(line)
 
 
-def of_code(text: str, is_own: bool = False) -> Iterator[Piece]:
-    """The pieces of a file of Rust whose functions have no bodies, without its private functions where it isn't one's own."""
+def of_code(text: str) -> Iterator[Piece]:
+    """The pieces of a file of Rust whose functions have no bodies, without its private functions."""
     head, outer, begun, before = "", "", [""], list[str]()
     for line in [*text.split("\n"), "mod end"]:
         found = ITEM.match(line) or (GHOST.match(line) if "impl" in outer or "trait " in outer else None)
         if found:
-            yield from of_item(head, outer, "\n".join(begun), is_own)
+            yield from of_item(head, outer, "\n".join(begun))
             head, begun, before = line, before, []
             outer = line if not found[1] else outer
         (before if line.lstrip().startswith("#[") else begun).append(line)
 
 
-def of_item(head: str, outer: str, text: str, is_own: bool) -> Iterator[Piece]:
+def of_item(head: str, outer: str, text: str) -> Iterator[Piece]:
     """The piece of an item, by its first line and by that of the item in which it lies."""
     found = ITEM.match(head) or GHOST.match(head)
     _, before, kind, rest = found.groups() if found else ("", "", "use", "")
@@ -108,15 +105,14 @@ def of_item(head: str, outer: str, text: str, is_own: bool) -> Iterator[Piece]:
     if kind == "use":
         names = (it.strip() for path, some, one in USED.findall(text) for it in (some or one).split(",") if before.startswith("pub "))
         yield from (Piece(frozenset({name}), f"use {path} {name}") for path, _, _ in USED.findall(text) for name in names)
-    elif has and (is_own or kind not in INSIDE):
+    elif has and kind not in INSIDE:
         yield Piece(frozenset(WORD.findall(has[2])) - KEYWORDS, text, has[1], is_impl=True)
     elif own:
         yield Piece(frozenset({own[1]}), text)
     elif kind == "impl":
         yield Piece(frozenset(WORD.findall(without_arguments(rest))) - KEYWORDS, text, is_impl=True)
-    elif (is_own or before.startswith("pub ")) and kind != "mod":
-        inside = text if is_own or kind != "struct" else without_private_fields(text)
-        yield Piece(frozenset(WORD.findall(rest)[:1]), inside, is_called=kind == "fn")
+    elif before.startswith("pub ") and kind != "mod":
+        yield Piece(frozenset(WORD.findall(rest)[:1]), without_private_fields(text) if kind == "struct" else text, is_called=kind == "fn")
 
 
 def without_arguments(text: str) -> str:
@@ -138,7 +134,7 @@ class Stated:
         self.found: dict[str, dict[str, list[tuple[Source, Piece]]]] = {}
         sources = [*sources]
         traits = {(source.crate, trait) for source in sources for trait in re.findall(r"\btrait (\w+)", source.text)}
-        own = {(source.crate, name) for source in sources for name in OWN.findall(source.text) if not source.is_own}
+        own = {(source.crate, name) for source in sources for name in OWN.findall(source.text)}
         for source in sources:
             for piece in source.pieces:
                 if piece.is_impl and any((source.crate, name) in own for name in piece.names):
@@ -151,7 +147,7 @@ class Stated:
         """The modules and names that the words of a text in a file may stand for, and some words more."""
         words = words_of(text).union(more)
         yield from ((source.module, word) for word in ("", *words))
-        whole = [(re.sub(r"^crate(?=\.)", source.crate, path.replace("::", ".")), word) for path, word in WHOLE.findall(text)]
+        whole = [(path.replace("::", "."), word) for path, word in WHOLE.findall(text)]
         for path, word in (*whole, *((path, word) for word in words for path in source.uses.get(word, ()))):
             crate, _, declared = path.partition(".specs.declared.")
             yield from ((f"{crate}.{CODE}", part) for part in (*declared.split("."), word)) if declared else [(path, word)]
@@ -163,25 +159,19 @@ class Stated:
         crates = self.direct[source.crate] if source.module.endswith(CODE) else []
         return ((f"{crate}.{CALLS}", word) for crate in (source.crate, *crates) for word in words_of(text))
 
-    def all_of(self, source: Source) -> set[tuple[str, str]]:
-        """What a whole file may cite."""
-        return {*self.cites(source, source.text, source.uses), *self.calls(source, source.text)}
-
     def cited(self, crate: str, own: Iterable[Source]) -> list[str]:
         """The texts that a crate of these files may rest on, in the crates below."""
-        return sorted(self.reached((cite for source in own for cite in self.all_of(source)), crate))
-
-    def reached(self, wanted: Iterable[tuple[str, str]], passed_over: str = "") -> set[str]:
-        """The texts that some names bring, with what these cite, and so on, without those of one crate."""
-        left, seen, texts = {*wanted}, set[tuple[str, str]](), set[str]()
-        while left:
-            module, name = left.pop()
+        own = [*own]
+        wanted = {cite for source in own for cite in (*self.cites(source, source.text, source.uses), *self.calls(source, source.text))}
+        seen, texts = set[tuple[str, str]](), set[str]()
+        while wanted:
+            module, name = wanted.pop()
             seen.add((module, name))
             for source, piece in self.found.get(module, {}).get(name, ()):
-                if source.crate != passed_over:
+                if source.crate != crate:
                     text = f"{module} {piece.text}"
                     has_body = "const fn" in text or "⟦" in text
                     more = (*self.cites(source, piece.text), *(self.calls(source, piece.text) if has_body else ()))
-                    left |= set() if text in texts else {*more} - seen
+                    wanted |= set() if text in texts else {*more} - seen
                     texts.add(text)
-        return texts
+        return sorted(texts)
