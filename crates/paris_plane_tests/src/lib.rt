@@ -12,10 +12,6 @@ mod cases;
 #[cfg(test)]
 mod fields;
 #[cfg(test)]
-mod forms;
-#[cfg(test)]
-mod layers;
-#[cfg(test)]
 mod planes;
 #[cfg(test)]
 mod runs;
