@@ -482,19 +482,20 @@ def test_machines_that_nobody_holds_are_closed(libparis: Path) -> None:
 
 
 def test_without_memory_a_call_changes_nothing(libparis: Path) -> None:
-    """Rows that double a field are put in and settled until memory is refused, and again once there is some."""
+    """Rows that double mixed numbers are put in and settled until memory is refused, and again once there is some."""
     script = """
 import numpy, resource, sys
 sys.path.insert(0, sys.argv[1])
 from pevudlo import Machine
-twos = numpy.full(65536, 2, dtype=numpy.uint64)
+ones = numpy.random.default_rng(1).integers(1, 1 << 62, 65536, dtype=numpy.uint64)
+twos = ones * numpy.uint64(2)
 def limit(more):
     pages = int(open("/proc/self/statm").read().split()[0])
     resource.setrlimit(resource.RLIMIT_AS, (pages * 4096 + more, resource.RLIM_INFINITY))
 machine = Machine(library=True)
 machine.set("S", 65536)
 machine.field("a", "S", 64)
-machine["a"] = [1] * 65536
+machine["a"] = ones
 machine["a"]
 limit(2_000_000)
 try:
@@ -512,7 +513,8 @@ except MemoryError as error:
 limit(500_000_000)
 machine.settle()
 values = machine["a"]
-print((values == start * 2 ** len(machine.rows())).all(), 0 < len(machine.rows()) < 60, machine.close())
+doubled = ones * numpy.uint64(start * 2 ** len(machine.rows()) % 2**64)
+print((values == doubled).all(), 0 < len(machine.rows()) < 60, machine.close())
 """
     words = [sys.executable, "-c", script, str(ROOT / "python")]
     ran = subprocess.run(words, capture_output=True, text=True, timeout=60)

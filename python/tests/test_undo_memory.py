@@ -129,12 +129,20 @@ def test_steps_hold_no_more_than_they_are_said_to(used: Callable[[], int], libpa
             assert said >= 0.9 * truth_of(history, used), seed
 
 
+def fill(machine: Machine, names: str, width: int, processors: int) -> None:
+    """Gives fields numbers whose bits are mixed: a plane that is one bit throughout takes no words."""
+    dice = Random(width)
+    for name in names:
+        machine[name] = [dice.getrandbits(width) for _ in range(processors)]
+
+
 def chain() -> tuple[Machine, History]:
     """A machine with two settled rows, of which the second reads what the first writes, and its steps."""
     machine = Machine(library=True, workers=1, undo_bytes=NO_BOUND)
     machine.set("S", LARGE)
     for name in FIELDS:
         machine.field(name, "S", 64)
+    fill(machine, FIELDS, 64, LARGE)
     machine.insert("logxor-3-1L b a e 64")
     machine.insert("logxor-3-1L c b e 64")
     machine.settle()
@@ -213,6 +221,7 @@ def sums(rows: int, processors: int, undo_bytes: int = NO_BOUND) -> Machine:
     machine.set("S", processors)
     for name in "abcd":
         machine.field(name, "S", 32)
+    fill(machine, "abcd", 32, processors)
     for row in range(rows):
         machine.insert(f"u-add-3-1L {'bcd'[row % 3]} {'dbc'[row % 3]} a 32")
     machine.settle()

@@ -15,9 +15,10 @@ MEGABYTE = 1_000_000
 SHARE = 4
 """Steps of undo take at most this part of the machine's memory, where nothing else is said."""
 
-PLANE, PLANE_APART = 152, 16
-SHORT = 1_024
-"""A plane of bits takes so many bytes. One of more processors than these has its words apart."""
+PLANE, PLANE_APART = 48, 16
+SHORT = 128
+"""A plane of bits takes so many bytes, and one of more processors than these has its words apart. One that is the same
+bit throughout has none. Which are can't be told from here, so it counts as the others do."""
 
 RESULT = 512
 """Bytes of a result beside its planes."""
