@@ -6,35 +6,49 @@ use std::error;
 use std::process::Command;
 
 const LIMITED: &str = "PARIS_LIMITED";
-const LIMIT: &str = "ulimit -v 30000 && exec \"$0\"";
+const LIMIT: &str = "ulimit -v 30000 && exec timeout 120 \"$0\"";
 
 /// So many bytes are given back once memory was refused, so that small calls have room.
 const BALLAST: usize = 1 << 20;
 
-/// Declares fields of half a megabyte each, until one is refused, and answers how many have room.
-fn declare_fields(session: &mut Session) -> Result<usize, Error> {
-    for number in 0..64 {
-        match session.answer(format!("field f{number} s 64")) {
-            Err(Error::Fault(Fault::NoMemory)) => return Ok(number),
-            declared => assert_eq!(declared?, "ok\n"),
-        }
+/// A line that gives a field of 64 bits numbers of mixed bits. A plane that is the same bit throughout takes no words.
+fn line_of_numbers(field: usize) -> String {
+    let mut line = format!("input f{field} 0");
+    let mut number = field as u64;
+    for _ in 0..2000 {
+        number = number
+            .wrapping_mul(6364136223846793005)
+            .wrapping_add(1442695040888963407);
+        line += &format!(" {number}");
     }
-    panic!("all fields have room");
+    line
 }
 
-fn a_field_is_refused() -> Result<(), Error> {
+/// Gives fields numbers of half a megabyte each, until they are refused, and answers how many have room.
+fn give_numbers(session: &mut Session) -> Result<usize, Error> {
+    for number in 0..60 {
+        match session.answer(line_of_numbers(number)) {
+            Err(Error::Fault(Fault::NoMemory)) => return Ok(number),
+            given => assert_eq!(given?, "ok\n"),
+        }
+    }
+    panic!("all numbers have room");
+}
+
+fn numbers_are_refused() -> Result<(), Error> {
     let mut session = Session::new()?;
     assert_eq!(session.answer("set s 65536")?, "ok\n");
-    let ballast = vec![0u8; BALLAST];
-    let count = declare_fields(&mut session)?;
-    drop(ballast);
-    assert!(count > 8, "{count} fields have room");
     assert_eq!(session.answer("set t 4")?, "ok\n");
+    for number in 0..60 {
+        assert_eq!(session.answer(format!("field f{number} s 64"))?, "ok\n");
+    }
+    let ballast = vec![0u8; BALLAST];
+    let count = give_numbers(&mut session)?;
+    drop(ballast);
+    assert!(count > 4, "{count} fields have numbers");
     assert_eq!(session.answer("field small t 8")?, "ok\n");
-    assert_eq!(
-        session.answer(format!("input f{count} 0 1"))?,
-        "refused 7\n"
-    );
+    assert_eq!(session.answer("input small 0 1 2")?, "ok\n");
+    assert_eq!(session.answer("show small end")?, "values 1 2 0 0\n");
     Ok(())
 }
 
@@ -45,7 +59,7 @@ fn rows_are_settled_in_part() -> Result<(), Error> {
         assert_eq!(session.answer(format!("field f{number} s 64"))?, "ok\n");
     }
     for number in 0..256 {
-        let line = format!("insert end u-move-constant-1L f{} {number} 64", number % 16);
+        let line = format!("insert end my-send-address-1L f{} 64", number % 16);
         assert_eq!(session.answer(line)?, format!("row {}\n", number + 1));
     }
     let ballast = vec![0u8; BALLAST];
@@ -62,7 +76,7 @@ fn rows_are_settled_in_part() -> Result<(), Error> {
 
 fn main() -> Result<(), Box<dyn error::Error>> {
     if env::var_os(LIMITED).is_some() {
-        a_field_is_refused()?;
+        numbers_are_refused()?;
         rows_are_settled_in_part()?;
         return Ok(());
     }
