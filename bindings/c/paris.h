@@ -147,6 +147,12 @@ uint32_t paris_settle_for(paris_handle *handle, const uint8_t *key, size_t key_l
    rows are unsettled. What became unsettled by an edit is what is here after it and wasn't before. It takes no memory. */
 uint32_t paris_unsettled(paris_handle *handle, uint64_t *room, size_t len, size_t *count);
 
+/* Puts the ids of the rows that an edit behind the first `since` touched into a room, in program order, or the first ones where the room
+   has fewer words: rows that were put in or replaced, and those that got other inputs, settled by now or not. *count is how many
+   these rows are. *edits is how many edits were accepted, which is `since` of the next call. Where a snapshot took an edit back, editions
+   come again, so ask from 0 on. It takes no memory. */
+uint32_t paris_touched(paris_handle *handle, uint64_t since, uint64_t *room, size_t len, size_t *count, uint64_t *edits);
+
 /* *row is the id of the row that gives a key its value at a place, settled or not, and 0 where that is the input data. What `show` refuses
    is refused, by the same fault. It takes no memory. */
 uint32_t paris_origin(paris_handle *handle, const uint8_t *key, size_t key_len, uint64_t place, uint64_t *row);

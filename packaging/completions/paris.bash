@@ -5,7 +5,7 @@ _paris_options() {
         explain) echo '--help --json --quiet --stop --workers' ;;
         prompt) echo '--help --program --quiet --workers' ;;
         page) echo '--draw --help --quiet --workers -o' ;;
-        live) echo '--follow --help --port --program --quiet --shared --workers' ;;
+        live) echo '--follow --help --port --quiet --shared --workers' ;;
         watch) echo '--help --plain --workers' ;;
         lsp) echo '--help --stdio --workers' ;;
         help) echo '--help lesson machine scripts instructions idioms people python embedding editors glossary' ;;

@@ -6,6 +6,7 @@ from importlib import import_module
 from types import ModuleType
 from typing import TYPE_CHECKING
 
+from pevudlo.follow import follow
 from pevudlo.hints.explanation import Explanation, Refusal
 from pevudlo.lang.causes import RefusedRows
 from pevudlo.lang.places import END, START, Place, after
@@ -20,7 +21,7 @@ from pevudlo.wire.pipe import Ended, OutOfTurn, Pipe, PipeError
 from pevudlo.wire.program import NotFound, find
 
 if TYPE_CHECKING:
-    from pevudlo import paris
+    from pevudlo import algorithms, paris
 
 __version__ = release()
 
@@ -53,8 +54,10 @@ __all__ = [
     "WrongShape",
     "__version__",
     "after",
+    "algorithms",
     "find",
     "find_library",
+    "follow",
     "paris",
     "signed",
     "unsigned",
@@ -64,9 +67,9 @@ __all__ = [
 if not TYPE_CHECKING:
 
     def __getattr__(name: str) -> ModuleType:
-        """Loads `paris` once it is asked for, with the reference that its functions are told by."""
-        if name == "paris":
-            return import_module("pevudlo.paris")
+        """Loads `paris` once it is asked for, with the reference that its functions are told by, and `algorithms`."""
+        if name in ("algorithms", "paris"):
+            return import_module(f"pevudlo.{name}")
         raise AttributeError(f"module 'pevudlo' has no attribute {name!r}")
 
     def __dir__() -> list[str]:

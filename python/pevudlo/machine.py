@@ -4,7 +4,7 @@ from __future__ import annotations
 
 import os
 import warnings
-from collections.abc import Iterator, Mapping, Sequence
+from collections.abc import Iterable, Iterator, Mapping, Sequence
 from contextlib import AbstractContextManager
 from pathlib import Path
 from threading import get_ident
@@ -274,6 +274,14 @@ class Machine:
         """The lines of the reply to a line of a script, as they come; a refusal is a reply here. None for a comment."""
         answer = self._talk.tell(line)
         return [] if answer is None else list(answer.lines)
+
+    def tell(self, lines: Iterable[str]) -> list[int | None]:
+        """Tells lines that declare or edit, one by one. Gives the id of the row that each put in, and None of others.
+
+        Ctrl-C comes behind all of them. Raises ValueError, with nothing told, where another line is among them, and
+        Refusal at the first that is refused: those before it are told, and none behind.
+        """
+        return [reply.row if isinstance(reply, RowAdded) else None for reply in self._talk.tell_edits(lines)]
 
     @overload
     def __getitem__(self, index: str) -> Shown | Pending:

@@ -4,6 +4,7 @@ from __future__ import annotations
 
 import threading
 from collections.abc import Iterable, Mapping, Sequence
+from contextlib import nullcontext
 from dataclasses import dataclass, field, replace
 from typing import Protocol, TypeVar
 
@@ -28,6 +29,9 @@ from pevudlo.lang.replies import (
 )
 
 Kind = TypeVar("Kind", bound=Reply)
+
+LOOKS = ("show", "list", "faults")
+"""The commands that change no row."""
 
 EDITS = ("set", "field", "input", "insert", "delete", "replace")
 """The commands that are edits: each that is accepted counts one."""
@@ -98,6 +102,23 @@ class Talk:
                     return self._answer(line)
                 with undisturbed():
                     return self._answer(line)
+        finally:
+            self.waiting.discard(threading.get_ident())
+
+    def tell_edits(self, lines: Iterable[str]) -> list[Reply]:
+        """The replies to lines that declare or edit, one after another, as a whole before Ctrl-C.
+
+        Raises ValueError, with nothing told, where another line is among them, and Refusal at the first that is
+        refused: those before it are told, and none behind.
+        """
+        lines = list(lines)
+        wrong = next((line for line in lines if line.split(" ")[0] not in EDITS), None)
+        if wrong is not None:
+            raise ValueError(f"lines that declare or edit are wanted, and {wrong!r} isn't one")
+        try:
+            self.waiting.add(threading.get_ident())
+            with self.lock, undisturbed() if self._is_inside else nullcontext():
+                return [self.command(line) for line in lines]
         finally:
             self.waiting.discard(threading.get_ident())
 

@@ -1,4 +1,4 @@
-"""The examples of docs/PYTHON.md, run as they stand there, and the program that measures."""
+"""The examples of docs/PYTHON.md and docs/ARRAYS.md, run as they stand there, and the programs that measure."""
 
 from __future__ import annotations
 
@@ -30,6 +30,15 @@ def test_the_examples_give_what_the_document_says(library: bool) -> None:
             value.close()
 
 
+def test_the_examples_of_functions_give_what_the_document_says(libparis: Path) -> None:
+    path = REPOSITORY / "docs/ARRAYS.md"
+    text = path.read_text(encoding="utf-8")
+    blocks = re.findall(r"```python\n(.*?)```", text, re.S)
+    test = doctest.DocTestParser().get_doctest("\n".join(blocks), {}, "docs/ARRAYS.md", str(path), 0)
+    assert len(test.examples) == text.count("\n>>> ") > 30
+    assert doctest.DocTestRunner().run(test).failed == 0
+
+
 def test_the_document_names_each_call() -> None:
     text = DOCUMENT.read_text(encoding="utf-8").split("## Calls and commands")[1].split("\n## ")[0]
     calls = [name for name in vars(Machine) if not name.startswith("_")]
@@ -55,6 +64,14 @@ def test_bench_measures_arrays(libparis: Path) -> None:
     assert rounds[0].startswith("| one round |") and len(rounds) == 5
     assert all(re.fullmatch(r"\| (8|32|64) bits (\|[ \d./]+ms ){5}\| \*\*\d+\.\d\*\* \|", line) for line in rounds[2:])
     assert all(re.fullmatch(r"\|[^|]+\| \d+(\.\d+ µs each| ns) \|", line) for line in lines[2:])
+
+
+def test_bench_measures_functions(libparis: Path) -> None:
+    words = [sys.executable, str(REPOSITORY / "bench/functions"), "1", "64"]
+    ran = subprocess.run(words, capture_output=True, text=True, timeout=60)
+    lines = ran.stdout.splitlines()
+    assert (ran.returncode, ran.stderr, len(lines)) == (0, "", 5) and lines[0].startswith("| operations |")
+    assert all(re.fullmatch(r"\| [a-z ]+, 64 \| \d+ µs (\|[ \d.()]+){8}\|", line) for line in lines[2:])
 
 
 def test_the_first_program_over_the_library_writes_what_the_document_says(libparis: Path, tmp_path: Path) -> None:

@@ -14,13 +14,16 @@ import pytest
 from random_lines import RandomLines
 from usages import is_usage_of
 
+from pevudlo.draw.visible import visible
 from pevudlo.explain.command import main
 from pevudlo.explain.words import ranged
+from pevudlo.explain.writers import WIDE
 from pevudlo.wire.program import find
 
 REPOSITORY = Path(__file__).resolve().parents[2]
 SCRIPTS = sorted(REPOSITORY.glob("examples/*.paris")) + sorted(REPOSITORY.glob("checks/rows/*/*.paris"))
-AT_LINE = re.compile(r"^([^\s:]+):(\d+): (.*)$")
+AT_LINE = re.compile(r"^ *(\d+)  (.*)$")
+INDENT = " " * 6
 
 
 def run(*words: str | Path, stdin: bytes = b"", timeout: float = 60) -> subprocess.CompletedProcess[str]:
@@ -37,16 +40,37 @@ def run(*words: str | Path, stdin: bytes = b"", timeout: float = 60) -> subproce
     )
 
 
-def blocks_of(said: str) -> list[tuple[int, str, list[str]]]:
-    """What `explain` says, but for the last line: a line's number, what stands behind it, and the lines below."""
+def blocks_of(said: str, lines: list[str]) -> list[tuple[int, str, list[str]]]:
+    """What `explain` says, but for the first line and the last: of each command the line's number, what stands beside
+    it, and the lines below. Comments stand there as they are."""
     blocks: list[tuple[int, str, list[str]]] = []
-    for line in said.split("\n")[:-2]:
-        match = AT_LINE.match(line)
-        if match and not line.startswith(" "):
-            blocks.append((int(match[2]), match[3], []))
-        else:
+    for line in said.split("\n")[1:-2]:
+        match = None if line.startswith(INDENT) else AT_LINE.match(line)
+        if match is None:
             blocks[-1][2].append(line)
+        elif not lines[int(match[1]) - 1].startswith("#"):
+            blocks.append((int(match[1]), beside(match[2], lines[int(match[1]) - 1]), []))
+        else:
+            assert match[2] == visible(lines[int(match[1]) - 1])
     return blocks
+
+
+def cut(line: str) -> str:
+    """A line, or its beginning where it is long."""
+    return line if len(line) <= 100 else f"{line[:97]}..."
+
+
+def beside(text: str, line: str) -> str:
+    """What stands beside a line. Of a refused one another part may be shown, so its reply is looked for."""
+    whole = visible(cut(line))
+    if text.startswith(f"{whole:<{WIDE}}  "):
+        return text[max(WIDE, len(whole)) + 2 :]
+    return text[text.rindex("  refused ") + 2 :]
+
+
+def said_of(line: str, head: str, number: int) -> str:
+    """A line as `explain` writes it."""
+    return f"{number:>4}  {line:<{WIDE}}  {head}"
 
 
 def replies_of(transcript: list[str]) -> list[list[str]]:
@@ -73,7 +97,7 @@ def numbered_commands(lines: list[str]) -> list[tuple[int, str]]:
 
 def assert_matches(said: str, lines: list[str], replies: list[list[str]]) -> None:
     """Each reply stands at the number of its line, whole where it is no grid, and grids have its numbers."""
-    blocks, commands = blocks_of(said), numbered_commands(lines)
+    blocks, commands = blocks_of(said, lines), numbered_commands(lines)
     assert len(blocks) == len(commands) == len(replies)
     for (number, head, more), (at, line), reply in zip(blocks, commands, replies):
         assert number == at, line
@@ -90,7 +114,7 @@ def assert_matches(said: str, lines: list[str], replies: list[list[str]]) -> Non
         if reply[0].startswith("faults "):
             assert [" ".join(each.split(":")[0].split()) for each in more] == reply[1:], line
         if reply[0].startswith("refused "):
-            assert len(more) >= 2 and more[-1].strip(), f"no hint for {line!r}"
+            assert more and more[-1].strip(), f"no hint for {line!r}"
 
 
 def refused_lines(lines: list[str], replies: list[list[str]]) -> list[int]:
@@ -134,7 +158,8 @@ def test_each_script_has_the_replies_of_its_transcript(path: Path, capsys: pytes
     assert status == bool(refused)
     *told, faults = plain_replies(path)
     assert told == replies
-    assert written.split("\n")[-2] == f"{path}: {last_line(len(replies), refused, faults[1:])}"
+    assert written.split("\n")[0] == str(path)
+    assert written.split("\n")[-2] == last_line(len(replies), refused, faults[1:])
 
 
 def test_ten_thousand_random_lines(tmp_path: Path) -> None:
@@ -152,7 +177,7 @@ def test_ten_thousand_random_lines(tmp_path: Path) -> None:
     ran = run(path)
     assert (ran.returncode, ran.stderr) == (1, "")
     assert_matches(ran.stdout, lines, replies)
-    assert ran.stdout.split("\n")[-2] == f"{path}: {last_line(len(replies), refused, faults[1:])}"
+    assert ran.stdout.split("\n")[-2] == last_line(len(replies), refused, faults[1:])
     assert not re.search(r"[\x00-\x09\x0b-\x1f\x7f-\x9f\udc80-\udcff]", ran.stdout)
 
 
@@ -180,16 +205,16 @@ def test_rows_that_are_refused_for_their_data_are_told(tmp_path: Path) -> None:
     path.write_text(MEETING)
     ran = run(path)
     assert (ran.returncode, ran.stderr) == (0, "")
-    assert ran.stdout.split("\n")[10:-1] == [
-        f"{path}:11: kept: 1 row is refused for its data: row 1",
-        f"    row 1 stores nothing, since {MEET}",
-        f"{path}:12: settled 2: 2 rows are refused for their data: rows 1, 3",
-        f"    row 1 stores nothing, since {MEET}",
-        f"    row 3 stores nothing, since {LIES}",
-        f"{path}:13: faults 2",
-        f"    1 collision 0: {MEET}",
-        f"    3 bad-address 3: {LIES}",
-        f"{path}: 13 commands, none refused; 2 rows are refused for their data: rows 1, 3",
+    assert ran.stdout.split("\n")[11:-1] == [
+        said_of("bring 1", "kept: 1 row is refused for its data: row 1", 11),
+        f"{INDENT}row 1 stores nothing, since {MEET}",
+        said_of("settle", "settled 2: 2 rows are refused for their data: rows 1, 3", 12),
+        f"{INDENT}row 1 stores nothing, since {MEET}",
+        f"{INDENT}row 3 stores nothing, since {LIES}",
+        said_of("faults", "faults 2", 13),
+        f"{INDENT}1 collision 0: {MEET}",
+        f"{INDENT}3 bad-address 3: {LIES}",
+        "13 commands, none refused; 2 rows are refused for their data: rows 1, 3",
     ]
 
 
@@ -199,30 +224,31 @@ def test_of_many_rows_that_are_refused_the_first_are_told(tmp_path: Path) -> Non
     path.write_text(f"set S 4\nfield to S 2\nfield v S 8\nfield d S 8\n{rows}settle\n")
     said = run(path).stdout.split("\n")
     named = ", ".join(map(str, range(1, 13)))
-    assert said[24] == f"{path}:25: settled 20: 20 rows are refused for their data: rows {named}, .."
-    assert said[25:37] == [f"    row {row} stores nothing, since {MEET}" for row in range(1, 13)]
-    assert said[37] == "    `faults` lists them all"
+    assert said[25] == said_of("settle", f"settled 20: 20 rows are refused for their data: rows {named}, ..", 25)
+    assert said[26:38] == [f"{INDENT}row {row} stores nothing, since {MEET}" for row in range(1, 13)]
+    assert said[38] == f"{INDENT}`faults` lists them all"
 
 
 def test_stop_ends_at_the_first_refusal(tmp_path: Path) -> None:
     path = tmp_path / "stops.paris"
     path.write_text("set S 4\n# more\nshw a\nset T 4\n")
+    lines = path.read_text().split("\n")
     for words in ([str(path), "--stop"], ["--stop", str(path)]):
         ran = run(*words)
         assert ran.returncode == 1
-        assert [number for number, _, _ in blocks_of(ran.stdout)] == [1, 3]
-        assert ran.stdout.split("\n")[-2].endswith("2 commands, 1 refused: line 3; stopped at the first refusal")
-    assert [number for number, _, _ in blocks_of(run(path).stdout)] == [1, 3, 4]
+        assert [number for number, _, _ in blocks_of(ran.stdout, lines)] == [1, 3]
+        assert ran.stdout.split("\n")[-2] == "2 commands, 1 refused: line 3; stopped at the first refusal"
+    assert [number for number, _, _ in blocks_of(run(path).stdout, lines)] == [1, 3, 4]
 
 
 def test_a_refusal_with_caret_and_hint(tmp_path: Path) -> None:
     path = tmp_path / "wrong.paris"
     path.write_text("set S 4\nfield a S 8\nshow a edn\ninput a 0 300")
     said = run(path).stdout.split("\n")
-    at = said.index(f"{path}:3: refused 20 8: the line is not in the grammar, from column 8 on")
-    assert said[at + 1 : at + 3] == ["    show a edn", "           ^"]
-    assert "did you mean `end`" in said[at + 3]
-    assert f"{path}:4: refused 9 0: the value for processor 0 does not fit the width" in said
+    refused = "refused 20 8: the line is not in the grammar, from column 8 on"
+    at = said.index(said_of("show a edn", refused, 3))
+    assert said[at + 1] == f"{INDENT}       ^" and "did you mean `end`" in said[at + 2]
+    assert said_of("input a 0 300", "refused 9 0: the value for processor 0 does not fit the width", 4) in said
     assert "300" in said[-3] and "255" in said[-3]
 
 
@@ -245,7 +271,7 @@ def test_the_end_names_many_refused_lines_by_a_range(tmp_path: Path) -> None:
     path = tmp_path / "many.paris"
     path.write_text("set S 4\n" * 9 + "# A comment.\n" + "nope\n" * 101)
     last = run(path).stdout.split("\n")[-2]
-    assert last == f"{path}: 110 commands, 109 refused: lines 2 to 9, 11 to 111"
+    assert last == "110 commands, 109 refused: lines 2 to 9, 11 to 111"
 
 
 def test_words(tmp_path: Path) -> None:
@@ -257,7 +283,7 @@ def test_words(tmp_path: Path) -> None:
     assert run(tmp_path).returncode == 2
     assert run("--help").returncode == 0 and run("--help").stdout.startswith("usage: paris explain ")
     ran = run("-", "--workers", "3", stdin=b"set S 4\n")
-    assert ran.stdout == "-:1: ok\n-: 1 command, none refused\n"
+    assert ran.stdout == f"-\n{said_of('set S 4', 'ok', 1)}\n1 command, none refused\n"
 
 
 def test_a_program_that_ends(tmp_path: Path) -> None:
@@ -283,7 +309,7 @@ def test_ctrl_c(tmp_path: Path) -> None:
     ran = subprocess.Popen(words, stdout=subprocess.PIPE, stderr=subprocess.PIPE, text=True, env=environment)
     assert ran.stdout is not None
     for line in ran.stdout:
-        if line.startswith(f"{path}:4002: "):
+        if line.startswith("4002  "):
             break
     children = Path(f"/proc/{ran.pid}/task/{ran.pid}/children").read_text().split()
     assert len(children) == 1
@@ -300,5 +326,5 @@ def test_who_stops_reading(tmp_path: Path) -> None:
     environment = {**os.environ, "PARIS_FRONT": str(find()), "PYTHONPATH": str(REPOSITORY / "python")}
     words = f"{sys.executable} -P -m pevudlo explain {path} | head -n 1"
     ran = subprocess.run(["bash", "-c", words], capture_output=True, text=True, timeout=60, env=environment)
-    assert ran.stdout == f"{path}:1: settled 0\n"
+    assert ran.stdout == f"{path}\n"
     assert ran.stderr == ""

@@ -3,13 +3,13 @@
 from __future__ import annotations
 
 import json
-import re
 from pathlib import Path
 from typing import Any
 
 import pytest
 from random_lines import RandomLines
-from test_explain import LIES, MEET, MEETING, REPOSITORY, SCRIPTS, numbered_commands, plain_replies, refused_lines, run
+from test_explain import LIES, MEET, MEETING, REPOSITORY, SCRIPTS, blocks_of, numbered_commands, plain_replies
+from test_explain import refused_lines, run, said_of
 
 
 def reply_of(told: dict[str, Any]) -> list[str]:
@@ -110,11 +110,9 @@ def test_quiet_writes_refusals_and_values_alone(tmp_path: Path) -> None:
     loud, quiet = run(path), run(path, "--quiet")
     assert (quiet.returncode, quiet.stderr) == (1, "")
     wanted = [11, 12, 13, 15, 16]
-    assert [int(number) for number in re.findall(rf"^{re.escape(str(path))}:(\d+): ", quiet.stdout, re.M)] == wanted
-    blocks = re.split(rf"^(?={re.escape(str(path))}:)", loud.stdout, flags=re.M)
-    assert quiet.stdout == "".join(
-        block for block in blocks if re.search(rf":({'|'.join(map(str, wanted))}): ", block[: len(str(path)) + 5])
-    )
+    lines = path.read_text().split("\n")
+    blocks = {block[0]: block for block in blocks_of(loud.stdout, lines)}
+    assert blocks_of(quiet.stdout + "\n", lines) == [blocks[number] for number in wanted]
     assert [each["line"] for each in objects(run("--quiet", path, "--json").stdout)] == wanted
 
 
@@ -124,7 +122,8 @@ def test_quiet_is_silent_where_all_is_well(tmp_path: Path) -> None:
     ran = run(path, "--quiet")
     assert (ran.returncode, ran.stdout, ran.stderr) == (0, "", "")
     path.write_text("set S 4\ninsert end set-test S\nshow S.test end\n")
-    assert run(path, "--quiet").stdout == f"{path}:3: pending 1: row 1 writes it last, and is unsettled\n"
+    said = said_of("show S.test end", "pending 1: row 1 writes it last, and is unsettled", 3)
+    assert run(path, "--quiet").stdout == f"{path}\n{said}\n"
 
 
 def test_stop_is_told_in_the_last_object(tmp_path: Path) -> None:

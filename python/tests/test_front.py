@@ -227,9 +227,9 @@ def test_a_short_word_for_help() -> None:
 def test_explain_has_the_programs_status_and_program() -> None:
     ran = paris("explain", FIRST)
     assert (ran.returncode, ran.stderr) == (0, "")
-    assert ran.stdout.split("\n")[-2] == f"{FIRST}: 11 commands, none refused"
+    assert ran.stdout.split("\n")[-2] == "11 commands, none refused"
     ran = paris("explain", "-", stdin="show a end\n")
-    assert ran.returncode == 1 and ran.stdout.startswith("-:1: refused 7: no field has this name")
+    assert ran.returncode == 1 and "refused 7: no field has this name" in ran.stdout.split("\n")[1]
     # The program is the repository's, whatever the variable says.
     assert paris("explain", FIRST, PARIS_FRONT="/bin/false").returncode == 0
 
@@ -255,7 +255,7 @@ def test_a_python_with_numpy_comes_first(tmp_path: Path, has_numpy: bool) -> Non
         script.chmod(0o755)
     environment = {**os.environ, "PATH": f"{tmp_path}:{os.environ['PATH']}"}
     said = subprocess.run([copy, "explain", FIRST], capture_output=True, text=True, timeout=60, env=environment)
-    assert said.stdout.endswith(f"{FIRST}: 11 commands, none refused\n") and ran.exists() != has_numpy
+    assert said.stdout.endswith("\n11 commands, none refused\n") and ran.exists() != has_numpy
 
 
 def test_without_a_python_from_3_11_on(tmp_path: Path) -> None:

@@ -406,6 +406,31 @@ def test_a_machine_says_what_it_is_over(libparis: Path) -> None:
         assert (machine.program, machine.library) == (find(), None)
 
 
+@pytest.mark.parametrize("seed", range(4))
+def test_touched_rows_are_those_of_a_later_edition(libparis: Path, seed: int) -> None:
+    """Beside the list of all rows, since each count of edits: more rows than there is room for at first."""
+    chance = Random(seed)
+    with Library(libparis) as library:
+        for line in ("set S 4", "field a S 8", "field b S 8"):
+            library.ask(line)
+        for count in range(4, 104):
+            library.ask(f"insert {chance.choice(['start', 'end'])} u-move-1L {chance.choice(['a b', 'b a', 'a a'])} 8")
+            assert library.touched(0)[1] == count
+        for _ in range(200):
+            row = chance.choice(library.ask("list")[1:]).split(" ")[0]
+            edits = [
+                "input a 0 {}",
+                "input b 2 {}",
+                f"replace {row} u-move-constant-1L b {{}} 8",
+                f"delete {row}",
+                "settle",
+            ]
+            library.ask(chance.choice(edits).format(chance.randrange(256)))
+            rows = [line.split(" ")[:3:2] for line in library.ask("list")[1:]]
+            since = chance.randrange(library.touched(0)[1] + 2)
+            assert library.touched(since)[0] == [int(row) for row, edition in rows if int(edition) > since]
+
+
 def test_closing_twice(libparis: Path) -> None:
     for line, status in (("set S 4", 0), ("set S 3", 1)):
         library = Library(libparis)

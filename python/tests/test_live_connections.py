@@ -1,41 +1,29 @@
-"""Many connections to a live page: none of a burst is lost, requests that don't come to an end free their place, and
-each has its answer where the program is killed.
-"""
+"""Many connections to a live page: none of a burst is lost, and requests that don't come to an end free their place."""
 
 from __future__ import annotations
 
 import http.client
 import json
-import os
-import signal
 import socket
 import threading
 import time
 from collections.abc import Iterator
 from concurrent.futures import ThreadPoolExecutor
+from pathlib import Path
 
 import pytest
-from pages import answers, script_of
+from live_tabs import serve
+from pages import script_of
 
 from pevudlo.live.connections import IDLE_SECONDS, MOST_CONNECTIONS, REQUEST_SECONDS
 from pevudlo.live.server import HOST, Server
-from pevudlo.live.session import Session
-from pevudlo.wire.program import find
 
 BURST = 300
 
 
 @pytest.fixture(scope="module")
-def server() -> Iterator[Server]:
-    session = Session(find())
-    session.load(script_of("first-sum"))
-    with Server(session, "first-sum") as served:
-        thread = threading.Thread(target=served.serve_forever, args=(0.05,), daemon=True)
-        thread.start()
-        yield served
-        served.shutdown()
-        thread.join(10)
-    session.close()
+def server(libparis: Path) -> Iterator[Server]:
+    yield from serve(script_of("first-sum"))
 
 
 def free_places(server: Server) -> int:
@@ -132,42 +120,6 @@ def test_a_connection_serves_several_requests(server: Server) -> None:
         assert connection.getresponse().read().startswith(b"{")
         time.sleep(0.1)
     connection.close()
-
-
-# A program that is killed
-
-
-def test_each_post_of_a_burst_has_its_answer_where_the_program_is_killed(server: Server) -> None:
-    before, child = len(server.session.taken), server.session.process
-
-    def post(number: int) -> tuple[int, bytes]:
-        if number == BURST // 2:
-            os.kill(child, signal.SIGKILL)
-        return answered(server, "command", {"line": f"input b 1 {number % 10}"})
-
-    with ThreadPoolExecutor(20) as threads:
-        found = list(threads.map(post, range(BURST)))
-    done, ended = ([text for status, text in found if status == wanted] for wanted in (200, 409))
-    assert done and ended and len(done) + len(ended) == BURST
-    assert set(done) == {json.dumps({"reply": ["ok"], "refused": ""}).encode()}
-    assert all("killed by signal 9" in json.loads(text)["stopped"] for text in ended)
-    # (of one the program may have been killed behind the reply)
-    assert len(server.session.taken) - before - len(done) in (0, 1)
-
-
-def test_a_killed_program_is_told_and_started_again(server: Server) -> None:
-    if not server.session.trouble:
-        os.kill(server.session.process, signal.SIGKILL)
-    taken = list(server.session.taken)
-    for name in ("command", "order") * 3:
-        status, text = answered(server, name, {"line": "settle"})
-        assert status == 409 and "killed by signal 9" in json.loads(text)["stopped"]
-    status, text = answered(server, "state")
-    assert status == 200 and "The program has ended." in json.loads(text)["html"]["trouble"]
-    assert answered(server, "script") == (200, "".join(f"{line}\n" for line in taken).encode())
-    assert answered(server, "restart", {})[0] == 200
-    assert json.loads(answered(server, "state")[1])["html"]["trouble"] == "" and server.session.taken == taken
-    assert told(server, line="show b start")["reply"] == answers([*taken, "show b start"])[-1]
 
 
 # Two tabs and one row

@@ -16,7 +16,8 @@ from random import Random
 from typing import Any
 
 import pytest
-from browsers import PATIENCE, cells, complaints, evaluated, one, until
+from browsers import PATIENCE, complaints, evaluated, one, rows, until, values
+from live_tabs import Copy, numbers_in, serve
 from random_editor import Fresh, RandomEditor, compare, numbers_of
 from selenium.webdriver.common.by import By
 from selenium.webdriver.common.keys import Keys
@@ -31,9 +32,10 @@ from pevudlo.files import read_opened
 from pevudlo.lang.replies import Status
 from pevudlo.live import command
 from pevudlo.live.followed import BY_THEMSELVES, FollowedSession, OtherText
+from pevudlo.client.pieces import Kind
 from pevudlo.live.server import Server
-from pevudlo.live.session import OtherRow, Session
-from pevudlo.wire.program import ROOT, find
+from pevudlo.live.session import Look, OtherRow
+from pevudlo.wire.program import ROOT
 
 HEAD = "set S 4\nfield a S 8\nfield b S 8\nfield c S 8\ninput a 0 1 2 3 4\n"
 ADD, TWICE = "u-add-3-1L b a a 8\n", "u-add-3-1L c b b 8\n"
@@ -48,19 +50,9 @@ def path(tmp_path: Path) -> Path:
 
 
 @pytest.fixture
-def session(path: Path, library: bool, request: pytest.FixtureRequest) -> Iterator[FollowedSession]:
-    """A session of the file, which looks at it when it is told to: over the program, and over the library."""
-    place = request.getfixturevalue("libparis") if library else find()
-    session = FollowedSession(path, place, 1 + library, is_inside=library)
-    session.look()
-    yield session
-    session.close()
-
-
-@pytest.fixture
-def over_program(path: Path) -> Iterator[FollowedSession]:
-    """A session over the program, which may be killed."""
-    session = FollowedSession(path, find(), 1)
+def session(path: Path, libparis: Path) -> Iterator[FollowedSession]:
+    """A session of the file, which looks at it when it is told to."""
+    session = FollowedSession(path, libparis, 2)
     session.look()
     yield session
     session.close()
@@ -72,8 +64,8 @@ def agree(session: FollowedSession, text: str) -> None:
     session.take(text)
     compare(session.document, text.split("\n")[:-1])
     texts = [text for _, text in Fresh(text.split("\n")[:-1]).rows]
-    assert [row.text for row in session.seen.rows] == texts
-    assert {row.status for row in session.seen.rows} <= {Status.SETTLED}
+    assert [row.text for row in session.rows] == texts
+    assert {row.status for row in session.rows} <= {Status.SETTLED}
 
 
 def bytes_of(text: str) -> bytes:
@@ -120,11 +112,11 @@ def test_what_is_typed_on_the_page_is_written_into_the_file(session: FollowedSes
 
 def test_a_row_that_is_typed_stays_until_it_is_saved(session: FollowedSession) -> None:
     typed(session, "u-add-3-1L b", "u-add-3-1 b", hold=True)
-    assert len(session.seen.rows) == 2 and session.done.count == 0
+    assert len(session.rows) == 2 and session.done.count == 0
     lines: Any = session.values(0, 99)["lines"]
     assert lines[5][0] == "refused" and lines[5][2].endswith("the row stays `u-add-3-1L b a a 8`")
     session.type(session.number, 0, 0, "", False)
-    assert len(session.seen.rows) == 1
+    assert len(session.rows) == 1
 
 
 def test_what_is_typed_into_another_text_is_refused(session: FollowedSession, path: Path) -> None:
@@ -146,12 +138,12 @@ def test_a_file_that_cannot_be_written(session: FollowedSession, path: Path) -> 
     path.parent.rmdir()
     with pytest.raises(OSError):
         typed(session, "3 4", "3 5")
-    assert session.text == TEXT and session.seen.rows
+    assert session.text == TEXT and session.rows
     # An edit of the page is taken back.
     for line in ("replace 1 u-max-3-1L b a a 8", "delete 1", "insert end u-max-3-1L b a a 8", "input a 3 5"):
         with pytest.raises(OSError):
             session.run(line)
-        assert session.text == TEXT and [row.text for row in session.seen.rows] == [ADD[:-1], TWICE[:-1]]
+        assert session.text == TEXT and [row.text for row in session.rows] == [ADD[:-1], TWICE[:-1]]
     path.parent.mkdir()
     path.write_text(TEXT)
     session.look()
@@ -185,6 +177,20 @@ def test_edits_on_the_page_are_edits_of_the_text(session: FollowedSession, case:
     agree(session, text)
 
 
+def test_commands_are_told_with_their_replies(session: FollowedSession) -> None:
+    for line, reply in (
+        ("input a 0 9", "ok"),
+        ("insert end u-mx-3-1L b a a 8", "refused 20 12"),
+        ("show a end", "values"),
+    ):
+        before = session.version
+        session.run(line)
+        (told,) = json.loads(json.dumps(session.state(before)))["log"]
+        assert (
+            told["line"] == line and told["reply"].startswith(reply) and bool(told["refused"]) == ("refused" in reply)
+        )
+
+
 def test_the_number_that_counts_is_changed(session: FollowedSession) -> None:
     """Of several lines that give a number the last one, as it lies over the others."""
     session.take(TEXT + "input a 1 7 7\ninput a 0 5\n")
@@ -216,8 +222,6 @@ def test_what_cannot_be_done_on_such_a_page(session: FollowedSession) -> None:
     for line in ("settle", "take", "bring 1", "release"):
         with pytest.raises(ValueError, match=BY_THEMSELVES):
             session.run(line)
-    with pytest.raises(ValueError, match=BY_THEMSELVES):
-        session.run_order()
     with pytest.raises(ValueError, match="one command is wanted"):
         session.run("# x")
     with pytest.raises(ValueError, match="there is no row 9"):
@@ -239,30 +243,27 @@ def test_rows_that_are_taken_out_or_replaced_further_down(session: FollowedSessi
     assert lines[8] == ["look", "→", "c 1 2 3 4"] and lines[10] == ["new", "▶", "c 1 2 3 4"]
 
 
-def test_a_program_that_is_killed_is_begun_anew(over_program: FollowedSession, path: Path) -> None:
-    session = over_program
-    os.kill(session.process, signal.SIGKILL)
-    path.write_text(TEXT.replace("3 4", "3 5"))
-    session.look()
-    assert "killed by signal 9" in session.done.fresh
-    agree(session, TEXT.replace("3 4", "3 5"))
-    os.kill(session.process, signal.SIGKILL)
-    session.restart()
-    assert session.done.fresh == "the book was closed"
-    agree(session, TEXT.replace("3 4", "3 5"))
-
-
 def test_the_program_is_begun_anew_with_the_text(session: FollowedSession) -> None:
     session.restart()
     assert session.done.fresh == "the book was closed" and session.done.count == 2
     agree(session, TEXT)
 
 
-def test_a_session_over_the_library_has_no_child(path: Path, libparis: Path) -> None:
-    session = FollowedSession(path, libparis, is_inside=True)
-    with pytest.raises(AttributeError, match="no child"):
-        print(session.process)
-    session.close()
+def test_rows_and_values_of_a_program_that_is_begun_anew_are_told_as_others(session: FollowedSession) -> None:
+    """Ids and editions come again, and no value that a tab has is one of the program that comes."""
+    tab = Copy()
+    tab.take(json.loads(json.dumps({**session.state(0), "hello": ""})))
+    assert tab.state["given"] == ["a"] and not tab.unsettled
+    session.take(TEXT.replace("set S 4", "set S 8").replace("1 2 3 4", "1 2 3 4 5 6 7 8"))
+    (piece,) = session.looks([Look("c", 2, False, 0)], tab.version, tab.edits)
+    assert numbers_in(piece) is Kind.OTHER
+    tab.take(session.state(tab.version))
+    assert tab.news["began"] and tab.touched == [1, 2] and tab.news["sets"] == {"S": [8]}
+    (piece,) = session.looks([Look("c", 2, False, 0)], tab.version, tab.edits)
+    assert numbers_in(piece) == [4, 8, 12, 16, 20, 24, 28, 32]
+    session.run("input a 0 9")
+    tab.take(session.state(tab.version))
+    assert tab.news["anew"] == ["a"] and tab.touched == [1, 2] and not tab.news["began"]
 
 
 def test_nothing_is_kept_of_what_was_typed(session: FollowedSession) -> None:
@@ -354,13 +355,12 @@ def test_what_goes_wrong_while_it_follows_is_told(session: FollowedSession, monk
 
 
 @pytest.mark.parametrize("seed", range(4))
-def test_three_hands_at_random(seed: int, tmp_path: Path, request: pytest.FixtureRequest) -> None:
+def test_three_hands_at_random(seed: int, tmp_path: Path, libparis: Path) -> None:
     """Each text is what the file has, and rows and values are those of a fresh run of it."""
     made, chance = RandomEditor(seed), Random(seed)
-    path, is_inside = tmp_path / "random.paris", seed % 2 == 1
+    path = tmp_path / "random.paris"
     path.write_bytes(bytes_of("".join(f"{line}\n" for line in made.lines)))
-    place = request.getfixturevalue("libparis") if is_inside else find()
-    session = FollowedSession(path, place, 1 + seed // 2, is_inside=is_inside)
+    session = FollowedSession(path, libparis, 1 + seed // 2)
     session.look()
     for _ in range(10):
         made.lines = session.text.split("\n")[:-1]
@@ -372,8 +372,8 @@ def test_three_hands_at_random(seed: int, tmp_path: Path, request: pytest.Fixtur
                 session.look()
             case 1:
                 session.type(session.number, 0, len(session.text), text, chance.random() < 0.5)
-            case _ if session.seen.rows:
-                row = chance.choice(session.seen.rows)
+            case _ if session.rows:
+                row = chance.choice(session.rows)
                 try:
                     session.run(f"replace {row.row} {made.made.instruction()}", row.text)
                 except ValueError as error:
@@ -435,31 +435,23 @@ def test_the_text_and_its_values_are_served(served: Server, path: Path) -> None:
     assert (status, json.loads(data)) == (400, answer) and got(served, "text")["text"] == f"# New.\n{TEXT}"
 
 
-def test_a_page_without_a_file_has_no_text() -> None:
-    session = Session(find(), 1)
-    with Server(session, "new") as server:
-        thread = threading.Thread(target=server.serve_forever, args=(0.05,), daemon=True)
-        thread.start()
+def test_a_page_without_a_file_has_no_text(libparis: Path) -> None:
+    for server in serve([], title="new"):
         assert asked(server, "GET", page(server, "text"))[0] == asked(server, "GET", page(server, "lines"))[0] == 404
         assert posted(server, was="0", start="0", end="0", text="x", hold="")[0] == 400
         assert b'id="text"' not in asked(server, "GET", page(server))[1]
         assert got(server, "state")["text"] == 0
-        server.shutdown()
-        thread.join(10)
-    session.close()
 
 
-@pytest.mark.parametrize("words", [(), ("--program",)], ids=["library", "program"])
-def test_the_command_follows_a_file(words: tuple[str, ...], path: Path, libparis: Path) -> None:
-    """Over the library it has no child. Ctrl-C ends it, and the programs behind it."""
-    line = [sys.executable, "-P", "-m", "pevudlo", "live", "--follow", *words, str(path)]
+def test_the_command_follows_a_file(path: Path, libparis: Path) -> None:
+    """It has no child. Ctrl-C ends it."""
+    line = [sys.executable, "-P", "-m", "pevudlo", "live", "--follow", str(path)]
     environment = {**os.environ, "PARIS_LIBRARY": str(libparis), "PYTHONPATH": str(ROOT / "python")}
     with subprocess.Popen(line, env=environment, stdout=subprocess.PIPE, text=True, start_new_session=True) as process:
         try:
             assert process.stdout is not None
             address = process.stdout.readline().split(" ")[1]
-            started = children_of(process.pid)
-            assert len(started) == (2 if words else 0)
+            assert children_of(process.pid) == []
             assert shown(TEXT) in beside_at(address)
             path.write_text(TEXT.replace("3 4", "3 5"))
             wanted, until = shown(TEXT.replace("3 4", "3 5")), time.monotonic() + PATIENCE
@@ -468,7 +460,6 @@ def test_the_command_follows_a_file(words: tuple[str, ...], path: Path, libparis
                 time.sleep(0.05)
             process.send_signal(signal.SIGINT)
             assert process.wait(PATIENCE) == 0
-            assert not any(Path(f"/proc/{child}").exists() for child in started)
         finally:
             process.kill()
 
@@ -532,13 +523,13 @@ def test_a_text_is_typed_on_the_page(browser: WebDriver, served: Server, path: P
     text = TEXT.replace("3 4", "3 5")
     until(browser, lambda: path.read_text() == text and is_shown(browser, served))
     assert beside(browser)[8] == shown(text) and one(browser, "#ran").text.endswith(" rows ran again")
-    until(browser, lambda: cells(browser, "#rows [data-row='2'] [data-key='c']") == shown(text).split(" ")[2:])
+    until(browser, lambda: values(browser, 2) == shown(text).split(" ")[2:])
     # A letter that is taken out leaves the row as it was, until it is saved.
     select(browser, "L b").send_keys(" b")
     until(browser, lambda: beside(browser)[5].startswith("✗ did you mean `u-add-3-1L`? (refused 20 1: "))
     assert "the row stays" in beside(browser)[5] and beside(browser)[8] == shown(text)
     one(browser, "#text").send_keys(Keys.CONTROL, "s")
-    until(browser, lambda: len(browser.find_elements(By.CSS_SELECTOR, "#rows article")) == 1)
+    until(browser, lambda: len(rows(browser)) == 1)
     until(browser, lambda: "the row stays" not in beside(browser)[5])
 
 
@@ -548,9 +539,9 @@ def test_the_file_is_edited_elsewhere_while_the_page_is_open(browser: WebDriver,
     until(browser, lambda: one(browser, "#text").get_attribute("value") == path.read_text())
     until(browser, lambda: len(beside(browser)) == 10 and beside(browser)[9] == shown(TEXT.replace("3 4", "3 5")))
     # A click on a cell is an edit of the text, and of the file.
-    browser.find_elements(By.CSS_SELECTOR, "#inputs [data-input='a'] td:not(.pv-corner)")[0].click()
-    one(browser, "#inputs [data-input='a'] input").send_keys(Keys.CONTROL + "a")
-    one(browser, "#inputs [data-input='a'] input").send_keys("9", Keys.ENTER)
+    one(browser, "#r-in_a [data-i='0']").click()
+    until(browser, lambda: len(browser.find_elements(By.CSS_SELECTOR, ".num")) == 1)
+    one(browser, ".num").send_keys("9", Keys.ENTER)
     text = "# Above.\n" + TEXT.replace("1 2 3 4", "9 2 3 5")
     until(browser, lambda: one(browser, "#text").get_attribute("value") == text == path.read_text())
     # Carriage returns don't come through an area of text.

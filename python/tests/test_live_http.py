@@ -2,6 +2,7 @@
 
 from __future__ import annotations
 
+import gzip
 import http.client
 import io
 import json
@@ -11,13 +12,13 @@ import threading
 import time
 import tracemalloc
 from collections.abc import Iterator
+from pathlib import Path
 
 import pytest
-from pages import Tree, answers, numbers_of, script_of
+from live_tabs import Tab, numbers_in, rest, serve
+from pages import answers, script_of
 
 from pevudlo.live.server import HOST, MOST_BYTES, Server
-from pevudlo.live.session import Session
-from pevudlo.wire.program import find
 
 MOST_OF_A_LINE = 65_537
 """So many bytes of a line or of a header are read, and no more."""
@@ -27,16 +28,10 @@ LITTLE_MEMORY = 5_000_000
 
 
 @pytest.fixture(scope="module")
-def server() -> Iterator[Server]:
-    session = Session(find())
-    session.load(script_of("first-sum"))
-    with Server(session, "first-sum") as served:
-        thread = threading.Thread(target=served.serve_forever, args=(0.05,), daemon=True)
-        thread.start()
-        yield served
-        served.shutdown()
-        thread.join(10)
-    session.close()
+def server(libparis: Path) -> Iterator[Server]:
+    for server in serve(script_of("first-sum"), title="first-sum"):
+        rest(server.session)
+        yield server
 
 
 def asked(
@@ -82,9 +77,29 @@ def test_the_page_and_its_state(server: Server) -> None:
     assert headers["Cache-Control"] == "no-store" and headers["Referrer-Policy"] == "no-referrer"
     status, data, _ = asked(server, "GET", page(server, "state"))
     state = json.loads(data)
-    assert status == 200 and state["orders"]["rows"] == [[1, 1]]
+    assert status == 200 and state["order"] == [1, 1] and state["hello"] == "first-sum"
+    assert state["texts"] == {"ids": [1, 1], "texts": ["u-add-3-1L c a b 8"], "of": [0]}
     status, data, _ = asked(server, "GET", page(server, f"state?seen={state['version']}"))
-    assert json.loads(data)["html"] == {}
+    again = json.loads(data)
+    assert again["since"] == again["version"] == state["version"] and not {"order", "texts", "hello"} & again.keys()
+
+
+def test_the_client_is_served_under_a_policy(server: Server) -> None:
+    """It loads its own files alone, and runs nothing that is written in the page. Long ones are packed for who asks."""
+    modules = set()
+    names = ["", "client.css", "main.js"]
+    while names:
+        name = names.pop()
+        status, data, headers = asked(server, "GET", page(server, name), Origin=None)
+        assert status == 200 and "script-src 'self'" in headers["Content-Security-Policy"]
+        assert b"<script>" not in data and b" style=" not in data
+        modules.add(name)
+        found = re.findall(r'(?:from|import\() ?"\./(\w+\.js)"', data.decode()) if name.endswith(".js") else []
+        names += [each for each in found if each not in modules and each not in names]
+    assert len(modules) == 15
+    _, packed, headers = asked(server, "GET", page(server, "main.js"), Accept_Encoding="gzip")
+    assert headers["Content-Encoding"] == "gzip"
+    assert gzip.decompress(packed) == asked(server, "GET", page(server, "main.js"))[1]
 
 
 @pytest.mark.parametrize("path", ["/", "/state", "/wrong/", "/wrong/state", "//", "/etc/passwd", "/../../etc/passwd"])
@@ -221,8 +236,10 @@ def test_commands_are_answered_as_the_program_does(server: Server) -> None:
     replies = [reply[0] for reply in answers(lines + more)[len(lines) :]]
     for line, reply in zip(more, replies):
         status, answer = command(server, line)
-        assert status == 200 and answer["reply"] == [reply]
+        # (rows run by themselves)
+        assert status == 200 and answer["reply"] == (["ok"] if line == "settle" else [reply])
         assert bool(answer["refused"]) == reply.startswith("refused")
+        rest(server.session)
 
 
 def test_news_are_told_to_all_who_listen(server: Server) -> None:
@@ -233,21 +250,22 @@ def test_news_are_told_to_all_who_listen(server: Server) -> None:
             listener.sendall(heads.encode())
         files = [listener.makefile("rb") for listener in listeners]
         for file in files:
-            until(file, b"data: %d\n" % server.session.version)
+            until(file, server.session.version)
         command(server, "input a 1 7")
         for file in files:
-            until(file, b"data: %d\n" % server.session.version)
+            until(file, server.session.version)
     finally:
         for listener in listeners:
             listener.close()
 
 
-def until(file: io.BufferedReader, line: bytes) -> None:
-    """Reads lines up to this one, or fails when the socket's time is over."""
+def until(file: io.BufferedReader, version: int) -> None:
+    """Reads lines up to one of this version or a later one, or fails when the socket's time is over."""
     for _ in range(100):
-        if file.readline() == line:
+        line = file.readline()
+        if line.startswith(b"data: ") and int(line[6:]) >= version:
             return
-    raise AssertionError(f"{line!r} didn't come")
+    raise AssertionError(f"version {version} didn't come")
 
 
 def test_a_slow_request_blocks_nobody(server: Server) -> None:
@@ -286,6 +304,22 @@ def test_commands_from_many_sides_at_once(server: Server) -> None:
     assert len(taken) == before + 80
     status, data, _ = asked(server, "GET", page(server, "script"))
     assert data.decode().splitlines() == taken
-    state = json.loads(asked(server, "GET", page(server, "state"))[1])
-    shown = numbers_of(Tree(state["html"]["input-b"]).root)
-    assert ["values", *shown] == answers(taken + ["show b start"])[-1][0].split(" ")
+    tab = Tab(server)
+    tab.look()
+    shown = numbers_in(tab.piece("b", 0))
+    assert isinstance(shown, list)
+    assert ["values", *map(str, shown)] == answers(taken + ["show b start"])[-1][0].split(" ")
+
+
+@pytest.mark.parametrize("looks", ["c", "c 1 0", "c x 0 0", "c 1 0 0 0", "c -1 0 0", "c 1 0 0\n", "c 1\x000 0 0"])
+def test_values_that_nobody_can_ask_for(server: Server, looks: str) -> None:
+    body = json.dumps({"seen": "1", "edits": "0", "looks": looks}).encode()
+    assert asked(server, "POST", page(server, "looks"), body)[0] == 400
+    assert asked(server, "POST", page(server, "looks"), b'{"looks": ""}')[0] == 400
+
+
+@pytest.mark.parametrize("look", ["zz 1 0 0", "c 99 0 0", "S.none 1 0 0", ". 0 0 0", "\u00e9 0 0 0", "a.b.c 0 0 7"])
+def test_values_that_are_not_there(server: Server, look: str) -> None:
+    body = json.dumps({"seen": "1", "edits": "0", "looks": look}).encode()
+    status, data, headers = asked(server, "POST", page(server, "looks"), body)
+    assert (status, data) == (200, bytes([2]) + bytes(15)) and headers["Content-Type"] == "application/octet-stream"

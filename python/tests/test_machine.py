@@ -318,6 +318,22 @@ def test_rows_orders_and_verdicts(machine: Machine) -> None:
     assert (refusal.value.number, refusal.value.name) == (22, "NoOrder")
 
 
+def test_many_lines_are_told_at_once(machine: Machine) -> None:
+    """Each put-in row's id is given. Behind a refused line none is told, and where a line is no edit none at all."""
+    ids = machine.tell(
+        iter(["field d S 8", "insert end u-move-1L b a 8", "input a 0 1 2 3 4", "insert start set-context S"])
+    )
+    assert ids == [None, 1, None, 2] and [row.row for row in machine.rows()] == [2, 1]
+    with pytest.raises(Refusal) as refusal:
+        machine.tell(["insert end u-move-1L c a 8", "insert end u-move-1L e a 8", "insert end u-move-1L d a 8"])
+    assert refusal.value.line == "insert end u-move-1L e a 8" and [row.row for row in machine.rows()] == [2, 1, 3]
+    for line in ("settle", "take", "show a end", "# a remark", "", "no command"):
+        with pytest.raises(ValueError, match="isn't one"):
+            machine.tell(["delete 1", line])
+    assert [row.row for row in machine.rows()] == [2, 1, 3] and machine.tell([]) == []
+    assert machine.settle() == 3 and numbers(machine["c"]) == [1, 2, 3, 4]
+
+
 def test_rows_of_a_bare_line(machine: Machine) -> None:
     """Rows that another holder of the session put in: they are taken out, replaced, and are places."""
     peer = machine._talk.peer

@@ -3,6 +3,7 @@
 from __future__ import annotations
 
 import re
+from pathlib import Path
 
 import numpy
 import pytest
@@ -14,7 +15,7 @@ from pevudlo.hints.meanings import Where, meaning_of
 from pevudlo.hints.terms import MEANT
 from pevudlo.lang.instructions import INSTRUCTIONS, read
 from pevudlo.lang.replies import Refused, parse
-from pevudlo.live.session import Session as LiveSession
+from pevudlo.live.running import RunningSession
 from pevudlo.prompt.session import Session as PromptSession
 from pevudlo.wire.pipe import Pipe
 from pevudlo.wire.program import find
@@ -166,22 +167,22 @@ def test_words_of_the_prompt_and_of_the_live_page() -> None:
     undo = "there is no undo: `delete ROW` takes a row out, `replace ROW INSTR` and `input` give what was there before"
     assert hint("undo") == undo
     assert hint("undo", Where.PROMPT) == f"{undo}. What `save FILE` saved before, `new` and then `load FILE` give back"
-    assert hint("undo", Where.LIVE) == f"{undo}. Click the row or the cell for that"
-    assert "the link at the foot of the page gives the accepted commands" in hint("save", Where.LIVE)
+    assert hint("undo", Where.LIVE) == "Ctrl-Z and the button Undo take the last edit back"
+    assert "the link below the line for commands gives the accepted commands" in hint("save", Where.LIVE)
     assert "in `./paris prompt` `save FILE` saves" in hint("save")
     for where in (Where.SCRIPT, Where.LIVE):
         assert "the commands are set, field, input, insert" in hint("help", where)
-    assert "A click on an instruction or a cell edits it" in hint("help", Where.LIVE)
+    assert "Enter edits a row or a number" in hint("help", Where.LIVE)
 
 
-def test_the_prompt_and_the_live_page_give_their_hints() -> None:
+def test_the_prompt_and_the_live_page_give_their_hints(libparis: Path) -> None:
     prompt = PromptSession(find())
     prompt.begin()
     answer = prompt.tell("undo")
     prompt.close()
     assert answer is not None and answer.explanation is not None
     assert answer.explanation.hint == hint("undo", Where.PROMPT)
-    live = LiveSession(find())
+    live = RunningSession(libparis)
     step = live.run("undo")
     live.close()
     assert step.explanation is not None and step.explanation.hint == hint("undo", Where.LIVE)

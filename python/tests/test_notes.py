@@ -88,7 +88,7 @@ def ran(words: list[str], text: str, path: Path) -> list[str]:
 
 def test_explain_has_the_note_below_the_line(tmp_path: Path) -> None:
     said = ran(["explain", "notes.paris"], TEXT, tmp_path)
-    assert said[6:8] == ["notes.paris:7: ok", f"    note: {NOTE}"]
+    assert said[7].endswith("  ok") and said[8] == f"      note: {NOTE}"
     assert not any("note: " in line for line in ran(["explain", "--quiet", "notes.paris"], TEXT, tmp_path))
     objects = [json.loads(line) for line in ran(["explain", "--json", "notes.paris"], TEXT, tmp_path) if line]
     assert [each.get("note") for each in objects] == [None] * 6 + [NOTE, None, None]

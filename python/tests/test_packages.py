@@ -39,16 +39,19 @@ STANDS_ON = {
     "summary": "lang",
     "machine": "data draw lang running summary talk values wire",
     "explain": "arguments draw hints lang progress talk wire",
-    "page": TALKING,
+    "client": "draw hints lang",
+    "page": TALKING + " client",
     "prompt": TALKING + " running",
-    "live": TALKING + " document page running",
+    "live": TALKING + " client document running",
     "document": TALKING,
     "lsp": TALKING + " document version",
     "notebook": TALKING + " document",
+    "follow": "document interrupts lang values wire",
+    "algorithms": "",
     "help": "draw hints prompt reference wire",
     "cli": "draw hints script version",
     "__main__": "cli",
-    "": "hints lang machine paris running values version wire",
+    "": "algorithms follow hints lang machine paris running values version wire",
 }
 """Of each package, and of each module that is in none, what it imports of the others; `""` is `pevudlo/__init__.py`."""
 

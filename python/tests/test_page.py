@@ -2,54 +2,23 @@
 
 from __future__ import annotations
 
+import os
 import random
-import re
+import subprocess
 
 import pytest
-from page_checks import check_edits, check_inputs, check_looks, check_rows, sections, tree_for, tree_of
-from pages import GALLERY, ROWS, answers, script_of, transcript_of
+from page_checks import Data, check_page, data_for, page_with
+from pages import GALLERY, ROWS, script_of, transcript_of
+
+from pevudlo.wire.program import ROOT
+
+SUMS = ["set S 4", "field a S 8", "field b S 8", "field c S 8", "input a 0 1 2 3 4", "insert end u-add-3-1L b a a 8"]
 
 
 @pytest.mark.parametrize("name", GALLERY + ROWS)
-def test_each_number_of_a_look_is_the_transcripts(name: str) -> None:
-    check_looks(tree_for(name), script_of(name), transcript_of(name))
-
-
-@pytest.mark.parametrize("name", GALLERY + ROWS)
-def test_each_number_behind_a_row_is_what_the_program_shows(name: str) -> None:
-    lines = script_of(name)
-    ran = any(reply[0] == "kept" or re.fullmatch("settled [1-9].*", reply[0]) for reply in transcript_of(name).values())
-    assert bool(check_rows(tree_for(name), lines)) == ran or not list(tree_for(name).all("td"))
-
-
-@pytest.mark.parametrize("name", GALLERY + ROWS)
-def test_each_number_of_input_data_is_what_the_program_shows(name: str) -> None:
-    lines, transcript = script_of(name), transcript_of(name)
-    given = {
-        line.split(" ")[1] for at, line in enumerate(lines, 1) if line.startswith("input ") and transcript[at] == ["ok"]
-    }
-    assert check_inputs(tree_for(name), lines) == given
-
-
-@pytest.mark.parametrize("name", GALLERY)
-def test_all_numbers_of_a_page_are_in_checked_parts(name: str) -> None:
-    checked = [
-        cell
-        for kind in ("looks", "ran", "given", "edit")
-        for section in sections(tree_for(name), kind)
-        for cell in section.all("td")
-    ]
-    history = [cell for table in tree_for(name).all("table", "history") for cell in table.all("td")]
-    assert not any(part.isdigit() for cell in history for part in cell.text.split())
-    assert len(checked) + len(history) == len(list(tree_for(name).all("td")))
-
-
-@pytest.mark.parametrize("name", GALLERY)
-def test_edits_say_which_rows_they_unsettle(name: str) -> None:
-    lines = script_of(name)
-    first = next((at for at, line in enumerate(lines) if line == "settle"), len(lines))
-    edits = [at for at, line in enumerate(lines, 1) if at > first and line.split(" ")[0] in ("input", "replace")]
-    assert check_edits(tree_for(name), lines) == edits
+def test_each_number_is_what_the_program_shows(name: str) -> None:
+    count = check_page(data_for(name), script_of(name), transcript_of(name))
+    assert count["values"] or name not in GALLERY
 
 
 def random_script(seed: int) -> list[str]:
@@ -84,9 +53,70 @@ def random_script(seed: int) -> list[str]:
 @pytest.mark.parametrize("seed", range(12))
 def test_pages_of_random_scripts(seed: int) -> None:
     lines = random_script(seed)
-    root = tree_of(lines)
-    replies = answers(lines)
-    check_looks(root, lines, {number: reply for number, reply in enumerate(replies, 1)})
-    assert check_rows(root, lines) > 0
-    check_inputs(root, lines)
-    assert check_edits(root, lines)
+    data = Data(page_with(lines))
+    count = check_page(data, lines)
+    assert count["values"] > 100 and count["looks"] and count["refused"] and len(data.moments) > 3
+
+
+def test_a_moment_is_of_each_part_that_runs_rows() -> None:
+    lines = [
+        *SUMS,
+        "settle",
+        "input a 0 9",
+        "input a 1 8",
+        "show b end",
+        "settle",
+        "show b end",
+        "replace 1 set-test S",
+    ]
+    data = Data(page_with(lines))
+    assert [moment["title"] for moment in data.moments] == ["the program", "input a 1 8", "replace 1 set-test S"]
+    assert [moment["until"] for moment in data.moments] == [7, 12, 13]
+    assert [moment["said"] for moment in data.moments] == ["1 row ran", "1 row ran", ""]
+    assert [moment["touched"] for moment in data.moments] == [[1, 1], [1, 1], []]
+    assert data.moments[1]["anew"] == ["a"] and data.moments[2]["un"] == [1, 1]
+    (pending, shown) = data.moments[1]["notes"]
+    assert (pending["pending"], shown["pending"]) == (1, 0)
+
+
+def test_rows_that_compute_the_same_again_are_said() -> None:
+    lines = [*SUMS, "insert end u-min-3-1L c b a 8", "settle", "input a 0 9", "input a 0 1", "settle"]
+    data = Data(page_with(lines))
+    assert "compute the same again, not run" in data.moments[1]["said"]
+    assert data.moments[1]["touched"] == [] and data.moments[1]["values"] == {}
+
+
+def test_comments_stand_above_their_rows() -> None:
+    lines = [
+        "# What it is.",
+        "# More.",
+        "set S 4",
+        "# The field.",
+        "field a S 8",
+        "# Twice.",
+        SUMS[-1].replace("b a", "a a"),
+    ]
+    lines += ["settle", "# A look.", "show a end", "# The end."]
+    data = Data(page_with(lines))
+    assert data.told["intro"] == ["What it is.", "More."]
+    (moment,) = data.moments
+    assert moment["comments"] == {"1": ["The field.", "Twice."]}
+    assert [(note["kind"], note["after"]) for note in moment["notes"]] == [
+        ("comment", -1),
+        ("look", -1),
+        ("comment", -1),
+    ]
+
+
+def test_values_that_are_the_same_stand_once() -> None:
+    rows = [SUMS[-1]] * 30
+    first, second = (len(Data(page_with([*SUMS, *more, "settle"])).block) for more in (rows[:1], rows))
+    assert first == second
+
+
+@pytest.mark.parametrize("name", ["first-sum", "life"])
+def test_a_page_is_the_same_each_time(name: str) -> None:
+    """Whatever the order in which Python goes through a set."""
+    words = [str(ROOT / "paris"), "page", str(ROOT / "examples" / f"{name}.paris"), "-o", "-"]
+    made = {subprocess.check_output(words, env={**os.environ, "PYTHONHASHSEED": seed}) for seed in ("1", "2", "5")}
+    assert len(made) == 1

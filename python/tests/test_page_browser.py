@@ -1,119 +1,119 @@
-"""A page in headless Chromium: its switches, and what it says to who reads by ear."""
+"""A page from a disk in headless Chromium: its numbers, its moments, its marks, and how it is printed."""
 
 from __future__ import annotations
 
+import base64
 from pathlib import Path
 from typing import Any
 
 import pytest
-from browsers import cells, complaints, evaluated, one, until
-from pages import answers, script_of
+from browsers import complaints, evaluated, focus, is_at_rest, one, press, rows, until, values
+from page_checks import page_with
+from pages import GALLERY, answers, script_of
+from selenium.webdriver.common.by import By
 from selenium.webdriver.remote.webdriver import WebDriver
 
-from pevudlo.page.page import page_of
-from pevudlo.wire.pipe import Pipe
-from pevudlo.wire.program import find
-
-LINES = script_of("first-sum")
-LINES += ["insert end u-subtract-3-1L c a b 8", "insert end u-move-1L b b 8", "settle", "show c end"]
+LINES = [*script_of("first-sum"), "insert end u-subtract-3-1L c a b 8", "insert end u-move-1L b b 8", "settle"]
+LINES += ["show c end", "insert end u-mve-1L b b 8", "input a 1 99", "show c end", "settle", "show c end"]
 
 
-@pytest.fixture(scope="module")
-def opened(browser: WebDriver, tmp_path_factory: pytest.TempPathFactory) -> WebDriver:
-    """The browser with a page of a few rows."""
-    path = Path(tmp_path_factory.mktemp("page")) / "page.html"
-    with Pipe(find()) as pipe:
-        path.write_text(page_of("first-sum", LINES, pipe).html(), encoding="utf-8")
-    complaints(browser)
-    browser.get(path.as_uri())
-    return browser
+def opened(driver: WebDriver, folder: Path, lines: list[str]) -> None:
+    """Opens the page of a script."""
+    path = folder / "page.html"
+    path.write_text(page_with(lines), encoding="utf-8")
+    driver.get(path.as_uri())
+    until(driver, lambda: is_at_rest(driver))
 
 
-def test_numbers_are_shown_in_each_unit(opened: WebDriver) -> None:
-    numbers = [int(word) for word in answers(LINES)[-1][0].split(" ")[1:]]
-    last = "section.looks:nth-last-of-type(2)"
-    assert cells(opened, last) == [str(number) for number in numbers]
-    expected = {
-        "hex": [f"{number:02x}" for number in numbers],
-        "bits": [f"{number:08b}" for number in numbers],
-        "signed": [str(number - 256 * (number >= 128)) for number in numbers],
-        "unsigned": [str(number) for number in numbers],
-    }
-    assert any(text.startswith("-") for text in expected["signed"])
-    for unit, texts in expected.items():
-        one(opened, f"[name=unit][value={unit}] + span").click()
-        assert cells(opened, last) == texts
+def shown(lines: list[str], look: str) -> list[str]:
+    return answers([*lines, look])[-1][0].split(" ")[1:]
 
 
-def test_light_and_dark_are_switched_and_kept(opened: WebDriver) -> None:
-    colours = []
-    for theme in ("light", "dark"):
-        one(opened, f"[name=theme][value={theme}] + span").click()
-        colours.append(evaluated(opened, "return getComputedStyle(document.body).backgroundColor"))
-    assert colours[0] != colours[1]
-    opened.refresh()
-    until(opened, lambda: bool(evaluated(opened, "return document.documentElement.classList.contains('scripted')")))
-    assert evaluated(opened, "return getComputedStyle(document.body).backgroundColor") == colours[1]
-    one(opened, "[name=theme][value=auto] + span").click()
+def go(driver: WebDriver, moment: int) -> None:
+    driver.find_elements(By.CSS_SELECTOR, "#moments button")[moment].click()
+    now = "return pevudlo.view.link.moment"
+    until(driver, lambda: bool(evaluated(driver, now) == moment) and is_at_rest(driver))
 
 
-def test_keys_that_a_row_leaves_are_unfolded(opened: WebDriver) -> None:
-    script = "return [...document.querySelectorAll('details.plain')].filter(part => part.open).length"
-    assert evaluated(opened, script) == 0
-    one(opened, "[name=plain]").click()
-    assert evaluated(opened, script) > 0
-    one(opened, "[name=plain]").click()
-    assert evaluated(opened, script) == 0
+@pytest.mark.parametrize("name", GALLERY)
+def test_rows_of_the_gallery_are_shown_as_the_program_answers(browser: WebDriver, tmp_path: Path, name: str) -> None:
+    lines = script_of(name)
+    opened(browser, tmp_path, lines)
+    seen = {row: values(browser, row) for row in rows(browser)}
+    keys = {row: one(browser, f"#r-{row} .key").text for row, numbers in seen.items() if numbers}
+    replies = answers([*lines, *(f"show {key} after {row}" for row, key in keys.items())])
+    for row, (reply,) in zip(keys, replies[len(lines) :]):
+        assert seen[row] == reply.split(" ")[1:], row
+    assert complaints(browser) == []
 
 
-def spoken(driver: WebDriver) -> list[tuple[str, str]]:
-    """Role and name of each element, as a screen reader gets them, from above to below."""
-    driven: Any = driver
-    nodes = {node["nodeId"]: node for node in driven.execute_cdp_cmd("Accessibility.getFullAXTree", {})["nodes"]}
-    found: list[tuple[str, str]] = []
-    left = [next(iter(nodes))]
-    while left:
-        node = nodes[left.pop()]
-        left += reversed([child for child in node.get("childIds", []) if child in nodes])
-        if not node["ignored"]:
-            found.append((node["role"]["value"], node.get("name", {}).get("value", "")))
-    return found
-
-
-def tables_in(words: list[tuple[str, str]]) -> list[tuple[str, list[str], list[str]]]:
-    """The tables in what is read: the name of each, of its heads of columns, and of its cells."""
-    found: list[tuple[str, list[str], list[str]]] = []
-    for role, name in words:
-        if role == "table":
-            found.append((name, [], []))
-        elif role == "columnheader":
-            found[-1][1].append(name)
-        elif role in ("cell", "gridcell") and name:
-            found[-1][2].append(name.replace(" ,", ","))
-    return found
-
-
-def test_tables_are_read_with_captions_heads_and_marks(opened: WebDriver) -> None:
-    words = spoken(opened)
-    numbers = answers(LINES[:11] + ["show c after 1"])[-1][0].split(" ")[1:]
-    first = next(table for table in tables_in(words) if table[0] == "c 8 bits")
-    assert first == ("c 8 bits", ["0", "1", "2", "3"], [f"{number}, changed" for number in numbers])
-    history = tables_in(words)[0]
-    assert history[0] == "What each edit and each run did to each row"
-    second, third = ["not there", "unsettled", "unsettled before", "ran"], [
-        "not there",
-        "not there",
-        "unsettled",
-        "ran",
+def test_moments_have_their_values_marks_looks_and_refused_lines(browser: WebDriver, tmp_path: Path) -> None:
+    opened(browser, tmp_path, LINES)
+    until(browser, lambda: values(browser, 2) == shown(LINES, "show c after 2"))
+    marks = "return [...document.querySelectorAll('#r-in_a b.new, #r-2 b.new')].map(cell => cell.dataset.i)"
+    until(browser, lambda: bool(evaluated(browser, marks) == ["1", "1"]))
+    number = len(LINES)
+    assert values(browser, f"line_{number}") == shown(LINES[:-1], LINES[-1])
+    assert one(browser, f"#r-line_{number - 2} .pend").text == "pending: row 2 has to run"
+    assert evaluated(browser, "return document.querySelector('#acts').innerText").split() == [
+        "unsigned",
+        "auto",
+        "◐",
+        "?",
     ]
-    assert history[2] == ["ran", "kept", "kept", "kept"] + second + third
+
+    last = max(at for at, line in enumerate(LINES) if line.startswith("input a 1"))
+    assert "did you mean u-move-1L" in one(browser, f"#r-line_{last}").text
+    go(browser, len(browser.find_elements(By.CSS_SELECTOR, "#moments button")) - 2)
+    until(browser, lambda: values(browser, 2) == shown(LINES[:last], "show c after 2"))
+    assert values(browser, "in_a") == shown(LINES[:last], "show a start")
+    assert complaints(browser) == []
 
 
-def test_signs_are_for_the_eye_alone(opened: WebDriver) -> None:
-    words = spoken(opened)
-    assert ("heading", "Edit") in words and ("heading", "2 rows ran again, 1 kept") in words
-    assert [name for _, name in words if name and all(letter in "○●✓✕◎▦▸✎›■◌" for letter in name)] == []
+def test_nothing_is_edited_and_all_else_goes_by_keys(browser: WebDriver, tmp_path: Path) -> None:
+    opened(browser, tmp_path, LINES)
+    focus(browser, 2)
+    press(browser, "\ue007")
+    assert "This page is a record" in one(browser, "#said").text and not browser.find_elements(
+        By.CSS_SELECTOR, ".edit input"
+    )
+    press(browser, "w")
+    numbers = [int(word) for word in shown(LINES, "show a start")]
+    for base in ("signed", "hex", "bits", "unsigned"):
+        press(browser, "b")
+        until(browser, lambda: one(browser, "#base").text == base)
+        spelled = {
+            "signed": [str(number - 256 * (number >= 128)) for number in numbers],
+            "hex": [f"{number:02x}" for number in numbers],
+            "bits": [f"{number:08b}" for number in numbers],
+            "unsigned": list(map(str, numbers)),
+        }
+        until(browser, lambda: values(browser, "in_a") == spelled[base])
+    colour = "return getComputedStyle(document.body).backgroundColor"
+    before = evaluated(browser, colour)
+    press(browser, "t")
+    assert evaluated(browser, colour) != before
+    browser.refresh()
+    until(browser, lambda: is_at_rest(browser) and bool(evaluated(browser, colour) != before))
+    evaluated(browser, "document.querySelector('#list').focus()")
+    press(browser, "t")
 
 
-def test_the_page_complained_of_nothing(opened: WebDriver) -> None:
-    assert complaints(opened) == []
+def test_all_rows_are_printed_with_their_numbers(browser: WebDriver, tmp_path: Path) -> None:
+    """Also those that aren't in view, in their order."""
+    lines = ["set S 4", "field a S 16", "input a 0 1 2 3 4", *["insert end u-add-3-1L a a a 16"] * 90, "settle"]
+    opened(browser, tmp_path, lines)
+    evaluated(browser, "document.querySelector('#list').scrollTop = 900")
+    run: Any = browser.execute_cdp_cmd  # type: ignore[attr-defined]
+    assert len(base64.b64decode(run("Page.printToPDF", {})["data"])) > 10_000
+    evaluated(browser, "dispatchEvent(new Event('beforeprint'))")
+    printed = "return [...document.querySelectorAll('#space > .row')].map(row => row.textContent)"
+    texts = [text for text in evaluated(browser, printed) if "u-add-3-1L" in text]
+    assert len(texts) == 90
+    for row in (1, 45, 90):
+        assert texts[row - 1].endswith("".join(shown(lines, f"show a after {row}"))), row
+    evaluated(browser, "dispatchEvent(new Event('afterprint'))")
+
+
+def test_the_page_complained_of_nothing(browser: WebDriver) -> None:
+    assert complaints(browser) == []

@@ -10,19 +10,21 @@ from pathlib import Path
 from random import Random
 
 import pytest
-from page_checks import check_edits, check_inputs, check_looks, check_rows, tree_of
+from live_tabs import numbers_in, rest
+from page_checks import Data, check_page, page_with
 from pages import answers
 from paris_model_book import Book
 from random_editor import compare
 from test_explain import run as explained
+from test_explain import said_of
 from test_prompt import answers as prompted
 
 from pevudlo.document.document import Document
 from pevudlo.draw.grids import Grid, html_of, text_of
 from pevudlo.live.followed import BY_THEMSELVES, FollowedSession
-from pevudlo.live.session import Session
+from pevudlo.live.running import RunningSession
+from pevudlo.live.session import NOW, Look
 from pevudlo.prompt.session import Session as PromptSession
-from pevudlo.record.earlier import Earlier
 from pevudlo.record.looks import packed
 from pevudlo.wire.pipe import Pipe
 from pevudlo.wire.program import find
@@ -42,27 +44,22 @@ def by_model(lines: list[str]) -> dict[int, list[str]]:
 
 def test_a_page_has_the_profile_and_the_numbers() -> None:
     lines = [*SCRIPT, *REFUSED]
-    root = tree_of(lines)
-    assert "Profile 2 fields of up to 128 bits" in root.text
-    check_looks(root, lines, by_model(lines))
-    assert check_rows(root, lines) == 40 and check_inputs(root, lines) == {"w", "v"}
-    edits = [number for number, line in enumerate(lines, 1) if line.startswith("input w 1 ")]
-    assert check_edits(root, lines) == edits
+    data = Data(page_with(lines))
+    assert [note["text"] for note in data.notes("said")] == ["Profile 2: fields of up to 128 bits"]
+    assert check_page(data, lines, by_model(lines))["values"] > 10
     assert {number: reply for number, reply in enumerate(answers(lines), 1) if reply} == by_model(lines)
 
 
 def test_a_page_of_the_profile_alone() -> None:
-    root = tree_of(["paris 1"])
-    assert "Profile 1 fields of up to 64 bits" in root.text and [each.text for each in root.all("h2")][:1] == [
-        "▦Profile"
-    ]
+    (note,) = Data(page_with(["paris 1"])).notes("said")
+    assert note["text"] == "Profile 1: fields of up to 64 bits"
 
 
 def test_an_explanation_has_the_numbers(tmp_path: Path) -> None:
     path = tmp_path / "wide.paris"
     path.write_text("\n".join([*SCRIPT, *REFUSED, ""]))
-    words = explained(path).stdout.replace(f"{path}:", "")
-    assert "\n4: ok\n" in f"\n{words}" and "values of w at the end (S 4, 128 bits)" in words
+    words = explained(path).stdout
+    assert said_of(SCRIPT[3], "ok", 4) in words.split("\n") and "values of w at the end (S 4, 128 bits)" in words
     assert f"{2**66 + 1}" in words and "a field has 1 to 128 bits" in words and "the first command or none" in words
     told = [json.loads(line) for line in explained("--json", path).stdout.split("\n")[:-1]]
     model = by_model([*SCRIPT, *REFUSED])
@@ -103,26 +100,25 @@ def test_numbers_are_shown_in_hex_and_signed() -> None:
     assert told[5].split() == [f"{number:0128b}" for number in numbers]
 
 
-def test_a_live_session_begins_with_the_profile_again() -> None:
-    session = Session(find())
+def test_a_live_session_shows_wide_numbers(libparis: Path) -> None:
+    session = RunningSession(libparis)
     try:
         assert not session.run("paris 2").is_refused
         assert session.load([*WIDE, *ROWS, "settle"]) == []
         assert session.run("paris 2").lines == ("refused 20 1",)
-        model = by_model(SCRIPT)
-        before = {look.key: look.numbers for look in session.keys()[1]}
-        assert list(before["w"] or ()) == [int(number) for number in model[12][0].split(" ")[1:]]
-        assert session.script().startswith("paris 2\nset S 4\n")
-        session.restart()
-        assert {look.key: look.numbers for look in session.keys()[1]} == before and session.board.profile == 2
+        rest(session)
+        wanted = [int(number) for number in by_model(SCRIPT)[12][0].split(" ")[1:]]
+        row = max(row for row, text in session.board.texts.items() if "w" in session.board.keys_written(text))
+        (piece,) = session.looks([Look("w", row, False, NOW)], session.version, session.edits)
+        assert numbers_in(piece) == wanted and session.script().startswith("paris 2\nset S 4\n")
     finally:
         session.close()
 
 
-def test_a_profile_is_put_into_an_empty_file(tmp_path: Path) -> None:
+def test_a_profile_is_put_into_an_empty_file(tmp_path: Path, libparis: Path) -> None:
     path = tmp_path / "wide.paris"
     path.write_text("# Wide.\n")
-    session = FollowedSession(path, find(), 1)
+    session = FollowedSession(path, libparis, 1)
     try:
         session.look()
         assert session.run("paris 3").is_refused and session.text == "# Wide.\n"
@@ -166,11 +162,3 @@ def test_pictures_of_wide_numbers() -> None:
     grid = Grid("w", (2_048,), 128, packed(numbers, 128))
     assert "greatest 340282366920938463463374607431768211455" in text_of(grid)
     assert "data:image/png" in html_of(grid)
-
-
-def test_what_a_row_left_before_is_kept_in_little_room() -> None:
-    for most in (0, 1 << 20):
-        earlier = Earlier(most)
-        first, second = packed([2**127, 1, 2**64], 128), packed([5, 6, 2**100], 128)
-        assert earlier.swap(1, "w", first, 128) is None and earlier.swap(1, "w", second, 128) == first
-        assert earlier.swap(1, "w", None, 128) == second

@@ -10,12 +10,17 @@ import subprocess
 import sys
 import threading
 import time
+from collections.abc import Iterator
+from contextlib import contextmanager
 from pathlib import Path
 
 import pytest
 from terminals import Terminal
+from test_explain import said_of
 
 from pevudlo import progress
+from pevudlo.live import session
+from pevudlo.live.running import RunningSession
 from pevudlo.page.page import page_of
 from pevudlo.progress import Later, Progress, ProgressLine, line_of, seconds_text
 from pevudlo.wire.pipe import Pipe
@@ -114,8 +119,8 @@ def test_a_page_and_its_orders_are_the_same(tmp_path: Path) -> None:
         told, plain = ran(*words, program=late), ran(*words)
         assert told[:2] == plain[:2] and plain[2] == ""
         assert "line 7 of 10: settles 3 of 3 rows, 1 s" in told[2] and left(told[2]) == ""
-    assert f"{script}:7: settled 3\n{script}:8: nothing\n" in told[1]
-    assert f"{script}:10: order 1 row 1 edition " in told[1]
+    assert [line.split("  ")[-1] for line in told[1].split("\n")[7:9]] == ["settled 3", "nothing"]
+    assert "  order 1 row 1 edition " in told[1].split("\n")[10]
 
 
 class Heard(Progress):
@@ -137,8 +142,7 @@ def test_a_page_says_at_which_row_it_looks() -> None:
         page_of("three", ["set S 4", *["insert end set-test S"] * 3, "settle"], pipe, heard)
     looks = [f"looks at row {row} of 3" for row in (1, 2, 3)]
     at = heard.words.index("line 5 of 5")
-    assert heard.words[at + 1 : at + 4] == looks
-    assert heard.words[-1] == "draws what stands from line 5 on"
+    assert heard.words[at + 1 :] == looks
 
 
 def test_the_prompt_says_it_while_it_waits(slow: Path, tmp_path: Path) -> None:
@@ -159,7 +163,7 @@ def test_lines_that_are_typed_are_not_waited_for_with_words(tmp_path: Path) -> N
     os.write(ours, b"set S 4\n")
     ends = threading.Timer(1.5, os.write, (ours, b"\x04"))
     ends.start()
-    assert ran("explain", "-", stdin=theirs) == (0, "-:1: ok\n-: 1 command, none refused\n", "")
+    assert ran("explain", "-", stdin=theirs) == (0, f"-\n{said_of('set S 4', 'ok', 1)}\n1 command, none refused\n", "")
     for end in (ours, theirs):
         os.close(end)
 
@@ -257,26 +261,27 @@ def test_words_for_time_and_lines() -> None:
     assert (line_of(1200, 4500), line_of(7, None)) == ("line 1,200 of 4,500", "line 7")
 
 
-@pytest.mark.parametrize("quiet", [[], ["--quiet"]])
-def test_live_says_how_far_its_script_is(tmp_path: Path, quiet: list[str]) -> None:
-    """On standard error where that is a terminal; the address stands on standard output alone."""
-    late = tmp_path / "late"
-    late.write_text(LATE.format(find()))
-    late.chmod(0o755)
-    (tmp_path / "three.paris").write_text("set S 4\n" + "insert end set-test S\n" * 3 + "settle\n")
-    ours, theirs = pty.openpty()
-    environment = {**os.environ, "PARIS_FRONT": str(late), "PYTHONPATH": str(ROOT / "python")}
-    words = [sys.executable, "-P", "-m", "pevudlo", "live", "--program", str(tmp_path / "three.paris"), *quiet]
-    with subprocess.Popen(words, stdout=subprocess.PIPE, stderr=theirs, text=True, env=environment) as child:
-        os.close(theirs)
+def test_live_says_how_far_its_script_is(libparis: Path, monkeypatch: pytest.MonkeyPatch) -> None:
+    heard = Heard()
+
+    @contextmanager
+    def hears(is_quiet: bool) -> Iterator[Heard]:
+        assert not is_quiet
+        yield heard
+
+    monkeypatch.setattr(session, "progress", hears)
+    live = RunningSession(libparis, 1, is_quiet=False)
+    live.load(["set S 4", *["insert end set-test S"] * 3, "settle"])
+    live.close()
+    assert heard.words == ["", *(f"line {line} of 5" for line in range(1, 6))]
+
+
+def test_the_address_of_a_live_page_stands_on_standard_output_alone(tmp_path: Path, libparis: Path) -> None:
+    (tmp_path / "one.paris").write_text("set S 4\ninsert end set-test S\n")
+    environment = {**os.environ, "PARIS_LIBRARY": str(libparis), "PYTHONPATH": str(ROOT / "python")}
+    words = [sys.executable, "-P", "-m", "pevudlo", "live", str(tmp_path / "one.paris")]
+    with subprocess.Popen(words, stdout=subprocess.PIPE, stderr=subprocess.PIPE, text=True, env=environment) as child:
         assert child.stdout is not None and child.stdout.readline().startswith("Open http://127.0.0.1:")
         child.send_signal(signal.SIGINT)
         assert child.wait(20) == 0
-    seen = b""
-    try:
-        while data := os.read(ours, 1 << 16):
-            seen += data
-    except OSError:
-        pass
-    os.close(ours)
-    assert ("line 5 of 5: settles 3 of 3 rows, 1 s" in seen.decode()) == (not quiet) and left(seen.decode()) == ""
+        assert child.stderr is not None and child.stderr.read() == ""

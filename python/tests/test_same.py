@@ -1,23 +1,19 @@
-"""What is said of rows that are cut off, on pages, by `explain` and the prompt, and live. The book is the model."""
+"""What is said of rows that are cut off, on pages, by `explain` and the prompt. The book is the model."""
 
 from __future__ import annotations
 
 import re
-from collections import Counter
 from collections.abc import Sequence
 from paris_model_book import Book
 from random_scripts import RandomScript
+from test_explain import said_of
 
 from pevudlo.document.answers import mark_of
 from pevudlo.document.document import Document
 from pevudlo.document.marks import headline
 from pevudlo.explain.objects import object_of
 from pevudlo.explain.words import told
-from pevudlo.lang.board import Board
-from pevudlo.live.seen import Seen
 from pevudlo.page.page import page_of
-from pevudlo.record.looks import Looker
-from pevudlo.record.recorder import Recorder, Step
 from pevudlo.talk import Talk
 from pevudlo.wire.program import ROOT
 
@@ -89,8 +85,8 @@ def test_the_document_shows_what_is_said() -> None:
     lines, shown = script.split("\n")[:-1], written.split("\n")[:-1]
     said = explained(lines, [])
     assert shown == [
-        *(f"same.paris:{at}: {said[at - 1]}" for at in range(9, len(lines) + 1)),
-        f"same.paris: {len(lines)} commands, none refused",
+        *(said_of(lines[at - 1], said[at - 1], at) for at in range(9, len(lines) + 1)),
+        f"{len(lines)} commands, none refused",
     ]
 
 
@@ -106,37 +102,23 @@ def test_objects_have_the_rows_or_their_count() -> None:
     assert (third["settled"], third["same"], third["same_rows"]) == (2, 1, None)
 
 
-def test_a_page_says_which_rows_compute_the_same_again() -> None:
-    page = page_of("sums", [*SUMS, "input a 0 1", "input a 0 9", "settle"], ModelPeer()).html()
-    assert "<b>No row</b> is unsettled by it. <b>3 rows</b> compute the same again, not run." in page
-    assert "2 rows ran again, 1 computes the same again, not run, none kept" in page
-    assert page.count("computes the same again, not run</span>") == 3 + 1, "three rows of an edit, and one of a run"
+def said_on_page(lines: list[str], numbers: int = 10_000) -> str:
+    """What the page of a script says of its last run."""
+    moments = page_of("sums", lines, ModelPeer(), numbers=numbers).moments.moments
+    return str(moments[-1]["said"])
+
+
+def test_a_page_says_how_many_rows_compute_the_same_again() -> None:
+    said = said_on_page([*SUMS, "input a 0 1", "input a 0 9", "settle"])
+    assert said == "3 compute the same again, not run, 2 rows ran, 1 computes the same again, not run"
+    # (no numbers are looked at)
+    assert said_on_page([*SUMS, "input a 0 9", "settle"], 0) == "2 rows ran, 1 computes the same again, not run"
 
 
 def test_a_row_that_leaves_what_it_left_before_is_said_to_have_run() -> None:
     """Row 4 reads a, and leaves what it left before."""
     lines = [*SUMS, "insert end u-min-3-1L b a b 8", "settle", "input a 0 9", "settle"]
-    page = page_of("sums", lines, ModelPeer()).html()
-    assert "3 rows ran again, 1 computes the same again, not run, none kept" in page
-    assert page.count("computes the same again, not run</span>") == 1 and "ran, or computes" not in page
-
-
-def test_a_run_whose_rows_are_not_known_says_how_many_ran() -> None:
-    """No numbers are looked at, so it isn't seen which rows ran."""
-    page = page_of("sums", [*SUMS, "input a 0 9", "settle"], ModelPeer(), numbers=0).html()
-    assert "2 rows ran again, 1 computes the same again, not run, none kept" in page
-    assert "ran, or computes the same again" in page
-
-
-def test_a_live_page_shows_what_a_row_leaves_that_is_cut_off() -> None:
-    peer = ModelPeer()
-    recorder = Recorder(peer, Looker(peer, Board()))
-    seen = Seen(recorder)
-    for line in [*SUMS, "input a 0 1"]:
-        seen.note(recorder.step(line))
-    seen.see_rows()
-    assert seen.edit is not None and seen.edit.touched.same == {1, 2, 3} and seen.unsettled == 0
-    assert {row: run.row.edition for row, run in seen.runs.items()} == {1: 11, 2: 11, 3: 11}
+    assert said_on_page(lines) == "3 rows ran, 1 computes the same again, not run"
 
 
 def test_what_follows_a_file_says_how_many_rows_ran() -> None:
@@ -152,35 +134,19 @@ def test_what_follows_a_file_says_how_many_rows_ran() -> None:
     assert states == ["▶▶▶", "▶=▶", "   ", "▶=▶"]
 
 
-def said_of(step: Step, cut: set[int]) -> str:
-    """Fails where a step says of a row that it was cut off and it wasn't. Tells what was known."""
-    if step.touched is not None:
-        assert step.touched.same == cut
-        return "edit"
-    if step.ran is None:
-        assert not cut
-        return "none"
-    assert step.ran.count == len(step.ran.runs) - len(cut) and step.ran.same <= cut
-    assert not step.ran.is_known or step.ran.same == cut
-    return ("known " if step.ran.is_known else "unknown ") + ("with" if cut else "without")
-
-
-def kinds_of(seed: int) -> Counter[str]:
-    """What was known of the steps of a random script. Fails where a row is said to be cut off that ran."""
-    kinds, peer = Counter[str](), ModelPeer()
-    recorder = Recorder(peer, Looker(peer, Board()))
-    talk = Talk(ModelPeer())
+def check_script(seed: int) -> int:
+    """Fails where a row of a random script is said to be cut off that ran. Gives how many are known to be."""
+    peer, known = ModelPeer(), 0
+    talk = Talk(peer)
     for line in RandomScript(seed, COMMANDS).lines:
         before = len(peer.book.cut)
-        step, answer = recorder.step(line), talk.tell_causes(line)
+        answer = talk.tell_causes(line)
         cut = {each.row for each in peer.book.cut[before:]}
-        kinds[said_of(step, cut)] += 1
         assert answer is not None and answer.same == len(cut) and set(answer.same_rows) <= cut
         assert answer.same_rows or not cut or line == "settle"
-    return kinds
+        known += len(answer.same_rows)
+    return known
 
 
 def test_no_row_is_said_to_be_cut_off_that_ran() -> None:
-    kinds = sum((kinds_of(seed) for seed in range(SCRIPTS)), Counter[str]())
-    assert kinds["known without"] >= SCRIPTS and kinds["edit"] >= SCRIPTS
-    assert kinds["known with"] >= LEAST_KNOWN and kinds["unknown with"] >= 1, kinds
+    assert sum(check_script(seed) for seed in range(SCRIPTS)) >= LEAST_KNOWN

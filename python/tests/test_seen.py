@@ -21,6 +21,7 @@ import pytest
 from random_editor import RandomEditor, compare, told
 from seen_lines import START, Reading, check_mark
 
+from pevudlo import find_library
 from pevudlo.document.plain import MOST_TOLD, Plain
 from pevudlo.document.screen import Screen
 from pevudlo.draw.grids import Grid, text_of
@@ -61,7 +62,7 @@ class Views:
         self.opened = Opened("file:///seen.paris", "", 1, self._begin)
         self.pieces = Pieces(self._begin)
         (folder / "seen.paris").write_text("")
-        self.session = FollowedSession(folder / "seen.paris", library or find(), 1, is_inside=library is not None)
+        self.session = FollowedSession(folder / "seen.paris", library or find_library(), 1)
         self.told: list[str] = []
         self.plain = Plain(self.opened.document, self.told.append)
         self.screen = Screen(self.opened.document, "seen.paris")

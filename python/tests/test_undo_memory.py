@@ -16,8 +16,6 @@ import pytest
 
 from pevudlo import Machine, after
 from pevudlo.live.running import RunningSession
-from pevudlo.live.running_view import history as history_html
-from pevudlo.live.still import Still
 from pevudlo.running import held
 from pevudlo.running.held import LIMITS, VARIABLE, WrongVariable, bytes_text, limit_in, memory, usual_bytes
 from pevudlo.running.history import History
@@ -312,10 +310,9 @@ def test_a_page_says_that_older_edits_are_gone(libparis: Path, monkeypatch: pyte
     for turn in range(6):
         session.run(f"input a 0 {turn + 1}")
         assert session.background.crew.wait(60)
-    shown = history_html(Still(session, None))
+    state = session.state(0)
     count = len(session.background.history.done)
-    assert count < 6 and (f"edit {count} of {count}" in shown) == (count > 0)
-    assert "Older edits took more than 30 MB of memory." in shown
+    assert count < 6 and (state["at"], state["of"], state["dropped"]) == (count, count, "30 MB")
     session.close()
 
 

@@ -226,6 +226,18 @@ static void unsettled_ids(paris_handle *handle, const char *none, struct told *t
   put(told, &count, sizeof count);
 }
 
+static void touched_ids(paris_handle *handle, const char *none, struct told *told) {
+  long before = seen;
+  uint64_t room[NUMBERS] = {1, 1, 1, 1, 1, 1, 1, 1}, edits = 0;
+  size_t count = 0;
+  (void)none;
+  told->status = paris_touched(handle, 1, room, NUMBERS, &count, &edits);
+  WANT(!told->status && seen == before);
+  put_room(told, room);
+  put(told, &count, sizeof count);
+  put(told, &edits, sizeof edits);
+}
+
 static void origin(paris_handle *handle, const char *key, struct told *told) {
   long before = seen;
   uint64_t row = 0;
@@ -311,6 +323,7 @@ static const struct step STEPS[] = {
     {"insert end send-1L c at a 8 none", answer},
     {"insert end scan-with-u-add-1L b a 0 8 upward inclusive none", answer},
     {"", unsettled_ids},
+    {"", touched_ids},
     {"b", settle_for},
     {"c", origin},
     {"list", answer},

@@ -263,6 +263,38 @@ static void rows_are_run(void) {
   WANT(paris_close(&handle), PARIS_OK);
 }
 
+static void want_touched(int line, paris_handle *handle, uint64_t since, size_t wanted, uint64_t first, uint64_t second, uint64_t accepted) {
+  uint64_t room[2] = {7, 7}, edits = 0;
+  size_t count = 0;
+  WANT_AT(line, paris_touched(handle, since, room, 2, &count, &edits), PARIS_OK);
+  WANT_AT(line, count, wanted);
+  WANT_AT(line, room[0], first);
+  WANT_AT(line, room[1], second);
+  WANT_AT(line, edits, accepted);
+}
+
+#define WANT_TOUCHED(handle, since, count, first, second, edits) want_touched(__LINE__, handle, since, count, first, second, edits)
+
+/* Seven edits declare, give data and put in no row. Then three rows are put in. */
+static void touched_rows_are_told(void) {
+  static const uint64_t nine[1] = {9};
+  paris_handle handle = {0};
+  uint64_t ran = 7;
+  three_rows(&handle);
+  WANT_TOUCHED(&handle, 0, 3, 1, 2, 10);
+  WANT_TOUCHED(&handle, 8, 2, 2, 3, 10);
+  WANT_TOUCHED(&handle, 10, 0, 7, 7, 10);
+  WANT(paris_settle(&handle, &ran), PARIS_OK);
+  WANT_TOUCHED(&handle, 8, 2, 2, 3, 10);
+  WANT(paris_set(&handle, bytes("b"), 1, 0, nine, 1), PARIS_OK);
+  WANT_TOUCHED(&handle, 10, 2, 2, 3, 11);
+  WANT(paris_settle(&handle, &ran), PARIS_OK);
+  WANT_REPLY(&handle, "delete 2", "ok\n");
+  WANT_TOUCHED(&handle, 11, 0, 7, 7, 12);
+  WANT_TOUCHED(&handle, 10, 1, 3, 7, 12);
+  WANT(paris_close(&handle), PARIS_OK);
+}
+
 /* A run gives up no order that is out: it runs the rows beside it. */
 static void runs_beside_orders(void) {
   paris_handle handle = {0};
@@ -331,8 +363,9 @@ static void origins(void) {
 /* What `show` refuses is refused, by the same fault, and nothing else has changed. */
 static void refused_looks(void) {
   paris_handle handle = {0};
-  uint64_t row = 7, ran = 7, room[2] = {7, 7};
+  uint64_t row = 7, ran = 7, edits = 7, room[2] = {7, 7};
   size_t count = 7;
+  WANT(paris_touched(&handle, 0, room, 2, &count, &edits), PARIS_CLOSED);
   WANT(paris_run(&handle, 1, &ran), PARIS_CLOSED);
   WANT(paris_settle_for(&handle, bytes("c"), 1, PARIS_END, &ran), PARIS_CLOSED);
   WANT(paris_unsettled(&handle, room, 2, &count), PARIS_CLOSED);
@@ -426,6 +459,7 @@ int main(void) {
   snapshots();
   no_commands();
   rows_are_run();
+  touched_rows_are_told();
   runs_beside_orders();
   one_value_is_settled();
   origins();

@@ -212,6 +212,34 @@ impl Session {
         Ok(ids)
     }
 
+    /// The ids of the rows that an edit behind the first so many touched, in program order, settled by now
+    /// or not, and how many edits were accepted, from which the next call may go on.
+    ///
+    /// ```
+    /// # fn main() -> Result<(), paris::Error> {
+    /// use paris::Session;
+    ///
+    /// let mut session = Session::new()?;
+    /// session.answer("set s 4")?;
+    /// session.answer("field a s 8")?;
+    /// session.answer("insert end my-send-address-1L a 2")?;
+    /// let (ids, edits) = session.touched(0)?;
+    ///
+    /// assert_eq!(ids, [1]);
+    /// assert_eq!(session.touched(edits)?.0, []);
+    /// # Ok(())
+    /// # }
+    /// ```
+    pub fn touched(&self, since: u64) -> Result<(Vec<u64>, u64), Error> {
+        let mut ids = vec![0; FEW_ROWS];
+        let (count, edits) = self.0.touched(since, &mut ids)?;
+        ids.resize(count, 0);
+        if count > FEW_ROWS {
+            self.0.touched(since, &mut ids)?;
+        }
+        Ok((ids, edits))
+    }
+
     /// The row that gives a key its value at a place, settled or not. `None` is the input data.
     pub fn origin(&self, key: impl AsRef<[u8]>, place: Place) -> Result<Option<u64>, Error> {
         let row = self.0.origin(key.as_ref(), place.number())?;

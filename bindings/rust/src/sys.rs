@@ -118,6 +118,14 @@ extern "C" {
         ran: *mut u64,
     ) -> u32;
     fn paris_unsettled(handle: *mut Words, room: *mut u64, len: usize, count: *mut usize) -> u32;
+    fn paris_touched(
+        handle: *mut Words,
+        since: u64,
+        room: *mut u64,
+        len: usize,
+        count: *mut usize,
+        edits: *mut u64,
+    ) -> u32;
     fn paris_origin(
         handle: *mut Words,
         key: *const u8,
@@ -339,6 +347,17 @@ impl Handle {
         let status =
             unsafe { paris_unsettled(self.0.get(), room.as_mut_ptr(), room.len(), &mut count) };
         outcome(status, 0).map(|()| count)
+    }
+
+    /// Puts the ids of rows that an edit behind the first so many touched into a room, as many as there is
+    /// room for, and says how many these rows are, and how many edits were accepted.
+    pub(crate) fn touched(&self, since: u64, room: &mut [u64]) -> Result<(usize, u64), Error> {
+        let (mut count, mut edits) = (0, 0);
+        let (start, len) = (room.as_mut_ptr(), room.len());
+        // SAFETY: the handle is in no other call, and the room is a slice.
+        let status =
+            unsafe { paris_touched(self.0.get(), since, start, len, &mut count, &mut edits) };
+        outcome(status, 0).map(|()| (count, edits))
     }
 
     /// The id of the row that gives a key its value at a place, and 0 for the start.

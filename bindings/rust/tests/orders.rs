@@ -187,6 +187,22 @@ fn a_session_runs_orders_itself() -> Result<(), Error> {
 }
 
 #[test]
+fn rows_that_edits_touched_are_told() -> Result<(), Error> {
+    let mut session = three_rows()?;
+    let (ids, edits) = session.touched(0)?;
+    assert_eq!(ids, [1, 2, 3]);
+    session.settle()?;
+    assert_eq!(session.touched(0)?, (vec![1, 2, 3], edits));
+    assert_eq!(session.touched(edits)?, (vec![], edits));
+    session.answer("insert start my-send-address-1L a 8")?;
+    let (ids, later) = session.touched(edits)?;
+    assert_eq!((ids[0], later), (4, edits + 1));
+    session.answer("delete 4")?;
+    assert!(!session.touched(edits)?.0.contains(&4));
+    Ok(())
+}
+
+#[test]
 fn origins_are_told() -> Result<(), Error> {
     let mut session = three_rows()?;
     assert_eq!(session.origin("b", Place::End)?, Some(2));

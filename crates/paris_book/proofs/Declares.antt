@@ -19,11 +19,12 @@ use Rattle.paris_board.specs.Board.{Board, DeclaredField, DeclaredSet, is_declar
 use Rattle.paris_model.specs.Instructions.{Plan, reads, writes, key_width}
 use Rattle.paris_model.specs.Recipe.{same}
 use Rattle.paris_machine.specs.State.{Row, Inputs, flag_input, input_of, numbers_in, number_in, start_world, start_recipe, declared_input, declared_flags}
+use Rattle.paris_machine.specs.CutOff.{IsAtRest}
 use Rattle.paris_machine.specs.Edits.{known_rows, edited, set_added, field_added}
-use Rattle.paris_book.specs.Marks.{stale_data}
+use Rattle.paris_book.specs.Marks.{data_plan, stale_data}
 use Rattle.paris_book.specs.Kept.{Sound}
 use Rattle.paris_depends.specs.Changes.{Differ}
-use Rattle.paris_depends.specs.Sweeps.{touches, spread}
+use Rattle.paris_depends.specs.Sweeps.{touches, spread, touched}
 use Rattle.paris_book.proofs.Swept.{swept_entries}
 use Rattle.paris_book.specs.Whole.{shape_on, input_shape, shape_in, Shaped, InputsBelow, Fitted, AllFitted, IsWhole}
 use Rattle.paris_book.specs.Entries.{Entry, machine_row, with_data}
@@ -36,7 +37,9 @@ use Rattle.paris_depends.proofs.Recipes.{eqb_self}
 use Rattle.paris_book.proofs.Recipes.{judged_swept}
 use Rattle.paris_book.proofs.Values.{Agree, sound_swept, swept_rows}
 use Rattle.paris_book.proofs.EditLemmas.{same_new_start}
+use Rattle.paris_book.specs.Touched.{AreEnough}
 use Rattle.paris_book.proofs.Inserts.{rows_up, fitted_up, state_of}
+use Rattle.paris_book.proofs.TouchedEdits.{input_enough}
 
 get-push_other : {X : Type 0} (xs : List X) (x : X) (i : ℕ) → (i ≡ length xs → ⊥) → slice_get (xs ++ x ∷ []) i ≡ slice_get xs i
 get-push_other [] x zero ne = absurd (ne refl)
@@ -89,19 +92,27 @@ untouched old d p none fit = none_read d (reads p) (λ k t. by_test k t (d k) re
         absurd (cc)
     by_test k t false e = refl
 
-pub swept_quiet : (n : ℕ) (old : Inputs) (d : Key → Bool) (es : List Entry) → ((k : Key) → d k ≡ true → input_of old k ≡ None) → AllFitted old es → swept_entries n d es ≡ es
+-- where a plan reads none of them, no more keys are changed after it
+spread_less : (d : Key → Bool) (p : Plan) (k : Key) → touches d p ≡ false → spread d p k ≡ true → d k ≡ true
 unfolding spread
+spread_less d p k quiet t = by_has (has_key (writes p) k) t
+  where
+    by_has : (b : Bool) → cond b (touches d p) (d k) ≡ true → d k ≡ true
+    by_has true h = absurd (let x : false ≡ true = sym quiet ∙ h in cc)
+    by_has false h = h
+
+pub swept_quiet : (n : ℕ) (old : Inputs) (d : Key → Bool) (es : List Entry) → ((k : Key) → d k ≡ true → input_of old k ≡ None) → AllFitted old es → swept_entries n d es ≡ es
 swept_quiet n old d [] none f = refl
 swept_quiet n old d (e ∷ es) none f =
     let quiet = untouched old d e.1.plan none f.0 in
-    ap₂ (λ x xs. x ∷ xs) (ap (λ b. cond b (with_data (stale_data n) e) e) quiet) (swept_quiet n old (spread d e.1.plan) es (λ k t. none k (less k quiet t)) f.1)
-  where
-    less : (k : Key) → touches d e.1.plan ≡ false → spread d e.1.plan k ≡ true → d k ≡ true
-    less k quiet t = by_has (has_key (writes e.1.plan) k) t
-      where
-        by_has : (b : Bool) → cond b (touches d e.1.plan) (d k) ≡ true → d k ≡ true
-        by_has true h = absurd (let x : false ≡ true = sym quiet ∙ h in cc)
-        by_has false h = h
+    ap₂ (λ x xs. x ∷ xs) (ap (λ b. cond b (with_data (stale_data n) e) e) quiet) (swept_quiet n old (spread d e.1.plan) es (λ k t. none k (spread_less d e.1.plan k quiet t)) f.1)
+
+pub touched_none : (old : Inputs) (d : Key → Bool) (es : List Entry) → ((k : Key) → d k ≡ true → input_of old k ≡ None) → AllFitted old es → touched data_plan d es ≡ []
+touched_none old d [] none f = refl
+touched_none old d (e ∷ es) none f =
+    let quiet = untouched old d e.1.plan none f.0 in
+    let later : List ℕ = touched data_plan (spread d e.1.plan) es in
+    ap (λ b. cond b (e.0 ∷ later) later) quiet ∙ touched_none old (spread d e.1.plan) es (λ k t. none k (spread_less d e.1.plan k quiet t)) f.1
 
 module _ (n : ℕ) (d : Key → Bool) (old new : Inputs) (news : News n d old new) where
   pub news_agree : Agree d (start_world old) (start_world new)
@@ -144,6 +155,11 @@ module _ (n : ℕ) (d : Key → Bool) (old new : Inputs) (news : News n d old ne
         fitted = news_fitted es w.fitted;
         sound = subst (Sound (start_world new) (λ _. true)) quiet (sound_swept (n + 1) d (start_world old) (start_world new) (λ _. true) (λ _. true) news_agree (λ f t. refl) es w.sound);
       }
+
+  -- no row is touched, so none can be cut off then
+  pub declare_enough : (b c : Board) (m : ℕ) (es : List Entry) → IsWhole b n m old es → IsAtRest (state_of b n m old es) → AreEnough [] (state_of c (n + 1) m new es)
+  declare_enough b c m es w rests =
+      input_enough (state_of b n m old es) (state_of c (n + 1) m new es) es es rests refl refl w.ids_apart (n + 1) d [] (sym (swept_quiet (n + 1) old d es news.none w.fitted)) news_agree (sym (touched_none old d es news.none w.fitted))
 
   pub declare_view : (b c : Board) (m : ℕ) (es : List Entry) → IsWhole b n m old es → state_of c (n + 1) m new es ≡ edited (state_of b n m old es) c new m (known_rows (state_of b n m old es))
   declare_view b c m es w =
@@ -262,6 +278,9 @@ set_whole b n m inputs es name axes few board w =
 pub set_view : (b : Board) (n m : ℕ) (inputs : Inputs) (es : List Entry) (name axes : List ℕ) → IsWhole b n m inputs es → state_of (with_set b name axes) (n + 1) m (with_flags b n m inputs name axes) es ≡ set_added (state_of b n m inputs es) name axes
 set_view b n m inputs es name axes w = declare_view n (is_new_flag (length inputs.flags)) inputs (with_flags b n m inputs name axes) (set_news b n m inputs name axes) b (with_set b name axes) m es w
 
+pub set_enough : (b : Board) (n m : ℕ) (inputs : Inputs) (es : List Entry) (name axes : List ℕ) → IsWhole b n m inputs es → IsAtRest (state_of b n m inputs es) → AreEnough [] (state_of (with_set b name axes) (n + 1) m (with_flags b n m inputs name axes) es)
+set_enough b n m inputs es name axes = declare_enough n (is_new_flag (length inputs.flags)) inputs (with_flags b n m inputs name axes) (set_news b n m inputs name axes) b (with_set b name axes) m es
+
 -- ---- a new field
 
 abbrev pub is_new_field : ℕ → Key → Bool
@@ -334,3 +353,6 @@ field_whole b n m inputs es name set width few w =
 
 pub field_view : (b : Board) (n m : ℕ) (inputs : Inputs) (es : List Entry) (name : List ℕ) (set width : ℕ) → IsWhole b n m inputs es → state_of (with_field b name set width) (n + 1) m (with_declared b n m inputs name set width) es ≡ field_added (state_of b n m inputs es) name (Some set) width
 field_view b n m inputs es name set width w = declare_view n (is_new_field (length inputs.fields)) inputs (with_declared b n m inputs name set width) (field_news b n m inputs name set width) b (with_field b name set width) m es w
+
+pub field_enough : (b : Board) (n m : ℕ) (inputs : Inputs) (es : List Entry) (name : List ℕ) (set width : ℕ) → IsWhole b n m inputs es → IsAtRest (state_of b n m inputs es) → AreEnough [] (state_of (with_field b name set width) (n + 1) m (with_declared b n m inputs name set width) es)
+field_enough b n m inputs es name set width = declare_enough n (is_new_field (length inputs.fields)) inputs (with_declared b n m inputs name set width) (field_news b n m inputs name set width) b (with_field b name set width) m es

@@ -13,7 +13,6 @@ pub mod Entering
 pub mod Finds
 pub mod Holding
 pub mod Firmer
-pub mod Fronts
 pub mod InOrder
 pub mod Indexing
 pub mod InputEdits
@@ -42,6 +41,9 @@ pub mod Sweeping
 pub mod Swept
 pub mod Takes
 pub mod Targets
+pub mod TouchedIds
+pub mod Touched
+pub mod TouchedEdits
 pub mod Turns
 pub mod UnsettledIds
 pub mod Unsettling

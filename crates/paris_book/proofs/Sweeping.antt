@@ -23,9 +23,10 @@ use Rattle.paris_machine.proofs.Passes.{is_cut_in, firm_after, from_start}
 use Rattle.paris_machine.proofs.Passing.{firm_behind, firm_start, firm_more, test_is}
 use Rattle.paris_machine.proofs.Ends.{rests_at, world_is}
 use Rattle.paris_machine.proofs.Rests.{at_rest}
+use Rattle.paris_book.specs.Statuses.{next_unsettled}
 use Rattle.paris_book.specs.Steps.{WasSettled, sweeps_on, sweeps_at, swept_on, swept_at}
 use Rattle.paris_book.proofs.Advancing.{cut_means, plans_put, put_in}
-use Rattle.paris_book.proofs.Cutting.{Passed, front_same, settled_uncut, passed_one}
+use Rattle.paris_book.proofs.Cutting.{Passed, front_same, settled_uncut, passed_to, passed_one, passed_all}
 use Rattle.paris_book.proofs.Finds.{entry_at}
 use Rattle.paris_book.proofs.Values.{all_agree}
 
@@ -75,25 +76,27 @@ untouched before first d from s r rests w at t =
     ∙ sym (cut_means before from r)
     ∙ rest_uncut before from r rests (sym (w.behind from (omega arith)) ∙ at)
 
+-- which keys are firm further on, but for those of d, where the rows up to there are as they were
+firm_on : (before first : State) (d : Key → Bool) (from : ℕ) (s : State) → Swept before first d from s → (k : Key) → d k ≡ false → (gap j : ℕ) → j ≡ from + gap → j ≤ length s.rows → is_firm (origin_at s j k) ≡ is_firm (origin_at before j k)
+firm_on before first d from s w k t zero j is less = let here : from ≡ j = omega (arith, is) in subst (λ (n : ℕ). is_firm (origin_at s n k) ≡ is_firm (origin_at before n k)) here (w.firm k t)
+firm_on before first d from s w k t (suc gap) zero is less = absurd (omega (arith, is))
+firm_on before first d from s w k t (suc gap) (suc j) is less =
+    let last = entry_at s.rows j (omega (arith, less)) in
+    let there : slice_get before.rows j ≡ Some last.0 = sym (w.behind j (omega (arith, is))) ∙ last.1 in
+    let number : j + 1 ≡ suc j = add-one j in
+    subst (λ (n : ℕ). is_firm (origin_at s n k) ≡ is_firm (origin_at before n k)) number
+    (firm_next s j last.0 k last.1
+    ∙ ap (λ b. cond (has_key (writes last.0.plan) k) (is_settled last.0.status) b) (firm_on before first d from s w k t gap j (omega (arith, is)) (omega (arith, less)))
+    ∙ sym (firm_next before j last.0 k there))
+
 -- where no key of d is left, no row from there on can be
 none_touched : (before first : State) (d : Key → Bool) (from : ℕ) (s : State) → IsAtRest before → Swept before first d from s → ((k : Key) → d k ≡ false) → (i : ℕ) (r : Row) → from ≤ i → slice_get s.rows i ≡ Some r → is_cut s i r ≡ false
 none_touched before first d from s rests w none i r more at =
+    let within = slice_get_within s.rows i r at in
     cut_means s i r
-    ∙ ap₂ (λ (h : Key → Bool) (v : World). not (is_settled r.status) && (list_all h (reads r.plan) && is_same v r)) (fun_ext (λ k. same (i - from) i (omega (arith, more)) (slice_get_within s.rows i r at) k)) (w.worlds i)
+    ∙ ap₂ (λ (h : Key → Bool) (v : World). not (is_settled r.status) && (list_all h (reads r.plan) && is_same v r)) (fun_ext (λ k. firm_on before first d from s w k (none k) (i - from) i (omega (arith, more)) (omega (arith, within)))) (w.worlds i)
     ∙ sym (cut_means before i r)
     ∙ rest_uncut before i r rests (sym (w.behind i more) ∙ at)
-  where
-    same : (gap j : ℕ) → j ≡ from + gap → j < length s.rows → (k : Key) → is_firm (origin_at s j k) ≡ is_firm (origin_at before j k)
-    same zero j is less k = let here : from ≡ j = omega (arith, is) in subst (λ (n : ℕ). is_firm (origin_at s n k) ≡ is_firm (origin_at before n k)) here (w.firm k (none k))
-    same (suc gap) zero is less k = absurd (omega (arith, is))
-    same (suc gap) (suc j) is less k =
-        let last = entry_at s.rows j (omega (arith, less)) in
-        let there : slice_get before.rows j ≡ Some last.0 = sym (w.behind j (omega (arith, is))) ∙ last.1 in
-        let number : j + 1 ≡ suc j = add-one j in
-        subst (λ (n : ℕ). is_firm (origin_at s n k) ≡ is_firm (origin_at before n k)) number
-        (firm_next s j last.0 k last.1
-        ∙ ap (λ b. cond (has_key (writes last.0.plan) k) (is_settled last.0.status) b) (same gap j (omega (arith, is)) (omega (arith, less)) k)
-        ∙ sym (firm_next before j last.0 k there))
 
 -- a state of which no row can be cut off is what the pass leaves
 ends_pass : (first s : State) → cut_off s ≡ cut_off first → ((i : ℕ) (r : Row) → slice_get s.rows i ≡ Some r → is_cut s i r ≡ false) → s ≡ cut_off first
@@ -217,5 +220,15 @@ module _ (first : State) (place : ℕ) (was : WasSettled first place) where
       | inr h ↦ none_touched was.before first d from s was.rests w none i r h at
     ])
 
-    pub sweep_all : length s.rows ≤ from → s ≡ cut_off first
-    sweep_all long = ends_pass first s w.passed.whole (λ i r at. let within = slice_get_within s.rows i r at in w.passed.rests i r (omega (arith, within, long)) at)
+    -- past settled rows, with all keys of d
+    pub sweep_skip : (place : ℕ) → next_unsettled s.rows from ≡ Some place → from ≤ place → place < length s.rows → Swept was.before first d place s
+    sweep_skip place found more within = record {
+      passed = passed_to first s from w.passed place found;
+      behind = λ i later. w.behind i (omega (arith, more, later));
+      worlds = w.worlds;
+      firm = λ k t. firm_on was.before first d from s w k t (place - from) place (omega (arith, more)) (omega (arith, within));
+    }
+
+    -- where all rows from there on are settled
+    pub sweep_all : next_unsettled s.rows from ≡ None → s ≡ cut_off first
+    sweep_all none = passed_all first s from w.passed none

@@ -11,6 +11,8 @@ pub mod RowsInside
 pub mod SharedIndexes
 pub mod Statuses
 pub mod Steps
+pub mod TouchedIds
+pub mod Touched
 pub mod Unsettled
 pub mod Verdicts
 pub mod Wanted

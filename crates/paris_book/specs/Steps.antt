@@ -1,5 +1,5 @@
 -- Steps of a book between two passes: a result that is kept, the order that a row would give now, and a row that has its turn.
-use Rattle.std.specs.Prelude.{◌≡◌, ◌≤◌, ◌⊎◌, ℕ, length, take, Bool, true, false, ◌&&◌, ◌||◌, not, Option, Some, None, if◌then◌else◌, slice_get, slice_set}
+use Rattle.std.specs.Prelude.{◌≡◌, ℕ, Bool, true, false, ◌&&◌, ◌||◌, not, Option, Some, None, if◌then◌else◌, slice_get, slice_set}
 use Rattle.std.specs.List.{list_all}
 use Rattle.paris_names.specs.declared.keys.Key.{Key}
 use Rattle.paris_depends.specs.Sweeps.{touches}
@@ -12,8 +12,6 @@ use Rattle.paris_machine.specs.State.{Row, State, Work, work_of, find_row}
 use Rattle.paris_machine.specs.Show.{now, origin_at}
 use Rattle.paris_machine.specs.Orders.{is_firm, order_of}
 use Rattle.paris_machine.specs.CutOff.{IsAtRest, is_cut, cut_found}
-use Rattle.paris_events.specs.declared.edits.Edit.{Edit}
-use Rattle.paris_machine.specs.Edits.{edited_by}
 use Rattle.paris_machine.specs.Results.{kept_at, verdict_of}
 use Rattle.paris_machine.specs.Settling.{run_row}
 
@@ -118,14 +116,3 @@ pub record WasSettled (s : State) (place : ℕ) : Type 0 where
   pub settled : is_settled next.status ≡ true
   pub plan : next.plan ≡ row.plan
   pub now : s ≡ record before { rows = slice_set before.rows place next }
-
--- the place of a row that was found, or the first place
-abbrev pub found_place : Option (ℕ × Row) → ℕ
-found_place None = 0
-found_place (Some e) = e.0
-
--- an edit leaves the rows before a place as they were, and so the input data, but where that is the first place
-pub record StaysBefore (s : State) (e : Edit) (place : ℕ) : Type 0 where
-  pub within : place ≤ length s.rows
-  pub rows : take place (edited_by s e).rows ≡ take place s.rows
-  pub inputs : (place ≡ 0) ⊎ ((edited_by s e).inputs ≡ s.inputs)

@@ -97,7 +97,7 @@ impl Book {
         ensures err { IfErr result (λ fault. (self.new ≡ self.old)
             × IsFaultOf (edit_fault self.old edit.now) fault) }
     {
-        self.loose.edit(edit)
+        self.loose.apply(edit)
     }
 
     /// Gives a key numbers of one word each from a processor on: the edit of input data with these numbers, which needs no list of
@@ -108,9 +108,7 @@ impl Book {
         ensures err { IfErr result (λ fault. (self.new ≡ self.old)
             × IsFaultOf (edit_fault self.old (EditCase.Input key from words.now)) fault) }
     {
-        self.loose.set_words(key, from, words)?;
-        self.loose.cut_off();
-        Ok(())
+        self.loose.set_words(key, from, words)
     }
 
     /// An order for the first row that waits and whose keys read all have the start or a settled row as origin. `None` where there

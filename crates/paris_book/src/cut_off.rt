@@ -1,22 +1,21 @@
 //! Early cut-off: a row that would compute again what it computed last is settled with that, and nothing is executed.
 
-ghost use Rattle.std.specs.Prelude.{◌≡◌, ◌≤◌, ◌<◌, ℕ, length, slice_get, true, false, Some, None, if◌then◌else◌, IfOk, IfErr, OnOk, OnErr};
-ghost use Rattle.paris_names.specs.Faults.{IsFaultOf};
+ghost use Rattle.std.specs.Prelude.{◌≡◌, ◌<◌, length, slice_get, true, false, Some, if◌then◌else◌, IfOk, OnOk, OnErr};
 ghost use Rattle.paris_names.specs.declared.keys.Key.{Key as AnyKey};
 ghost use Rattle.paris_names.specs.Keys.{has_key};
 ghost use Rattle.paris_model.specs.Instructions.{writes};
 ghost use Rattle.paris_depends.specs.Sweeps.{marked};
 ghost use Rattle.paris_machine.specs.State.{Row, find_row};
-ghost use Rattle.paris_machine.specs.CutOff.{IsAtRest, is_cut, cut_at, cut_off};
-ghost use Rattle.paris_machine.specs.Edits.{edit_fault, edit_answer, accepted};
-ghost use Rattle.paris_book.specs.Steps.{StaysBefore, WasSettled, found_place, cuts_at, left_at, own_order, settled_on, sweeps_at, swept_at, turn_order};
+ghost use Rattle.paris_machine.specs.CutOff.{cut_at, cut_off};
+ghost use Rattle.paris_book.specs.Touched.{cut_one, cut_listed};
+ghost use Rattle.paris_book.specs.Marks.{ids_in};
+ghost use Rattle.paris_book.specs.Steps.{WasSettled, cuts_at, left_at, own_order, settled_on, sweeps_at, swept_at, turn_order};
 
 use crate::looks::{is_cut, is_cut_by};
 use crate::loose::Loose;
 use paris_depends::{is_any_marked, is_none_marked, mark};
-use paris_events::{Edit, EditReply};
 use paris_exec::Order;
-use paris_names::{Fault, RowId, Spot};
+use paris_names::RowId;
 use std::alloc::AllocError;
 
 impl Loose {
@@ -94,59 +93,29 @@ impl Loose {
     pub(crate) fn cut_off(&mut self)
         ensures { self.new ≡ cut_off self.old }
     {
-        self.cut_off_from(0);
-    }
-
-    /// The same where no row before a place can be cut off.
-    fn cut_off_from(&mut self, start: usize)
-        requires { (i : ℕ) (r : Row) → i < start → slice_get self.old.rows i ≡ Some r → is_cut self.old i r ≡ false }
-        ensures { self.new ≡ cut_off self.old }
-    {
-        let mut from = start;
+        let mut from = 0;
         while let Some(place) = self.next_unsettled(from) {
             self.cut_at(place);
             from = place + 1;
         }
     }
 
-    /// The place of the row with an id, or the first place where no row has it.
-    fn place_of_row(&self, id: RowId) -> usize
-        ensures { result ≡ found_place (find_row self.now id) }
+    /// Settles the row with an id, if there is one, where it is cut off.
+    pub(crate) fn cut_row(&mut self, id: RowId)
+        ensures { self.new ≡ cut_one self.old (find_row self.old id) }
     {
-        match self.place_of_spot(Spot::After(id)) {
-            Ok(below) => below.saturating_sub(1),
-            Err(_) => 0,
+        if let Some(place) = self.rows.place_of(id) {
+            self.cut_at(place);
         }
     }
 
-    /// A place before which an edit leaves the rows as they were.
-    fn place_of_edit(&self, edit: &Edit) -> usize
-        ensures { StaysBefore self.now edit.now result }
+    /// Looks at the rows with these ids alone, one after another, and settles each that is cut off. It needs no memory.
+    pub(crate) fn cut_listed(&mut self, ids: &[RowId])
+        ensures { self.new ≡ cut_listed (ids_in ids.now) self.old }
     {
-        match edit {
-            Edit::AddSet { .. } | Edit::AddField { .. } | Edit::Input { .. } => 0,
-            Edit::Insert { spot, .. } => match self.place_of_spot(*spot) {
-                Ok(place) => place,
-                Err(_) => 0,
-            },
-            Edit::Delete(id) => self.place_of_row(*id),
-            Edit::Replace { row, .. } => self.place_of_row(*row),
+        for id in ids {
+            self.cut_row(*id);
         }
-    }
-
-    /// Makes an edit that is lent, with the pass behind it. No row could be cut off before.
-    pub(crate) fn edit(&mut self, edit: &Edit) -> Result<EditReply, Fault>
-        requires { IsAtRest self.old }
-        ensures ok { IfOk result (λ answer. (edit_fault self.old edit.now ≡ None)
-            × (answer ≡ edit_answer self.old edit.now)
-            × (self.new ≡ accepted self.old edit.now)) }
-        ensures err { IfErr result (λ fault. (self.new ≡ self.old)
-            × IsFaultOf (edit_fault self.old edit.now) fault) }
-    {
-        let start = self.place_of_edit(edit);
-        let answer = self.apply(edit)?;
-        self.cut_off_from(start);
-        Ok(answer)
     }
 
     /// Settles the row at a place where it reads a marked key and is cut off, and says whether it is.
@@ -175,8 +144,8 @@ impl Loose {
         taken && is_none_marked(fresh)
     }
 
-    /// The pass where no row could be cut off until the row at a place was settled. It looks at rows behind it that read what was
-    /// settled since, and ends where no row behind can read it.
+    /// The pass where no row could be cut off until the row at a place was settled. It comes past the unsettled rows behind it alone,
+    /// looks at those that read what was settled since, and ends where no row behind can read it.
     pub(crate) fn cut_behind(&mut self, place: usize)
         requires { WasSettled self.old place }
         ensures { self.new ≡ cut_off self.old }
@@ -187,11 +156,13 @@ impl Loose {
         }
         let mut fresh = [false; 128];
         self.mark_writes(&mut fresh, place, true);
-        for from in place + 1..len {
-            let cut = self.sweep_at(&fresh, from);
-            if self.mark_writes(&mut fresh, from, cut) {
+        let mut from = place + 1;
+        while let Some(behind) = self.next_unsettled(from) {
+            let cut = self.sweep_at(&fresh, behind);
+            if self.mark_writes(&mut fresh, behind, cut) {
                 return;
             }
+            from = behind + 1;
         }
     }
 }

@@ -1,6 +1,6 @@
 //! Edits of a book: declarations, input data, and rows that are put in, taken out and replaced.
 
-ghost use Rattle.std.specs.Prelude.{◌≡◌, ◌<◌, ◌≤◌, length, Ok, Some, None, IfOk, IfErr, IfSome, IsSome, OnOk, OnErr, if◌then◌else◌};
+ghost use Rattle.std.specs.Prelude.{◌≡◌, ◌∷◌, [], ◌<◌, ◌≤◌, length, Ok, Some, None, IfOk, IfErr, IfSome, IsSome, OnOk, OnErr, if◌then◌else◌};
 ghost use Rattle.std.specs.Option.{option_or};
 ghost use Rattle.paris_names.specs.Faults.{IsFaultOf};
 ghost use Rattle.paris_names.specs.declared.faults.Fault.TheVariants as FaultCase;
@@ -9,9 +9,12 @@ ghost use Rattle.paris_geometry.specs.Geometry.{is_geometry};
 ghost use Rattle.paris_board.specs.Board.{set_fault, field_fault, key_named, set_named};
 ghost use Rattle.paris_instr.specs.Resolve.{IsFittedTo};
 ghost use Rattle.paris_machine.specs.State.{find_row, input_of, place_of_spot};
-ghost use Rattle.paris_machine.specs.Edits.{HasEditsLeft, edit_fault, edit_answer, content_fault, edited_by, input_fault, set_added, field_added, input_set, row_inserted, replaced_from};
+ghost use Rattle.paris_machine.specs.CutOff.{IsAtRest, cut_off};
+ghost use Rattle.paris_machine.specs.Edits.{HasEditsLeft, edit_fault, edit_answer, content_fault, edited_by, accepted, input_fault, set_added, field_added, input_set, row_inserted, replaced_from};
 ghost use Rattle.paris_events.specs.declared.edits.Edit.TheVariants as EditCase;
 ghost use Rattle.paris_book.specs.Among.{CanGive, given_numbers};
+ghost use Rattle.paris_book.specs.Touched.{AreEnough};
+ghost use Rattle.paris_book.specs.Marks.{ids_in};
 
 use crate::inputs::{
     Given, declare_flags, declare_input, give_key, given_fault, push_field, push_flags,
@@ -28,11 +31,13 @@ use paris_names::{Fault, Key, KeyName, Name, RowId, Spot};
 use std::alloc::AllocError;
 
 impl Loose {
-    /// Declares a set, if there are edits left.
+    /// Declares a set, if there are edits left. It touches no row, so none can be cut off then where none could be before.
     fn add_set(&mut self, name: Name, axes: &[u64]) -> Result<(), Fault>
+        requires rests { IsAtRest self.old }
         requires left { HasEditsLeft self.old }
         ensures ok { OnOk result ((option_or (set_fault self.old.board name) (if is_geometry axes.now then None else Some FaultCase.BadAxes) ≡ None)
             × (self.new ≡ set_added self.old name axes.now)) }
+        ensures enough { OnOk result (AreEnough [] self.new) }
         ensures err { IfErr result (λ fault. (self.new ≡ self.old)
             × IsFaultOf (option_or (set_fault self.old.board name) (if is_geometry axes.now then None else Some FaultCase.BadAxes)) fault) }
     {
@@ -49,11 +54,13 @@ impl Loose {
         Ok(())
     }
 
-    /// Declares a field, if there are edits left.
+    /// Declares a field, if there are edits left. It touches no row, so none can be cut off then where none could be before.
     fn add_field(&mut self, name: Name, set: Name, width: u64) -> Result<(), Fault>
+        requires rests { IsAtRest self.old }
         requires left { HasEditsLeft self.old }
         ensures ok { OnOk result ((field_fault self.old.board name set width ≡ None)
             × (self.new ≡ field_added self.old name (set_named self.old.board set) width)) }
+        ensures enough { OnOk result (AreEnough [] self.new) }
         ensures err { IfErr result (λ fault. (self.new ≡ self.old)
             × IsFaultOf (field_fault self.old.board name set width) fault) }
     {
@@ -70,11 +77,12 @@ impl Loose {
         Ok(())
     }
 
-    /// Gives a key numbers from a processor on, if there are edits left.
+    /// Gives a key numbers from a processor on, if there are edits left, with the pass behind it. No row could be cut off before.
     fn set_input(&mut self, name: KeyName, from: u64, given: &Given<'_>) -> Result<(), Fault>
+        requires rests { IsAtRest self.old }
         requires left { HasEditsLeft self.old }
         ensures ok { OnOk result ((input_fault self.old from (given_numbers given.now) (key_named self.old.board name) ≡ None)
-            × (self.new ≡ input_set self.old (key_named self.old.board name) from (given_numbers given.now))) }
+            × (self.new ≡ cut_off (input_set self.old (key_named self.old.board name) from (given_numbers given.now)))) }
         ensures err { IfErr result (λ fault. (self.new ≡ self.old)
             × IsFaultOf (input_fault self.old from (given_numbers given.now) (key_named self.old.board name)) fault) }
     {
@@ -82,16 +90,25 @@ impl Loose {
         if let Some(fault) = given_fault(&self.inputs, &key, from, given) {
             return Err(fault);
         }
-        self.put_input(key, from, given)?;
+        let ids = self.put_input(key, from, given)?;
+        self.cut_listed(ids.as_slice());
         Ok(())
     }
 
-    /// Gives a key numbers from a processor on that can be given, and ends that edit.
-    fn put_input(&mut self, key: Key, from: u64, given: &Given<'_>) -> Result<(), AllocError>
+    /// Gives a key numbers from a processor on that can be given, and ends that edit. The answer is the ids of the rows that it
+    /// touched. No row could be cut off before.
+    fn put_input(
+        &mut self,
+        key: Key,
+        from: u64,
+        given: &Given<'_>,
+    ) -> Result<Vec<RowId>, AllocError>
+        requires rests { IsAtRest self.old }
         requires left { HasEditsLeft self.old }
         requires there { IsSome (input_of self.old.inputs key) }
         requires given { IfSome (input_of self.old.inputs key) (λ input. CanGive input from (given_numbers given.now)) }
         ensures ok { OnOk result (self.new ≡ input_set self.old (Some key) from (given_numbers given.now)) }
+        ensures enough { IfOk result (λ ids. AreEnough (ids_in ids.items) self.new) }
         ensures err { OnErr result (self.new ≡ self.old) }
     {
         let number = self.edits + 1;
@@ -99,15 +116,16 @@ impl Loose {
         self.rows.own_all(ids.as_slice())?;
         give_key(self.alloc, &mut self.inputs, &key, number, from, given)?;
         end_edit(&mut self.rows, &mut self.edits, ids.as_slice());
-        Ok(())
+        Ok(ids)
     }
 
-    /// Puts an instruction into the program, if there are edits left.
+    /// Puts an instruction into the program, if there are edits left, with the pass behind it. No row could be cut off before.
     fn insert(&mut self, spot: Spot, instr: Instr) -> Result<RowId, Fault>
+        requires rests { IsAtRest self.old }
         requires left { HasEditsLeft self.old }
         ensures ok { IfOk result (λ id. (content_fault self.old (EditCase.Insert spot instr) ≡ None)
             × (id ≡ record { 0 = self.old.next })
-            × (self.new ≡ edited_by self.old (EditCase.Insert spot instr))) }
+            × (self.new ≡ accepted self.old (EditCase.Insert spot instr))) }
         ensures err { IfErr result (λ fault. (self.new ≡ self.old)
             × IsFaultOf (content_fault self.old (EditCase.Insert spot instr)) fault) }
     {
@@ -116,16 +134,21 @@ impl Loose {
             return Err(Fault::RowsFull);
         }
         let plan = resolve(self.alloc, &self.board, instr)?;
-        self.insert_plan(place, plan)
+        let (id, ids) = self.insert_plan(place, plan)?;
+        self.cut_listed(ids.as_slice());
+        Ok(id)
     }
 
-    /// Puts a row of a plan that fits at a place, if there are edits left.
-    fn insert_plan(&mut self, place: usize, plan: Plan) -> Result<RowId, Fault>
+    /// Puts a row of a plan that fits at a place, if there are edits left. The answer is its id, and the ids of the other rows that
+    /// are touched. No row could be cut off before.
+    fn insert_plan(&mut self, place: usize, plan: Plan) -> Result<(RowId, Vec<RowId>), Fault>
+        requires rests { IsAtRest self.old }
         requires left { HasEditsLeft self.old }
         requires within { place ≤ length self.old.rows }
         requires few { length self.old.rows < MAX_ROWS }
         requires fitted { IsFittedTo self.old.board plan }
-        ensures ok { IfOk result (λ id. (id ≡ record { 0 = self.old.next }) × (self.new ≡ row_inserted self.old place plan)) }
+        ensures ok { IfOk result (λ made. (made.0 ≡ record { 0 = self.old.next }) × (self.new ≡ row_inserted self.old place plan)) }
+        ensures enough { IfOk result (λ made. AreEnough (ids_in made.1.items) self.new) }
         ensures err { IfErr result (λ fault. (self.new ≡ self.old) × (fault ≡ FaultCase.NoMemory)) }
     {
         let number = self.edits + 1;
@@ -134,14 +157,31 @@ impl Loose {
         self.rows.own_all(ids.as_slice())?;
         let id = self.rows.insert_at(place, row)?;
         end_edit(&mut self.rows, &mut self.edits, ids.as_slice());
-        Ok(id)
+        Ok((id, ids))
     }
 
-    /// Takes a row out of the program, if there are edits left.
+    /// Takes a row out of the program, if there are edits left, with the pass behind it. No row could be cut off before.
     fn delete(&mut self, id: RowId) -> Result<(), Fault>
+        requires rests { IsAtRest self.old }
+        requires left { HasEditsLeft self.old }
+        ensures ok { OnOk result ((content_fault self.old (EditCase.Delete id) ≡ None)
+            × (self.new ≡ accepted self.old (EditCase.Delete id))) }
+        ensures err { IfErr result (λ fault. (self.new ≡ self.old)
+            × IsFaultOf (content_fault self.old (EditCase.Delete id)) fault) }
+    {
+        let ids = self.take_out(id)?;
+        self.cut_listed(ids.as_slice());
+        Ok(())
+    }
+
+    /// Takes a row out of the program, if there are edits left. The answer is the ids of the rows that are touched. No row could be
+    /// cut off before.
+    fn take_out(&mut self, id: RowId) -> Result<Vec<RowId>, Fault>
+        requires rests { IsAtRest self.old }
         requires left { HasEditsLeft self.old }
         ensures ok { OnOk result ((content_fault self.old (EditCase.Delete id) ≡ None)
             × (self.new ≡ edited_by self.old (EditCase.Delete id))) }
+        ensures enough { IfOk result (λ ids. AreEnough (ids_in ids.items) self.new) }
         ensures err { IfErr result (λ fault. (self.new ≡ self.old)
             × IsFaultOf (content_fault self.old (EditCase.Delete id)) fault) }
     {
@@ -153,28 +193,35 @@ impl Loose {
         self.rows.own_all(ids.as_slice())?;
         self.rows.delete(id)?;
         end_edit(&mut self.rows, &mut self.edits, ids.as_slice());
-        Ok(())
+        Ok(ids)
     }
 
-    /// Gives a row another instruction, if there are edits left.
+    /// Gives a row another instruction, if there are edits left, with the pass behind it. No row could be cut off before.
     fn replace(&mut self, id: RowId, instr: Instr) -> Result<(), Fault>
+        requires rests { IsAtRest self.old }
         requires left { HasEditsLeft self.old }
         ensures ok { OnOk result ((content_fault self.old (EditCase.Replace id instr) ≡ None)
-            × (self.new ≡ edited_by self.old (EditCase.Replace id instr))) }
+            × (self.new ≡ accepted self.old (EditCase.Replace id instr))) }
         ensures err { IfErr result (λ fault. (self.new ≡ self.old)
             × IsFaultOf (content_fault self.old (EditCase.Replace id instr)) fault) }
     {
         let below = self.place_of_spot(Spot::After(id))?;
         let plan = resolve(self.alloc, &self.board, instr)?;
-        self.replace_plan(id, below, plan)
+        let ids = self.replace_plan(id, below, plan)?;
+        self.cut_row(id);
+        self.cut_listed(ids.as_slice());
+        Ok(())
     }
 
-    /// Gives the row with an id another plan that fits, if there are edits left. The place is that just after the row.
-    fn replace_plan(&mut self, id: RowId, below: usize, plan: Plan) -> Result<(), Fault>
+    /// Gives the row with an id another plan that fits, if there are edits left. The place is that just after the row. The answer is
+    /// the ids of the other rows that are touched. No row could be cut off before.
+    fn replace_plan(&mut self, id: RowId, below: usize, plan: Plan) -> Result<Vec<RowId>, Fault>
+        requires rests { IsAtRest self.old }
         requires left { HasEditsLeft self.old }
         requires there { place_of_spot self.old (SpotCase.After id) ≡ Some below }
         requires fitted { IsFittedTo self.old.board plan }
         ensures ok { OnOk result (self.new ≡ replaced_from self.old (find_row self.old id) (Ok plan)) }
+        ensures enough { IfOk result (λ ids. AreEnough (id.0 ∷ ids_in ids.items) self.new) }
         ensures err { IfErr result (λ fault. (self.new ≡ self.old) × (fault ≡ FaultCase.NoMemory)) }
     {
         let number = self.edits + 1;
@@ -186,14 +233,15 @@ impl Loose {
         self.rows.own_all(ids.as_slice())?;
         self.rows.replace(id, row)?;
         end_edit(&mut self.rows, &mut self.edits, ids.as_slice());
-        Ok(())
+        Ok(ids)
     }
 
     /// Gives a key numbers of one word each from a processor on: the edit of input data with these numbers, which needs no list of
-    /// wide ones. It is refused as that edit is, and what is refused leaves the book as it was.
+    /// wide ones. It is refused as that edit is, and what is refused leaves the book as it was. No row could be cut off before.
     pub(crate) fn set_words(&mut self, key: KeyName, from: u64, words: &[u64]) -> Result<(), Fault>
+        requires { IsAtRest self.old }
         ensures ok { OnOk result ((edit_fault self.old (EditCase.Input key from words.now) ≡ None)
-            × (self.new ≡ edited_by self.old (EditCase.Input key from words.now))) }
+            × (self.new ≡ accepted self.old (EditCase.Input key from words.now))) }
         ensures err { IfErr result (λ fault. (self.new ≡ self.old)
             × IsFaultOf (edit_fault self.old (EditCase.Input key from words.now)) fault) }
     {
@@ -203,11 +251,13 @@ impl Loose {
         self.set_input(key, from, &Given::Words(words))
     }
 
-    /// Makes an edit that is lent.
+    /// Makes an edit that is lent, with the pass behind it, which looks at rows that the edit touched and at no others. No row could
+    /// be cut off before.
     pub(crate) fn apply(&mut self, edit: &Edit) -> Result<EditReply, Fault>
+        requires { IsAtRest self.old }
         ensures ok { IfOk result (λ answer. (edit_fault self.old edit.now ≡ None)
             × (answer ≡ edit_answer self.old edit.now)
-            × (self.new ≡ edited_by self.old edit.now)) }
+            × (self.new ≡ accepted self.old edit.now)) }
         ensures err { IfErr result (λ fault. (self.new ≡ self.old)
             × IsFaultOf (edit_fault self.old edit.now) fault) }
     {

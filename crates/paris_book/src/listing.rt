@@ -1,10 +1,11 @@
 //! The list of rows, with their states.
 
-ghost use Rattle.std.specs.Prelude.{◌≡◌, map, IfOk};
+ghost use Rattle.std.specs.Prelude.{◌≡◌, length, map, slice_set, IfOk};
 ghost use Rattle.paris_machine.specs.Lists.{list_of};
 ghost use Rattle.paris_machine.specs.Settling.{unsettled_rows};
 ghost use Rattle.paris_book.specs.Among.{listed_entry, looks_kept};
 ghost use Rattle.paris_book.specs.Entries.{machine_row};
+ghost use Rattle.paris_book.specs.TouchedIds.{touched_ids};
 ghost use Rattle.paris_book.specs.Unsettled.{filled, unsettled_ids};
 
 use crate::book::Book;
@@ -56,6 +57,32 @@ fn put_unsettled(rows: &Rows, room: &mut [u64])
     }
 }
 
+/// Puts an id into a room, where it has that place.
+fn put_id(room: &mut [u64], at: usize, id: u64)
+    ensures { room.new ≡ slice_set room.old at id }
+{
+    if at < room.len() {
+        room[at] = id;
+    }
+}
+
+/// Puts the ids of the first rows that an edit behind the first so many touched into a room, as many as it has places for, and says
+/// how many rows these are.
+fn put_touched(rows: &Rows, since: u64, room: &mut [u64]) -> usize
+    ensures ids { room.new ≡ filled room.old (touched_ids since (map machine_row rows.now.rows)) }
+    ensures count { result ≡ length (touched_ids since (map machine_row rows.now.rows)) }
+{
+    let mut count = 0;
+    for place in 0..rows.len() {
+        let (id, row) = rows.at(place);
+        if row.edition().0 > since {
+            put_id(room, count, id.0);
+            count += 1;
+        }
+    }
+    count
+}
+
 impl Loose {
     /// The rows as they are listed.
     fn list(&self) -> Result<Items<RowLook>, AllocError>
@@ -73,6 +100,15 @@ impl Loose {
         put_unsettled(&self.rows, room);
         self.unsettled_count()
     }
+
+    /// Puts the ids of the first rows that an edit behind the first so many touched into a room, as many as it has places for, and
+    /// says how many rows these are.
+    fn touched_ids(&self, since: u64, room: &mut [u64]) -> usize
+        ensures ids { room.new ≡ filled room.old (touched_ids since self.now.rows) }
+        ensures count { result ≡ length (touched_ids since self.now.rows) }
+    {
+        put_touched(&self.rows, since, room)
+    }
 }
 
 impl Book {
@@ -83,6 +119,7 @@ impl Book {
     {
         self.loose.list()
     }
+
     /// Puts the ids of the unsettled rows into a room, in program order, as many as it has places for, and says how many rows are
     /// unsettled. It takes no memory.
     pub fn unsettled_ids(&self, room: &mut [u64]) -> usize
@@ -90,5 +127,15 @@ impl Book {
         ensures count { result ≡ unsettled_rows self.now.rows }
     {
         self.loose.unsettled_ids(room)
+    }
+
+    /// Puts the ids of the rows that an edit behind the first so many touched into a room, in program order, as many as it has places
+    /// for, and says how many rows these are: rows that were put in or replaced, and those whose recipe became another one, settled or
+    /// not. It takes no memory.
+    pub fn touched_ids(&self, since: u64, room: &mut [u64]) -> usize
+        ensures ids { room.new ≡ filled room.old (touched_ids since self.now.rows) }
+        ensures count { result ≡ length (touched_ids since self.now.rows) }
+    {
+        self.loose.touched_ids(since, room)
     }
 }

@@ -10,6 +10,7 @@ use Rattle.paris_machine.specs.Settling.{all_settled, due, unsettled_rows}
 use Rattle.paris_machine.specs.Show.{show_reply}
 use Rattle.paris_book.specs.Origins.{origin_reply}
 use Rattle.paris_book.specs.Rounds.{StaySettled}
+use Rattle.paris_book.specs.TouchedIds.{touched_ids}
 use Rattle.paris_book.specs.Unsettled.{filled, unsettled_ids}
 use Rattle.paris_book.specs.Wanted.{settled_for}
 use Rattle.paris_session.specs.Transcript.{with_book}
@@ -36,6 +37,21 @@ HasUnsettled (Some contents) before after = after ≡ filled before (unsettled_i
 abbrev pub CountsUnsettled : Option Contents → ℕ → Type 0
 CountsUnsettled None count = ⊥
 CountsUnsettled (Some contents) count = count ≡ unsettled_rows contents.session.state.rows
+
+-- the room has as many ids of rows that an edit behind the first so many touched as there is room for
+abbrev pub HasTouched : Option Contents → ℕ → List ℕ → List ℕ → Type 0
+HasTouched None since before after = ⊥
+HasTouched (Some contents) since before after = after ≡ filled before (touched_ids since contents.session.state.rows)
+
+-- these rows are so many
+abbrev pub CountsTouched : Option Contents → ℕ → ℕ → Type 0
+CountsTouched None since count = ⊥
+CountsTouched (Some contents) since count = count ≡ length (touched_ids since contents.session.state.rows)
+
+-- so many edits were accepted
+abbrev pub HasEdits : Option Contents → ℕ → Type 0
+HasEdits None edits = ⊥
+HasEdits (Some contents) edits = edits ≡ contents.session.state.edits
 
 -- the origin of a key at a place, where the handle is open and the word is a key
 abbrev pub origin_looked : Option Contents → Option KeyName → ℕ → Option (Result (Option RowId) Fault)

@@ -3,7 +3,7 @@
 ghost use Rattle.std.specs.Prelude.{◌≡◌, ◌≢◌, ◌⊎◌, ◌<◌, ◌≤◌, None};
 ghost use Rattle.paris_text.specs.Words.{key_word};
 ghost use Rattle.paris_c.specs.Calls.{looked, ShowsFault};
-ghost use Rattle.paris_c.specs.TurnCalls.{origin_looked, HasRunOrders, HasRunAll, HasUnsettled, CountsUnsettled, HasOrigin, HasOriginFault, IsSettledFor, IsPartlySettledFor};
+ghost use Rattle.paris_c.specs.TurnCalls.{origin_looked, HasRunOrders, HasRunAll, HasUnsettled, CountsUnsettled, HasTouched, CountsTouched, HasEdits, HasOrigin, HasOriginFault, IsSettledFor, IsPartlySettledFor};
 ghost use Rattle.paris_c.specs.declared.statuses.TheConstants.{OK, CLOSED, NO_KEY, PARTLY};
 
 use crate::handle::Handle;
@@ -75,6 +75,34 @@ pub extern "C" fn paris_unsettled(
         return CLOSED;
     };
     contents.unsettled(room, count);
+    handle.put(contents);
+    OK
+}
+
+/// Puts the ids of the rows that an edit behind the first so many touched, in program order, into a room, as many as there is room
+/// for, and says how many rows these are, and how many edits were accepted.
+#[unsafe(no_mangle)]
+pub extern "C" fn paris_touched(
+    alloc: Global,
+    handle: &mut Handle,
+    since: u64,
+    room: &mut [u64],
+    count: &mut usize,
+    edits: &mut u64,
+) -> u32
+    ensures ids { result ≡ OK → HasTouched handle.old.kept.value since room.old room.new }
+    ensures count { result ≡ OK → CountsTouched handle.old.kept.value since count.new }
+    ensures edits { result ≡ OK → HasEdits handle.old.kept.value edits.new }
+    ensures room { result ≢ OK → room.new ≡ room.old }
+    ensures kept { handle.new.kept.value ≡ handle.old.kept.value }
+    ensures closed { handle.old.kept.value ≡ None → result ≡ CLOSED }
+    ensures was_closed { result ≡ CLOSED → handle.old.kept.value ≡ None }
+    ensures status { (result ≡ OK) ⊎ (result ≡ CLOSED) }
+{
+    let Some(contents) = handle.take(alloc) else {
+        return CLOSED;
+    };
+    contents.touched(since, room, count, edits);
     handle.put(contents);
     OK
 }

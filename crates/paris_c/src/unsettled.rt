@@ -3,7 +3,7 @@
 ghost use Rattle.std.specs.Prelude.{◌≡◌, ◌≢◌, ◌⊎◌, ◌<◌, ◌≤◌, Some, None};
 ghost use Rattle.paris_text.specs.Words.{key_word};
 ghost use Rattle.paris_c.specs.Calls.{looked, ShowsFault};
-ghost use Rattle.paris_c.specs.TurnCalls.{origin_looked, HasRunOrders, HasRunAll, HasUnsettled, CountsUnsettled, HasOrigin, HasOriginFault, IsSettledFor, IsPartlySettledFor};
+ghost use Rattle.paris_c.specs.TurnCalls.{origin_looked, HasRunOrders, HasRunAll, HasUnsettled, CountsUnsettled, HasTouched, CountsTouched, HasEdits, HasOrigin, HasOriginFault, IsSettledFor, IsPartlySettledFor};
 ghost use Rattle.paris_c.specs.declared.statuses.TheConstants.{OK, NO_KEY, PARTLY};
 
 use crate::contents::Contents;
@@ -38,6 +38,17 @@ impl Contents {
         ensures count { CountsUnsettled (Some self.now) count.new }
     {
         *count = self.session.unsettled_ids(room);
+    }
+
+    /// Puts the ids of the rows that an edit behind the first so many touched into a room, as many as there is room for, and says how
+    /// many rows these are, and how many edits were accepted.
+    pub(crate) fn touched(&self, since: u64, room: &mut [u64], count: &mut usize, edits: &mut u64)
+        ensures ids { HasTouched (Some self.now) since room.old room.new }
+        ensures count { CountsTouched (Some self.now) since count.new }
+        ensures edits { HasEdits (Some self.now) edits.new }
+    {
+        *count = self.session.touched_ids(since, room);
+        *edits = self.session.edits();
     }
 
     /// Says the row that gives the key of a word its value at a place, and 0 for the start.

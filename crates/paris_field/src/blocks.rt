@@ -5,7 +5,7 @@ ghost use Rattle.paris_model.specs.Store.{low};
 ghost use Rattle.paris_plane.specs.Bits.{word_bit};
 ghost use Rattle.paris_field.specs.Numbers.{AllOf, number_at, numbers, plane_at};
 
-use crate::quads::quad_words;
+use crate::quads::whole_quad_words;
 use crate::transpose::{transpose8, transpose16, transpose32, transpose64};
 use paris_layer::Layer;
 use paris_plane::Plane;
@@ -246,7 +246,8 @@ fn push_quad(
     requires below { list.old.items ≡ numbers (256 * quad) layers.now }
     ensures { OnOk result (list.new.items ≡ numbers (256 * quad + 256) layers.now) }
 {
-    let words = quad_words(layers, quad, vps);
+    let mut words = [0u64; 256];
+    whole_quad_words(layers, quad, vps, &mut words);
     list.extend_from_slice(&words)?;
     Ok(())
 }

@@ -8,7 +8,7 @@ ghost use Rattle.paris_field.specs.Numbers.{AllOf, number_at, plane_at};
 
 use crate::blocks::{put_rows, whole_quads};
 use crate::planes::put_number;
-use crate::quads::put_quad_words;
+use crate::quads::put_whole_quad;
 use paris_plane::Plane;
 use std::alloc::{AllocError, Global};
 
@@ -42,7 +42,7 @@ fn put_word_bits(planes: &mut [Plane], words: &[u64], block: usize, vps: usize)
 }
 
 /// Puts words, the first processor's first, into the processors of a block, as far as their bits have planes.
-fn put_word_block(planes: &mut [Plane], words: &[u64], block: usize, vps: usize)
+pub(crate) fn put_word_block(planes: &mut [Plane], words: &[u64], block: usize, vps: usize)
     requires narrow { length planes.old ≤ 128 }
     requires within { 64 * block < vps }
     requires whole { min (64 * block + 64) vps ≤ 64 * block + length words.now }
@@ -112,7 +112,7 @@ fn put_quads(planes: &mut [Plane], words: &[u64], quads: usize)
     ensures put { (v : ℕ) → v < 256 * quads → number_at planes.new v ≡ low (length planes.old) (slice_index words.now v) }
 {
     for quad in 0..quads {
-        put_quad_words(planes, &words[256 * quad..], quad, words.len());
+        put_whole_quad(planes, &words[256 * quad..], quad, words.len());
     }
 }
 

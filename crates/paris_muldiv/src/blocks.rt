@@ -1,6 +1,7 @@
-//! An operation on the numbers of all processors, block by block of 64.
+//! An operation on the numbers of all processors: of those that fit a word quad by quad, four blocks of 64 at a time, and of others block by
+//! block.
 
-ghost use Rattle.std.specs.Prelude.{◌≡◌, ◌≢◌, ℕ, ◌+◌, ◌*◌, ◌/◌, ◌%◌, ◌^◌, ◌<◌, ◌≤◌, IfOk, false, length, min, slice_index, slice_index_or};
+ghost use Rattle.std.specs.Prelude.{◌≡◌, ◌≢◌, ℕ, ◌+◌, ◌*◌, ◌/◌, ◌%◌, ◌^◌, ◌<◌, ◌≤◌, IfOk, false, length, slice_index, slice_index_or};
 ghost use Rattle.paris_model.specs.Elementwise.{binary_overflow, binary_result};
 ghost use Rattle.paris_model.specs.Store.{low};
 ghost use Rattle.paris_plane.specs.Bits.{word_bit};
@@ -10,14 +11,11 @@ ghost use Rattle.paris_alu.specs.Alu.{binary_field, overflow_plane};
 use crate::numbers::NumberOp;
 use paris_alu::Overflowing;
 use paris_field::{
-    FieldValue, block_numbers, block_pairs, block_words, put_block, put_block_words, zero_planes,
+    FieldValue, block_numbers, put_block, put_quad_words, quad_operands, zero_planes,
 };
 use paris_layer::Layer;
 use paris_plane::Plane;
 use std::alloc::{AllocError, Global};
-
-/// One more than the greatest number of half a word.
-const HALF: u64 = 1 << 32;
 
 /// A word whose bit `i`, which was 0, is this one.
 fn with_bit(word: u64, i: usize, bit: bool) -> u64
@@ -54,76 +52,56 @@ fn block_results<O: NumberOp>(
     (results, word)
 }
 
-/// The same, where each number fits a word.
+/// Puts in place of `count` words of a quad from `at` on what the operation makes of them, and gives a word of where it overflows.
 fn word_results<O: NumberOp>(
     bits: u64,
-    xs: &[u64; 64],
-    ys: &[u64; 64],
+    xs: &mut [u64; 256],
+    ys: &[u64; 256],
+    at: usize,
     count: usize,
-) -> ([u64; 64], u64)
+) -> u64
     requires positive { 0 < bits }
     requires narrow { bits ≤ 64 }
     requires within { count ≤ 64 }
-    requires xs_fit { (i : ℕ) → i < count → slice_index xs.now i < 2 ^ bits }
-    requires ys_fit { (i : ℕ) → i < count → slice_index ys.now i < 2 ^ bits }
-    ensures values { (i : ℕ) → i < count → low bits (slice_index result.0 i) ≡ low bits (binary_result O.operator bits (slice_index xs.now i) (slice_index ys.now i) 0 0) }
-    ensures overflow { (i : ℕ) → i < count → word_bit result.1 i ≡ binary_overflow O.operator bits (slice_index xs.now i) (slice_index ys.now i) 0 }
+    requires room { at + 64 ≤ 256 }
+    requires xs_fit { (i : ℕ) → i < count → slice_index xs.old (at + i) < 2 ^ bits }
+    requires ys_fit { (i : ℕ) → i < count → slice_index ys.now (at + i) < 2 ^ bits }
+    ensures values { (i : ℕ) → i < count → low bits (slice_index xs.new (at + i)) ≡ low bits (binary_result O.operator bits (slice_index xs.old (at + i)) (slice_index ys.now (at + i)) 0 0) }
+    ensures others { (i : ℕ) → (at ≤ i → at + count ≤ i) → slice_index xs.new i ≡ slice_index xs.old i }
+    ensures overflow { (i : ℕ) → i < count → word_bit result i ≡ binary_overflow O.operator bits (slice_index xs.old (at + i)) (slice_index ys.now (at + i)) 0 }
 {
-    let mut results = [0u64; 64];
     let mut word = 0u64;
     for i in 0..count {
-        let (result, overflows) = O::apply_words(bits, xs[i], ys[i]);
-        results[i] = result;
+        let (result, overflows) = O::apply_words(bits, xs[at + i], ys[at + i]);
+        xs[at + i] = result;
         word = with_bit(word, i, overflows);
     }
-    (results, word)
+    word
 }
 
-/// The same, where the numbers lie in the halves of words.
-fn half_results<O: NumberOp>(bits: u64, words: &[u64; 64], count: usize) -> ([u64; 64], u64)
+/// Puts in place of the words of a quad what the operation makes of them, as far as there are processors. Marks where it overflows.
+fn quad_results<O: NumberOp>(
+    bits: u64,
+    xs: &mut [u64; 256],
+    ys: &[u64; 256],
+    quad: usize,
+    overflow: &mut Plane,
+)
     requires positive { 0 < bits }
-    requires narrow { bits ≤ 32 }
-    requires within { count ≤ 64 }
-    requires xs_fit { (i : ℕ) → i < count → slice_index words.now i % 2 ^ 32 < 2 ^ bits }
-    requires ys_fit { (i : ℕ) → i < count → slice_index words.now i / 2 ^ 32 < 2 ^ bits }
-    ensures values { (i : ℕ) → i < count → low bits (slice_index result.0 i) ≡ low bits (binary_result O.operator bits (slice_index words.now i % 2 ^ 32) (slice_index words.now i / 2 ^ 32) 0 0) }
-    ensures overflow { (i : ℕ) → i < count → word_bit result.1 i ≡ binary_overflow O.operator bits (slice_index words.now i % 2 ^ 32) (slice_index words.now i / 2 ^ 32) 0 }
+    requires narrow { bits ≤ 64 }
+    requires within { 256 * quad < length overflow.old }
+    requires xs_fit { (i : ℕ) → i < 256 → 256 * quad + i < length overflow.old → slice_index xs.old i < 2 ^ bits }
+    requires ys_fit { (i : ℕ) → i < 256 → 256 * quad + i < length overflow.old → slice_index ys.now i < 2 ^ bits }
+    ensures long { length overflow.new ≡ length overflow.old }
+    ensures values { (i : ℕ) → i < 256 → 256 * quad + i < length overflow.old → low bits (slice_index xs.new i) ≡ low bits (binary_result O.operator bits (slice_index xs.old i) (slice_index ys.now i) 0 0) }
+    ensures overflow { (i : ℕ) → i < 256 → 256 * quad + i < length overflow.old → slice_index_or overflow.new (256 * quad + i) false ≡ binary_overflow O.operator bits (slice_index xs.old i) (slice_index ys.now i) 0 }
+    ensures others { (v : ℕ) → v < length overflow.old → v / 256 ≢ quad → slice_index_or overflow.new v false ≡ slice_index_or overflow.old v false }
 {
-    let mut results = [0u64; 64];
-    let mut word = 0u64;
-    for i in 0..count {
-        let (result, overflows) = O::apply_words(bits, words[i] % HALF, words[i] >> 32);
-        results[i] = result;
-        word = with_bit(word, i, overflows);
-    }
-    (results, word)
-}
-
-/// What the operation makes of the numbers of a block, which fit a word each: the results, and a word of where they overflow.
-fn results_in_words<O: NumberOp>(
-    xs: &[Layer],
-    ys: &[Layer],
-    block: usize,
-    vps: usize,
-) -> ([u64; 64], u64)
-    requires positive { 0 < length xs.now }
-    requires narrow { length xs.now ≤ 64 }
-    requires same { length ys.now ≡ length xs.now }
-    requires within { 64 * block < vps }
-    requires xs { AllOf vps xs.now }
-    requires ys { AllOf vps ys.now }
-    ensures values { (i : ℕ) → i < 64 → 64 * block + i < vps → low (length xs.now) (slice_index result.0 i) ≡ low (length xs.now) (binary_result O.operator (length xs.now) (number_at xs.now (64 * block + i)) (number_at ys.now (64 * block + i)) 0 0) }
-    ensures overflow { (i : ℕ) → i < 64 → 64 * block + i < vps → word_bit result.1 i ≡ binary_overflow O.operator (length xs.now) (number_at xs.now (64 * block + i)) (number_at ys.now (64 * block + i)) 0 }
-{
-    let bits = xs.len() as u64;
-    let count = (vps - 64 * block).min(64);
-    if bits <= 32 {
-        let words = block_pairs(xs, ys, block, vps);
-        half_results::<O>(bits, &words, count)
-    } else {
-        let x = block_words(xs, block, vps);
-        let y = block_words(ys, block, vps);
-        word_results::<O>(bits, &x, &y, count)
+    let rest = overflow.len() - 256 * quad;
+    for q in 0..rest.div_ceil(64).min(4) {
+        let count = (rest - 64 * q).min(64);
+        let word = word_results::<O>(bits, xs, ys, 64 * q, count);
+        overflow.set_word(4 * quad + q, word);
     }
 }
 
@@ -159,11 +137,11 @@ fn put_number_results<O: NumberOp>(
     overflow.set_word(block, word);
 }
 
-/// The same for numbers that fit a word.
-fn put_word_results<O: NumberOp>(
+/// Puts into the processors of a quad what the operation makes of their numbers, which fit a word each.
+fn put_quad_results<O: NumberOp>(
     xs: &[Layer],
     ys: &[Layer],
-    block: usize,
+    quad: usize,
     values: &mut [Plane],
     overflow: &mut Plane,
 )
@@ -171,28 +149,53 @@ fn put_word_results<O: NumberOp>(
     requires narrow { length values.old ≤ 64 }
     requires x_count { length xs.now ≡ length values.old }
     requires y_count { length ys.now ≡ length values.old }
-    requires within { 64 * block < length overflow.old }
+    requires within { 256 * quad < length overflow.old }
     requires xs { AllOf (length overflow.old) xs.now }
     requires ys { AllOf (length overflow.old) ys.now }
     requires values { AllOf (length overflow.old) values.old }
     ensures long { length overflow.new ≡ length overflow.old }
     ensures planes { AllOf (length overflow.old) values.new }
-    ensures values { (i : ℕ) → i < 64 → 64 * block + i < length overflow.old → number_at values.new (64 * block + i) ≡ low (length values.old) (binary_result O.operator (length values.old) (number_at xs.now (64 * block + i)) (number_at ys.now (64 * block + i)) 0 0) }
-    ensures overflow { (i : ℕ) → i < 64 → 64 * block + i < length overflow.old → slice_index_or overflow.new (64 * block + i) false ≡ binary_overflow O.operator (length values.old) (number_at xs.now (64 * block + i)) (number_at ys.now (64 * block + i)) 0 }
-    ensures other_values { (v : ℕ) → v < length overflow.old → v / 64 ≢ block → number_at values.new v ≡ number_at values.old v }
-    ensures other_bits { (v : ℕ) → v < length overflow.old → v / 64 ≢ block → slice_index_or overflow.new v false ≡ slice_index_or overflow.old v false }
+    ensures values { (i : ℕ) → i < 256 → 256 * quad + i < length overflow.old → number_at values.new (256 * quad + i) ≡ low (length values.old) (binary_result O.operator (length values.old) (number_at xs.now (256 * quad + i)) (number_at ys.now (256 * quad + i)) 0 0) }
+    ensures overflow { (i : ℕ) → i < 256 → 256 * quad + i < length overflow.old → slice_index_or overflow.new (256 * quad + i) false ≡ binary_overflow O.operator (length values.old) (number_at xs.now (256 * quad + i)) (number_at ys.now (256 * quad + i)) 0 }
+    ensures other_values { (v : ℕ) → v < length overflow.old → v / 256 ≢ quad → number_at values.new v ≡ number_at values.old v }
+    ensures other_bits { (v : ℕ) → v < length overflow.old → v / 256 ≢ quad → slice_index_or overflow.new v false ≡ slice_index_or overflow.old v false }
 {
     let vps = overflow.len();
-    let (results, word) = results_in_words::<O>(xs, ys, block, vps);
-    put_block_words(values, results, block, vps);
-    overflow.set_word(block, word);
+    let mut x = [0u64; 256];
+    let mut y = [0u64; 256];
+    quad_operands(xs, ys, quad, vps, &mut x, &mut y);
+    quad_results::<O>(values.len() as u64, &mut x, &y, quad, overflow);
+    put_quad_words(values, &x, quad, vps);
 }
 
-/// Puts into the processors of a block what the operation makes of their numbers.
-fn put_results<O: NumberOp>(
+/// Puts into all processors what the operation makes of their numbers, which fit a word each.
+fn put_word_results<O: NumberOp>(
     xs: &[Layer],
     ys: &[Layer],
-    block: usize,
+    values: &mut [Plane],
+    overflow: &mut Plane,
+)
+    requires positive { 0 < length values.old }
+    requires narrow { length values.old ≤ 64 }
+    requires x_count { length xs.now ≡ length values.old }
+    requires y_count { length ys.now ≡ length values.old }
+    requires xs { AllOf (length overflow.old) xs.now }
+    requires ys { AllOf (length overflow.old) ys.now }
+    requires values { AllOf (length overflow.old) values.old }
+    ensures long { length overflow.new ≡ length overflow.old }
+    ensures planes { AllOf (length overflow.old) values.new }
+    ensures values { (v : ℕ) → v < length overflow.old → number_at values.new v ≡ low (length values.old) (binary_result O.operator (length values.old) (number_at xs.now v) (number_at ys.now v) 0 0) }
+    ensures overflow { (v : ℕ) → v < length overflow.old → slice_index_or overflow.new v false ≡ binary_overflow O.operator (length values.old) (number_at xs.now v) (number_at ys.now v) 0 }
+{
+    for quad in 0..overflow.len().div_ceil(256) {
+        put_quad_results::<O>(xs, ys, quad, values, overflow);
+    }
+}
+
+/// Puts into all processors what the operation makes of their numbers, of up to 128 bits.
+fn put_wide_results<O: NumberOp>(
+    xs: &[Layer],
+    ys: &[Layer],
     values: &mut [Plane],
     overflow: &mut Plane,
 )
@@ -200,20 +203,15 @@ fn put_results<O: NumberOp>(
     requires narrow { length values.old ≤ 128 }
     requires x_count { length xs.now ≡ length values.old }
     requires y_count { length ys.now ≡ length values.old }
-    requires within { 64 * block < length overflow.old }
     requires xs { AllOf (length overflow.old) xs.now }
     requires ys { AllOf (length overflow.old) ys.now }
     requires values { AllOf (length overflow.old) values.old }
     ensures long { length overflow.new ≡ length overflow.old }
     ensures planes { AllOf (length overflow.old) values.new }
-    ensures values { (i : ℕ) → i < 64 → 64 * block + i < length overflow.old → number_at values.new (64 * block + i) ≡ low (length values.old) (binary_result O.operator (length values.old) (number_at xs.now (64 * block + i)) (number_at ys.now (64 * block + i)) 0 0) }
-    ensures overflow { (i : ℕ) → i < 64 → 64 * block + i < length overflow.old → slice_index_or overflow.new (64 * block + i) false ≡ binary_overflow O.operator (length values.old) (number_at xs.now (64 * block + i)) (number_at ys.now (64 * block + i)) 0 }
-    ensures other_values { (v : ℕ) → v < length overflow.old → v / 64 ≢ block → number_at values.new v ≡ number_at values.old v }
-    ensures other_bits { (v : ℕ) → v < length overflow.old → v / 64 ≢ block → slice_index_or overflow.new v false ≡ slice_index_or overflow.old v false }
+    ensures values { (v : ℕ) → v < length overflow.old → number_at values.new v ≡ low (length values.old) (binary_result O.operator (length values.old) (number_at xs.now v) (number_at ys.now v) 0 0) }
+    ensures overflow { (v : ℕ) → v < length overflow.old → slice_index_or overflow.new v false ≡ binary_overflow O.operator (length values.old) (number_at xs.now v) (number_at ys.now v) 0 }
 {
-    if values.len() <= 64 {
-        put_word_results::<O>(xs, ys, block, values, overflow);
-    } else {
+    for block in 0..overflow.len().div_ceil(64) {
         put_number_results::<O>(xs, ys, block, values, overflow);
     }
 }
@@ -237,8 +235,10 @@ fn put_all_results<O: NumberOp>(
     ensures values { (v : ℕ) → v < length overflow.old → number_at values.new v ≡ low (length values.old) (binary_result O.operator (length values.old) (number_at xs.now v) (number_at ys.now v) 0 0) }
     ensures overflow { (v : ℕ) → v < length overflow.old → slice_index_or overflow.new v false ≡ binary_overflow O.operator (length values.old) (number_at xs.now v) (number_at ys.now v) 0 }
 {
-    for block in 0..overflow.len().div_ceil(64) {
-        put_results::<O>(xs, ys, block, values, overflow);
+    if values.len() <= 64 {
+        put_word_results::<O>(xs, ys, values, overflow);
+    } else {
+        put_wide_results::<O>(xs, ys, values, overflow);
     }
 }
 

@@ -104,29 +104,29 @@ find_part test a b zero m h =
 find_part test a b (suc k) zero h = absurd (omega (arith, h))
 find_part test a b (suc k) (suc m) h = find_step test a b k m (test (a + b)) refl (find_part test a (b + 1) k m (omega (arith, h)))
 
--- the least of the numbers from a block of 64 on, by what the block has
-pub block_least : (test : ℕ → Bool) (b n i : ℕ) → find (λ j. test (64 * b + j)) (numbers_below (min (n - 64 * b) 64)) ≡ Some i → find test (range_with_len (64 * b) (n - 64 * b)) ≡ Some (64 * b + i)
-block_least test b n i found =
-    let k : ℕ = min (n - 64 * b) 64 in
-    ap (λ s. find test (range_with_len s (n - 64 * b))) (omega arith)
-    ∙ find_part test (64 * b) 0 k (n - 64 * b) (omega arith)
-    ∙ ap (λ o. first_of (64 * b) o (find test (range_with_len (64 * b + 0 + k) (n - 64 * b - k)))) found
+-- the least of the numbers from a quad of 256 on, by what the quad has
+pub quad_least : (test : ℕ → Bool) (b n i : ℕ) → find (λ j. test (256 * b + j)) (numbers_below (min (n - 256 * b) 256)) ≡ Some i → find test (range_with_len (256 * b) (n - 256 * b)) ≡ Some (256 * b + i)
+quad_least test b n i found =
+    let k : ℕ = min (n - 256 * b) 256 in
+    ap (λ s. find test (range_with_len s (n - 256 * b))) (omega arith)
+    ∙ find_part test (256 * b) 0 k (n - 256 * b) (omega arith)
+    ∙ ap (λ o. first_of (256 * b) o (find test (range_with_len (256 * b + 0 + k) (n - 256 * b - k)))) found
 
-pub block_passed : (test : ℕ → Bool) (b n : ℕ) → find (λ j. test (64 * b + j)) (numbers_below (min (n - 64 * b) 64)) ≡ None → find test (range_with_len (64 * b) (n - 64 * b)) ≡ find test (range_with_len (64 * (b + 1)) (n - 64 * (b + 1)))
-block_passed test b n passed =
-    let k : ℕ = min (n - 64 * b) 64 in
-    ap (λ s. find test (range_with_len s (n - 64 * b))) (omega arith)
-    ∙ find_part test (64 * b) 0 k (n - 64 * b) (omega arith)
-    ∙ ap (λ o. first_of (64 * b) o (find test (range_with_len (64 * b + 0 + k) (n - 64 * b - k)))) passed
-    ∙ elim (cases_lt (n - 64 * b) 64) [
+pub quad_passed : (test : ℕ → Bool) (b n : ℕ) → find (λ j. test (256 * b + j)) (numbers_below (min (n - 256 * b) 256)) ≡ None → find test (range_with_len (256 * b) (n - 256 * b)) ≡ find test (range_with_len (256 * (b + 1)) (n - 256 * (b + 1)))
+quad_passed test b n passed =
+    let k : ℕ = min (n - 256 * b) 256 in
+    ap (λ s. find test (range_with_len s (n - 256 * b))) (omega arith)
+    ∙ find_part test (256 * b) 0 k (n - 256 * b) (omega arith)
+    ∙ ap (λ o. first_of (256 * b) o (find test (range_with_len (256 * b + 0 + k) (n - 256 * b - k)))) passed
+    ∙ elim (cases_lt (n - 256 * b) 256) [
       | inl last ↦
-          let left : n - 64 * b - k ≡ 0 = omega arith in
-          let none : n - 64 * (b + 1) ≡ 0 = omega arith in
-          ap (λ m. find test (range_with_len (64 * b + 0 + k) m)) left ∙ sym (ap (λ m. find test (range_with_len (64 * (b + 1)) m)) none)
+          let left : n - 256 * b - k ≡ 0 = omega arith in
+          let none : n - 256 * (b + 1) ≡ 0 = omega arith in
+          ap (λ m. find test (range_with_len (256 * b + 0 + k) m)) left ∙ sym (ap (λ m. find test (range_with_len (256 * (b + 1)) m)) none)
       | inr more ↦
-          let from : 64 * b + 0 + k ≡ 64 * (b + 1) = omega arith in
-          let left : n - 64 * b - k ≡ n - 64 * (b + 1) = omega arith in
-          ap (λ s. find test (range_with_len s (n - 64 * b - k))) from ∙ ap (λ m. find test (range_with_len (64 * (b + 1)) m)) left
+          let from : 256 * b + 0 + k ≡ 256 * (b + 1) = omega arith in
+          let left : n - 256 * b - k ≡ n - 256 * (b + 1) = omega arith in
+          ap (λ s. find test (range_with_len s (n - 256 * b - k))) from ∙ ap (λ m. find test (range_with_len (256 * (b + 1)) m)) left
     ]
 
 -- the least place of a plane whose bit is 1

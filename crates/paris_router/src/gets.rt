@@ -1,6 +1,6 @@
 //! Fetching by send address.
 
-ghost use Rattle.std.specs.Prelude.{◌≡◌, ◌≢◌, ℕ, ◌+◌, ◌-◌, ◌*◌, ◌/◌, ◌<◌, ◌≤◌, ◌&&◌, All, IfOk, IfSome, None, find, if◌then◌else◌, length, map, min, nat_le, slice_index, slice_index_or};
+ghost use Rattle.std.specs.Prelude.{◌≡◌, ◌≢◌, ℕ, ◌+◌, ◌-◌, ◌*◌, ◌/◌, ◌%◌, ◌^◌, ◌<◌, ◌≤◌, ◌&&◌, All, IfOk, IfSome, IsTrue, None, find, if◌then◌else◌, length, map, min, nat_le, slice_index, slice_index_or};
 ghost use Rattle.paris_geometry.specs.Geometry.{numbers_below};
 ghost use Rattle.paris_model.specs.Mail.{bad_sender, first_cause};
 ghost use Rattle.paris_model.specs.Store.{everywhere, low};
@@ -12,7 +12,8 @@ ghost use Rattle.paris_router.specs.Mail.{bad_sender_of, fetched_field, fetched_
 
 use crate::addresses::checked_addresses;
 use crate::numbers::low_numbers;
-use paris_field::{FieldValue, block_words, put_block_words, zero_planes};
+use crate::quads::quad_chosen;
+use paris_field::{FieldValue, put_quad_words, quad_words, zero_planes};
 use paris_layer::Layer;
 use paris_model::Refusal;
 use paris_plane::Plane;
@@ -50,14 +51,18 @@ fn chosen_word(chosen: u64, i: usize, word: u64) -> u64
     if (chosen >> i) % 2 == 1 { word } else { 0 }
 }
 
-/// Puts for each processor of a block the word at its address. Gives the place of the first one whose address is outside the words, if
+/// Puts for each processor of a quad the word at its address. Gives the place of the first one whose address is outside the words, if
 /// there is one.
-fn fetch_every_word(addresses: &[u64; 64], words: &[u64], fetched: &mut [u64; 64]) -> Option<usize>
-    ensures bad { result ≡ find (λ i. nat_le (length words.now) (slice_index addresses.now i)) (numbers_below 64) }
-    ensures inside { IfSome result (λ i. i < 64) }
-    ensures values { result ≡ None → (i : ℕ) → i < 64 → slice_index fetched.new i ≡ slice_index words.now (slice_index addresses.now i) }
+fn fetch_every_word(
+    addresses: &[u64; 256],
+    words: &[u64],
+    fetched: &mut [u64; 256],
+) -> Option<usize>
+    ensures bad { result ≡ find (λ i. nat_le (length words.now) (slice_index addresses.now i)) (numbers_below 256) }
+    ensures inside { IfSome result (λ i. i < 256) }
+    ensures values { result ≡ None → (i : ℕ) → i < 256 → slice_index fetched.new i ≡ slice_index words.now (slice_index addresses.now i) }
 {
-    for i in 0..64usize {
+    for i in 0..256usize {
         let address = addresses[i];
         if address >= words.len() as u64 {
             return Some(i);
@@ -67,81 +72,90 @@ fn fetch_every_word(addresses: &[u64; 64], words: &[u64], fetched: &mut [u64; 64
     None
 }
 
-/// Puts for each of the first `count` processors of a block the word at its address, and 0 for those that aren't chosen. Gives the
+/// Puts for each of the first `count` processors of a quad the word at its address, and 0 for those that aren't chosen. Gives the
 /// place of the first chosen one whose address is outside the words, if there is one.
 fn fetch_chosen_words(
-    addresses: &[u64; 64],
-    chosen: u64,
+    addresses: &[u64; 256],
+    chosen: &[u64; 4],
     words: &[u64],
     count: usize,
-    fetched: &mut [u64; 64],
+    fetched: &mut [u64; 256],
 ) -> Option<usize>
     requires some { 0 < length words.now }
-    requires within { count ≤ 64 }
-    ensures bad { result ≡ find (λ i. word_bit chosen i && nat_le (length words.now) (slice_index addresses.now i)) (numbers_below count) }
+    requires within { count ≤ 256 }
+    ensures bad { result ≡ find (λ i. word_bit (slice_index chosen.now (i / 64)) (i % 64) && nat_le (length words.now) (slice_index addresses.now i)) (numbers_below count) }
     ensures inside { IfSome result (λ i. i < count) }
-    ensures values { result ≡ None → (i : ℕ) → i < count → slice_index fetched.new i ≡ (if word_bit chosen i then slice_index words.now (slice_index addresses.now i) else 0) }
+    ensures values { result ≡ None → (i : ℕ) → i < count → slice_index fetched.new i ≡ (if word_bit (slice_index chosen.now (i / 64)) (i % 64) then slice_index words.now (slice_index addresses.now i) else 0) }
 {
     for i in 0..count {
-        let address = chosen_word(chosen, i, addresses[i]);
+        let address = chosen_word(chosen[i / 64], i % 64, addresses[i]);
         if address >= words.len() as u64 {
             return Some(i);
         }
-        let word = chosen_word(chosen, i, words[address as usize]);
+        let word = chosen_word(chosen[i / 64], i % 64, words[address as usize]);
         fetched[i] = word;
     }
     None
 }
 
-/// Puts for each of the first `count` processors of a block the word at its address, and 0 for those that aren't chosen. Gives the
+/// Whether the bits of four words are all 1.
+fn are_all_ones(words: &[u64; 4]) -> bool
+    ensures { IsTrue result → (q : ℕ) → q < 4 → slice_index words.now q ≡ 2 ^ 64 - 1 }
+{
+    words[0] == u64::MAX && words[1] == u64::MAX && words[2] == u64::MAX && words[3] == u64::MAX
+}
+
+/// Puts for each of the first `count` processors of a quad the word at its address, and 0 for those that aren't chosen. Gives the
 /// place of the first chosen one whose address is outside the words, if there is one.
 fn fetch_words(
-    addresses: &[u64; 64],
-    chosen: u64,
+    addresses: &[u64; 256],
+    chosen: &[u64; 4],
     words: &[u64],
     count: usize,
-    fetched: &mut [u64; 64],
+    fetched: &mut [u64; 256],
 ) -> Option<usize>
     requires some { 0 < length words.now }
-    requires within { count ≤ 64 }
-    ensures bad { result ≡ find (λ i. word_bit chosen i && nat_le (length words.now) (slice_index addresses.now i)) (numbers_below count) }
+    requires within { count ≤ 256 }
+    ensures bad { result ≡ find (λ i. word_bit (slice_index chosen.now (i / 64)) (i % 64) && nat_le (length words.now) (slice_index addresses.now i)) (numbers_below count) }
     ensures inside { IfSome result (λ i. i < count) }
-    ensures values { result ≡ None → (i : ℕ) → i < count → slice_index fetched.new i ≡ (if word_bit chosen i then slice_index words.now (slice_index addresses.now i) else 0) }
+    ensures values { result ≡ None → (i : ℕ) → i < count → slice_index fetched.new i ≡ (if word_bit (slice_index chosen.now (i / 64)) (i % 64) then slice_index words.now (slice_index addresses.now i) else 0) }
 {
-    if chosen == u64::MAX && count == 64 {
+    if count == 256 && are_all_ones(chosen) {
         fetch_every_word(addresses, words, fetched)
     } else {
         fetch_chosen_words(addresses, chosen, words, count, fetched)
     }
 }
 
-/// Puts into the planes of a block the words at the addresses of its selected processors, and 0 for the others. Gives the place in the
-/// block of the first selected processor whose address is outside the words, if there is one.
-fn fetch_block(
+/// Puts into the planes of a quad the words at the addresses of its selected processors, and 0 for the others. Gives the place in the
+/// quad of the first selected processor whose address is outside the words, if there is one.
+fn fetch_quad(
     addresses: &[Layer],
     words: &[u64],
     selected: &Layer,
-    block: usize,
+    quad: usize,
     values: &mut [Plane],
 ) -> Option<usize>
     requires narrow { length addresses.now ≤ 64 }
     requires bits { length values.old ≤ 64 }
-    requires within { 64 * block < length words.now }
+    requires within { 256 * quad < length words.now }
     requires selected { length selected.now ≡ length words.now }
     requires addresses { AllOf (length words.now) addresses.now }
     requires values { AllOf (length words.now) values.old }
     ensures long { AllOf (length words.now) values.new }
-    ensures bad { result ≡ find (λ i. has selected.now (64 * block + i) && nat_le (length words.now) (number_at addresses.now (64 * block + i))) (numbers_below (min (length words.now - 64 * block) 64)) }
-    ensures inside { IfSome result (λ i. 64 * block + i < length words.now) }
-    ensures values { result ≡ None → (i : ℕ) → i < 64 → 64 * block + i < length words.now → number_at values.new (64 * block + i) ≡ low (length values.old) (if has selected.now (64 * block + i) then slice_index words.now (number_at addresses.now (64 * block + i)) else 0) }
-    ensures others { (v : ℕ) → v < length words.now → v / 64 ≢ block → number_at values.new v ≡ number_at values.old v }
+    ensures bad { result ≡ find (λ i. has selected.now (256 * quad + i) && nat_le (length words.now) (number_at addresses.now (256 * quad + i))) (numbers_below (min (length words.now - 256 * quad) 256)) }
+    ensures inside { IfSome result (λ i. 256 * quad + i < length words.now) }
+    ensures values { result ≡ None → (i : ℕ) → i < 256 → 256 * quad + i < length words.now → number_at values.new (256 * quad + i) ≡ low (length values.old) (if has selected.now (256 * quad + i) then slice_index words.now (number_at addresses.now (256 * quad + i)) else 0) }
+    ensures others { (v : ℕ) → v < length words.now → v / 256 ≢ quad → number_at values.new v ≡ number_at values.old v }
 {
     let vps = words.len();
-    let count = (vps - 64 * block).min(64);
-    let places = block_words(addresses, block, vps);
-    let mut fetched = [0u64; 64];
-    let bad = fetch_words(&places, selected.word(block), words, count, &mut fetched);
-    put_block_words(values, fetched, block, vps);
+    let count = (vps - 256 * quad).min(256);
+    let mut places = [0u64; 256];
+    quad_words(addresses, quad, vps, &mut places);
+    let chosen = quad_chosen(selected, quad);
+    let mut fetched = [0u64; 256];
+    let bad = fetch_words(&places, &chosen, words, count, &mut fetched);
+    put_quad_words(values, &fetched, quad, vps);
     bad
 }
 
@@ -163,9 +177,9 @@ fn fetch_all(
     ensures inside { IfSome result (λ v. v < length words.now) }
     ensures values { result ≡ None → (v : ℕ) → v < length words.now → number_at values.new v ≡ low (length values.old) (if has selected.now v then slice_index words.now (number_at addresses.now v) else 0) }
 {
-    for block in 0..words.len().div_ceil(64) {
-        if let Some(i) = fetch_block(addresses, words, selected, block, values) {
-            return Some(64 * block + i);
+    for quad in 0..words.len().div_ceil(256) {
+        if let Some(i) = fetch_quad(addresses, words, selected, quad, values) {
+            return Some(256 * quad + i);
         }
     }
     None

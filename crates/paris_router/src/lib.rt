@@ -6,6 +6,7 @@ mod gets;
 mod inbox;
 mod messages;
 mod numbers;
+mod quads;
 mod sends;
 
 pub use addresses::checked_addresses;

@@ -1,12 +1,13 @@
 //! Orders that a session runs itself, with no line that says so, and what is asked of its unsettled rows.
 
-ghost use Rattle.std.specs.Prelude.{◌≡◌, ◌+◌, ◌<◌, ◌≤◌, Err, None, true, IsSome, IfOk, IfErr, OnOk, OnErr};
+ghost use Rattle.std.specs.Prelude.{◌≡◌, ◌+◌, ◌<◌, ◌≤◌, length, Err, None, true, IsSome, IfOk, IfErr, OnOk, OnErr};
 ghost use Rattle.paris_machine.specs.Events.{has_value};
 ghost use Rattle.paris_machine.specs.Orders.{take_reply};
 ghost use Rattle.paris_machine.specs.Settling.{all_settled, due, unsettled_rows};
 ghost use Rattle.paris_machine.specs.Show.{show_reply};
 ghost use Rattle.paris_book.specs.Origins.{origin_reply};
 ghost use Rattle.paris_book.specs.Rounds.{StaySettled, ran_of};
+ghost use Rattle.paris_book.specs.TouchedIds.{touched_ids};
 ghost use Rattle.paris_book.specs.Unsettled.{filled, unsettled_ids};
 ghost use Rattle.paris_book.specs.Wanted.{settled_for};
 ghost use Rattle.paris_session.specs.Transcript.{with_book};
@@ -75,6 +76,22 @@ impl Session {
         ensures count { result ≡ unsettled_rows self.now.state.rows }
     {
         self.book.unsettled_ids(room)
+    }
+
+    /// Puts the ids of the rows that an edit behind the first so many touched into a room, in program order, as many as it has places
+    /// for, and says how many rows these are. It takes no memory.
+    pub fn touched_ids(&self, since: u64, room: &mut [u64]) -> usize
+        ensures ids { room.new ≡ filled room.old (touched_ids since self.now.state.rows) }
+        ensures count { result ≡ length (touched_ids since self.now.state.rows) }
+    {
+        self.book.touched_ids(since, room)
+    }
+
+    /// How many edits were accepted.
+    pub fn edits(&self) -> u64
+        ensures { result ≡ self.now.state.edits }
+    {
+        self.book.edits()
     }
 
     /// The row whose value a look shows, or the row that it says is pending. `None` is the start. The errors are those of a look. It

@@ -29,7 +29,7 @@ from pevudlo.document.origins import input_lines, lines_of_rows, row_above, row_
 from pevudlo.document.states import Mark, State
 from pevudlo.document.update import Update
 from pevudlo.lang.keys import width_of
-from pevudlo.record.earlier import Numbers
+from pevudlo.record.numbers import Numbers
 
 BY_THEMSELVES = "rows run by themselves here"
 

@@ -2,7 +2,7 @@
 
 from __future__ import annotations
 
-from collections.abc import Callable, Sequence
+from collections.abc import Callable, Iterable, Sequence
 from math import prod
 from typing import TypeVar
 
@@ -19,7 +19,7 @@ from pevudlo.lang.grammar import PROFILE_COMMAND
 from pevudlo.lang.keys import axes_of
 from pevudlo.lang.profiles import USUAL
 from pevudlo.lang.replies import NoReply, Ok, Reply, RowAdded, RowFault, Settled
-from pevudlo.record.earlier import Numbers
+from pevudlo.record.numbers import Numbers
 from pevudlo.record.looks import Looker
 from pevudlo.talk import Talk
 from pevudlo.values.shaped import input_lines
@@ -48,10 +48,12 @@ class Book:
         self.board = self.talk.board
         self.verdicts = Verdicts(self._second, self.board)
         self.faults: dict[int, RowFault] = {}
+        # A number for each row, which is another one once the row was touched.
         self.editions: dict[int, int] = {}
         self.refused: dict[int, str] = {}
         self.header = ""
         self._looker = Looker(inner_of(self.peer), self.board)
+        self._edits: int | None = None
         self._listed: list[str] = []
         self._rows: Sequence[FileRow] = []
         self._inputs: dict[str, list[str]] = {}
@@ -95,8 +97,8 @@ class Book:
         if lines:
             self.verdicts.forget_names()
 
-    def to_rows(self, old: Sequence[FileRow], new: Sequence[FileRow], hunk: Hunk | None, done: Update) -> None:
-        """Sends the edits that make these rows of the old ones."""
+    def to_rows(self, old: Sequence[FileRow], new: Sequence[FileRow], hunk: Hunk | None, done: Update) -> bool:
+        """Sends the edits that make these rows of the old ones. Whether a row was taken out."""
         hunk = hunk or same_ends(old, new)
         gone, put = old[hunk.start : hunk.end], new[hunk.start : hunk.new_end]
         for at, to in matched([row.text for row in gone], [row.text for row in put]):
@@ -119,13 +121,13 @@ class Book:
                 place = f"after {last}" if last else "start"
                 row.book = self._tell(f"insert {place} {row.text}", RowAdded, done).row
             last = row.book
+        return bool(left_out)
 
-    def to_inputs(self, shown: Sequence[Shown], done: Update) -> None:
-        """Gives each key the input data that the lines say, as far as it is other than what it was told."""
+    def to_inputs(self, inputs: Iterable[Shown], done: Update) -> None:
+        """Gives each key the input data that these lines say, as far as it is other than what it was told."""
         wanted: dict[str, list[str]] = {}
-        for each in shown:
-            if each.piece.kind is Kind.INPUT and not each.refused:
-                wanted.setdefault(each.key, []).append(each.piece.line)
+        for each in inputs:
+            wanted.setdefault(each.key, []).append(each.piece.line)
         for key in [*wanted, *self._inputs.keys() - wanted.keys()]:
             have, want = self._inputs.get(key, []), wanted.get(key, [])
             if have != want:
@@ -143,7 +145,9 @@ class Book:
         done.rows = len(rows)
         done.count = self.talk.ask("settle", Settled).count
         if done.sent or done.count or is_saved:
-            done.touched = frozenset(self._list(rows))
+            inner = inner_of(self.peer)
+            touched = self._ask(inner, len(done.sent)) if isinstance(inner, Library) else self._list(rows)
+            done.touched = frozenset(touched)
         if done.sent or done.count:
             self.faults = {fault.row: fault for fault in self.talk.faults()}
 
@@ -181,6 +185,15 @@ class Book:
             _, _, first, *values = line.split(" ")
             numbers[int(first) : int(first) + len(values)] = map(int, values)
         return numbers
+
+    def _ask(self, library: Library, sent: int) -> list[int]:
+        """The ids of the rows that edits touched since they were asked for. Nobody else may have edited the book."""
+        touched, edits = library.touched(self._edits or 0)
+        if self._edits not in (None, edits - sent):
+            raise NewBook(LOST)
+        self._edits = edits
+        self.editions.update(dict.fromkeys(touched, edits))
+        return touched
 
     def _list(self, rows: Sequence[FileRow]) -> list[int]:
         """The ids of the rows of a new edition since the last list. The book's list has to be that of these rows."""

@@ -34,7 +34,7 @@ from pevudlo.lang.faults import FAULTS
 from pevudlo.lang.grammar import wrong_column
 from pevudlo.lang.replies import NoReply, Refused, parse
 from pevudlo.progress import PROGRESS, Progress
-from pevudlo.record.earlier import Numbers
+from pevudlo.record.numbers import Numbers
 from pevudlo.wire.peers import Peer, peer_of
 from pevudlo.wire.pipe import PipeError
 
@@ -163,13 +163,13 @@ class Document:
             meaning = spliced(self.meaning, lines, same, book.verdicts, above, hold)
         if meaning is None:
             meaning = Reader(book.verdicts, book.refused, book.header).read(lines)
-        book.to_rows(self.meaning.rows, meaning.rows, meaning.hunk, done)
+        are_gone = book.to_rows(self.meaning.rows, meaning.rows, meaning.hunk, done)
         if meaning.has_inputs:
-            book.to_inputs(meaning.shown, done)
+            book.to_inputs(meaning.inputs, done)
         self.meaning, self._declared = meaning, declared
         self.told.say("settles rows")
         book.settle(meaning.rows, done, is_saved=not hold)
-        if done.sent:
+        if are_gone:
             self._forget(book.editions)
 
     def _forget(self, present: Container[int]) -> None:

@@ -13,7 +13,7 @@ from pevudlo.draw.arrays import differing, extent
 from pevudlo.hints.notes import note_of
 from pevudlo.lang.keys import width_of
 from pevudlo.lang.same import same_words
-from pevudlo.record.earlier import Numbers
+from pevudlo.record.numbers import Numbers
 
 MOST = 40
 """How many letters the numbers of a key take."""

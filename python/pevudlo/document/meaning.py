@@ -102,6 +102,12 @@ class Meaning:
     hunk: Hunk | None = None
 
     @property
+    def inputs(self) -> list[Shown]:
+        """The lines of input data that aren't refused."""
+        told = [self.shown[at] for at in self.told_lines]
+        return [each for each in told if each.kind is Kind.INPUT and not each.refused]
+
+    @property
     def held(self) -> tuple[int, ...]:
         """The lines that keep the row that they were, although they are refused."""
         return tuple(at for at in self.row_lines if self.shown[at].refused) if self.is_held else ()

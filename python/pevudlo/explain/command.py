@@ -15,8 +15,8 @@ from pevudlo.wire.pipe import Pipe, PipeError
 from pevudlo.wire.program import NotFound, find
 
 DOES = (
-    "Runs a script, and says of each line what came of it: values as grids, and refusals in words with what there is "
-    "instead. The exit status is the program's."
+    "Runs a script, and shows each line with what came of it: values as grids, and refusals in words with what there "
+    "is instead. The exit status is the program's."
 )
 
 
@@ -45,6 +45,8 @@ def explain(script: BinaryIO, talk: Talk, writer: Writer, stop: bool = False, to
         told.settling(line, talk.peer)
         answer = talk.tell_causes(line)
         if answer is None:
+            with told.aside():
+                writer.comment(number, line)
             continue
         tally.count(number, answer, stop)
         with told.aside():

@@ -1,4 +1,4 @@
-"""Writes what came of each line of a script: in words behind file and line, or in one object of JSON a line."""
+"""Writes what came of each line of a script: in words beside the line, or in one object of JSON a line."""
 
 from __future__ import annotations
 
@@ -7,13 +7,17 @@ from abc import ABC, abstractmethod
 from collections.abc import Sequence
 from dataclasses import dataclass, field
 
+from pevudlo.draw.visible import visible
 from pevudlo.explain.objects import object_of
 from pevudlo.explain.words import ending, matters, told
+from pevudlo.hints.explanation import MOST_SHOWN
 from pevudlo.lang.board import Board
 from pevudlo.lang.replies import RowFault
 from pevudlo.talk import Answer
 
-INDENT = "    "
+INDENT = " " * 6
+WIDE = 48
+"""The reply stands beside the line from this letter on, or behind a longer line."""
 
 
 @dataclass
@@ -44,6 +48,9 @@ class Writer(ABC):
         if matters(answer) or not self.is_quiet:
             self._write(number, answer, board)
 
+    def comment(self, number: int, line: str) -> None:
+        """A line that has no answer."""
+
     def end(self, tally: Tally, faults: Sequence[RowFault]) -> None:
         """The end of the script, and the rows that are refused for their data then."""
         if not self.is_quiet:
@@ -59,15 +66,34 @@ class Writer(ABC):
 
 
 class InWords(Writer):
-    """Words for people, behind the file's name and the line's number."""
+    """Words for people: the file's name once, and below it each line with its number and what came of it."""
+
+    is_begun = False
+
+    def comment(self, number: int, line: str) -> None:
+        if not self.is_quiet and line:
+            self._say(f"{number:>4}  {visible(line)}")
 
     def _write(self, number: int, answer: Answer, board: Board) -> None:
         head, more = told(answer, board)
-        lines = [f"{self.name}:{number}: {head}", *(f"{INDENT}{text}".rstrip() for text in more)]
-        print("\n".join(lines))
+        line = shown(answer.line)
+        if answer.explanation is not None:
+            # (the line is cut round the place of its caret)
+            line, *more = more
+        self._say(f"{number:>4}  {line:<{WIDE}}  {head}", *(f"{INDENT}{text}".rstrip() for text in more))
 
     def _end(self, tally: Tally, faults: Sequence[RowFault]) -> None:
-        print(f"{self.name}: {ending(tally.commands, tally.refused, faults, tally.stopped)}")
+        self._say(ending(tally.commands, tally.refused, faults, tally.stopped))
+
+    def _say(self, *lines: str) -> None:
+        """Writes lines, below the file's name."""
+        print("\n".join(lines if self.is_begun else [self.name, *lines]))
+        self.is_begun = True
+
+
+def shown(line: str) -> str:
+    """A line, or its beginning where it is long."""
+    return visible(line if len(line) <= MOST_SHOWN else f"{line[: MOST_SHOWN - 3]}...")
 
 
 class InJson(Writer):

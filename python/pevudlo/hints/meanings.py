@@ -43,9 +43,9 @@ _THERE = {
     },
     Where.LIVE: {
         **dict.fromkeys(("quit", "exit"), "Ctrl-C ends the page, where `./paris live` was started"),
-        "help": f"{_COMMANDS}. A click on an instruction or a cell edits it; `./paris prompt` explains words by `help`",
-        "undo": f"{_UNDO}. Click the row or the cell for that",
-        "save": "the link at the foot of the page gives the accepted commands as a script",
+        "help": f"{_COMMANDS}. Enter edits a row or a number, ? shows keys; `./paris prompt` explains words by `help`",
+        "undo": "Ctrl-Z and the button Undo take the last edit back",
+        "save": "the link below the line for commands gives the accepted commands as a script",
         "load": "`./paris live FILE` begins with a script",
     },
     Where.FILE: {

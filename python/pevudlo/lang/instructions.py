@@ -13,6 +13,9 @@ from typing import Iterable, Iterator, Sequence
 
 NONE = "none"
 FLAGS = ("context", "test", "carry", "overflow")
+FLAGS_READ = {"logand-context-with-test": "test", "store-test": "test", "u-add-carry-3-1L": "carry"}
+"""The flags, beside the context, that an instruction reads and needn't write."""
+
 COMBINERS = ("u-add", "logior", "logand", "logxor", "u-max", "u-min")
 
 

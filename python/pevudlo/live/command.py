@@ -9,7 +9,7 @@ from argparse import ArgumentTypeError, Namespace
 from pathlib import Path
 from types import FrameType
 
-from pevudlo.arguments import Arguments, add_program, add_quiet, file_name
+from pevudlo.arguments import Arguments, add_quiet, file_name
 from pevudlo.draw.visible import visible
 from pevudlo.files import lines_in, read_lines, read_regular, why
 from pevudlo.live.followed import FollowedSession
@@ -17,13 +17,13 @@ from pevudlo.live.running import RunningSession
 from pevudlo.live.server import Server
 from pevudlo.live.session import Session, Stopped
 from pevudlo.running.held import WrongVariable
-from pevudlo.wire.library_places import find_library_or_none
+from pevudlo.wire.library_places import find_library
 from pevudlo.wire.pipe import PipeError
-from pevudlo.wire.program import NotFound, find
+from pevudlo.wire.program import NotFound
 
 DOES = (
-    "Serves a page on which a program is edited: rows, input data, orders. It is for browsers on this machine alone, "
-    "at the address that is written first. Ctrl-C ends it."
+    "Serves a page on which a program is edited while its rows run by themselves. It is for browsers on this machine "
+    "alone, at the address that is written first. Ctrl-C ends it."
 )
 
 
@@ -39,7 +39,6 @@ def arguments() -> Arguments:
     parser = Arguments("live", DOES)
     parser.add_argument("file", nargs="?", type=file_name, metavar="FILE", help="a script that the program begins with")
     add_quiet(parser)
-    add_program(parser)
     said = "several tabs edit at once; without it one does, and the others look"
     parser.add_argument("--shared", action="store_true", help=said)
     said = "hold the page in step with FILE while it is edited, on the page as a text too, which is written into FILE"
@@ -71,22 +70,14 @@ def lines_of(path: Path, is_followed: bool) -> list[str]:
 
 
 def begun(said: Namespace, lines: list[str]) -> Session:
-    """A session of a script, or of a file that is followed. Raises NotFound, Stopped and PipeError.
-
-    Rows run in the library where that is there, and the program isn't wanted.
-    """
-    library = None if said.program else find_library_or_none()
+    """A session of a script, or of a file that is followed. Raises NotFound, Stopped and PipeError."""
+    library = find_library()
     if said.follow:
-        place, is_inside = library or find(), library is not None
-        followed = FollowedSession(Path(said.file), place, said.workers, said.quiet, is_inside)
+        followed = FollowedSession(Path(said.file), library, said.workers, said.quiet)
         followed.look()
         threading.Thread(target=followed.follow, daemon=True).start()
         return followed
-    session = (
-        Session(find(), said.workers, said.quiet)
-        if library is None
-        else RunningSession(library, said.workers, said.quiet, said.shared)
-    )
+    session = RunningSession(library, said.workers, said.quiet, said.shared)
     try:
         refused = session.load(lines)
     except BaseException:

@@ -14,21 +14,26 @@ from pevudlo.document.pieces import Kind, first_command, piece_of
 from pevudlo.document.update import Update
 from pevudlo.document.watched import PERIOD, Glimpse, Watched
 from pevudlo.files import put_text
+from pevudlo.hints.meanings import Where
 from pevudlo.lang.grammar import PROFILE_COMMAND, wrong_column
 from pevudlo.lang.replies import NoReply, parse
-from pevudlo.live.session import CHANGING, LISTED_A_STEP, Session, Stopped
-from pevudlo.record.recorder import LOOKS, Step
+from pevudlo.client.news import News
+from pevudlo.live.running import BY_THEMSELVES as THEMSELVES
+from pevudlo.live.running import given_in, step_of
+from pevudlo.live.session import CHANGING, Session, Step, Stopped
+from pevudlo.record.looks import Looker
 from pevudlo.running.background import Background
+from pevudlo.talk import LOOKS, Talk
 from pevudlo.wire.book import Book
 from pevudlo.wire.library import Library
 from pevudlo.wire.peers import Peer
-from pevudlo.wire.pipe import Pipe, PipeError, is_comment
+from pevudlo.wire.pipe import PipeError, is_comment
 
 EDITING = ("set", "field", "input", "insert", "delete", "replace")
 MOST_LINES = 400
 """Of so many lines it is told at once what they give."""
 
-BY_THEMSELVES = "rows run by themselves here, when the text changes"
+BY_THEMSELVES = f"{THEMSELVES}, when the text changes"
 
 
 class OtherText(Exception):
@@ -66,12 +71,9 @@ class SessionPeer:
 class FollowedSession(Session):
     """A session of a file. `text` is its text, `number` counts texts, and `done` is what the last update did."""
 
-    def __init__(
-        self, path: Path, place: Path, workers: int = 2, is_quiet: bool = True, is_inside: bool = False
-    ) -> None:
-        """`place` is where the program is, or the library where `is_inside`."""
-        self._is_inside = is_inside
-        super().__init__(place, workers, is_quiet)
+    def __init__(self, path: Path, library: Path, workers: int = 2, is_quiet: bool = True) -> None:
+        self._anew = set[str]()
+        super().__init__(library, workers, is_quiet)
         self.file = Watched(path)
         self.text, self.done, self.missing = "", Update(), ""
         self.document = Document(lambda: SessionPeer(self), begin_second=self._begun_second)
@@ -117,12 +119,20 @@ class FollowedSession(Session):
             try:
                 with self._telling(self.file.path.name):
                     self.done = self.document.update(text, hold)
-                    self._see_rows()
+                    self._see_text()
             except (PipeError, Stopped, NoReply, MemoryError) as error:
                 self.trouble = self.trouble or str(error)
             # The text is what a program is begun anew with.
             self.taken.clear()
             self.changed()
+
+    def _see_text(self) -> None:
+        """Sees the rows and the input data behind an update."""
+        self.edits, self.line = self.edits + 1, self.file.path.name
+        given = [key for key in given_in(self.document.lines) if self.board.set_of(key) is not None]
+        self.ledger.keep_given(given, self._anew, self.version + 1)
+        self._anew.clear()
+        self.see_rows()
 
     def type(self, was: int, start: int, end: int, text: str, hold: bool) -> None:
         """Puts a text into the place of a part, by units of UTF-16, and writes the file.
@@ -156,24 +166,31 @@ class FollowedSession(Session):
     def run(self, line: str, was: str | None = None) -> Step:
         """Does an edit of a row or of input data in the text. Looks are asked of the program."""
         word = line.split(" ")[0]
-        if is_comment(line) or "\n" in line or word in LOOKS:
-            return super().run(line, was)
-        self.look()
+        if is_comment(line) or "\n" in line:
+            raise ValueError("one command is wanted")
+        if word not in LOOKS:
+            self.look()
         with self.lock:
             self._check_row(line, was)
+            if word in LOOKS:
+                return self._told(line)
             if word in CHANGING and word not in (PROFILE_COMMAND, *EDITING):
                 raise ValueError(BY_THEMSELVES)
             is_first = word == PROFILE_COMMAND and first_command(self.document.lines) is None
             if is_first and wrong_column(line, is_first) is None:
-                return self._edit(line)
+                return self._noted(self._edit(line))
             piece = piece_of(line)
             if word not in EDITING or piece.kind is Kind.WRONG:
-                return self._refused_step(line)
-            return self._edit(line)
+                return self._told(line)
+            return self._noted(self._edit(line))
 
-    def _refused_step(self, line: str) -> Step:
-        """A line that isn't in the grammar: the program says so, and nothing is changed."""
-        step = self._step(line)
+    def _told(self, line: str) -> Step:
+        """A look, or a line that isn't in the grammar: the program answers, and nothing is changed."""
+        return self._noted(self._step(line))
+
+    def _noted(self, step: Step) -> Step:
+        """Tells the tabs of a command and its reply."""
+        self.note(step)
         self.changed()
         return step
 
@@ -190,7 +207,7 @@ class FollowedSession(Session):
         if told is not None:
             refused = shown[at].refused
             self.take(before)
-            return Step(0, line, (refused,), parse([refused]), explanation=told)
+            return Step(line, (refused,), parse([refused]), told)
         try:
             self._put(self.text)
         except OSError:
@@ -198,11 +215,7 @@ class FollowedSession(Session):
             raise
         row = shown[at].row if word == "insert" else None
         reply = "ok" if row is None else f"row {row.book}"
-        return Step(0, line, (reply,), parse([reply]))
-
-    def run_order(self) -> list[Step]:
-        """No order is taken by hand. Raises ValueError."""
-        raise ValueError(BY_THEMSELVES)
+        return Step(line, (reply,), parse([reply]))
 
     @property
     def commands(self) -> int:
@@ -234,6 +247,9 @@ class FollowedSession(Session):
                 pass
             return {"number": self.number, "lines": [], "head": self.trouble}
 
+    def extra(self) -> News:
+        return {"on": True, "out": 0}
+
     def close(self) -> None:
         """Ends what runs the rows, and what gives the verdicts."""
         self._over.set()
@@ -246,46 +262,66 @@ class FollowedSession(Session):
         """Begins another program, where this one was told something, and gives it."""
         if not self._is_new:
             self._end()
-            self._forget()
+            self.taken, self.trouble = [], ""
+            self.steps.clear()
+            self.ledger.forget()
             self._begin()
         self._is_new = False
-        return self._peer
+        return self._book
 
-    def _begun(self) -> Peer:
-        """The library, whose rows run in the workers, or the program."""
-        if not self._is_inside:
-            return super()._begun()
-        book = Book(self._program)
-        self._background = Background(book, lambda: self.board, self._workers, 0)
-        return book
+    def _begin(self) -> None:
+        """Opens the library, whose rows run in the workers."""
+        book = self._book = Book(self._library)
+        talk = self._talk = Talk(book, Where.LIVE)
+        self._lister = Looker(book, talk.board)
+        self._background = Background(book, lambda: talk.board, self._workers, 0)
+
+    @property
+    def book(self) -> Book:
+        return self._book
 
     def _begun_second(self) -> Peer:
         """What gives the verdicts, with nothing declared."""
-        if self._is_inside:
-            return Library(self._program)
-        return Pipe(self._program, 1)
+        return Library(self._library)
 
     def _end(self) -> None:
-        """Ends the workers too."""
-        if self._is_inside:
-            self._background.close()
-        else:
-            super()._end()
+        self._background.close()
+
+    def _step(self, line: str) -> Step:
+        """One command. Raises Stopped where the program has ended."""
+        if self.trouble:
+            raise Stopped(self.trouble)
+        answer = self._talk.tell(line)
+        assert answer is not None
+        step = step_of(answer)
+        self.told += 1
+        if step.word in ("set", "field", "paris"):
+            self.ledger.declared = self.version + 1
+        if not step.is_refused and step.word in CHANGING:
+            self.taken.append(line)
+        return step
 
     def told_line(self, line: str) -> list[str]:
         """The reply to one line of the document. Raises PipeError."""
         if line.split(" ", 1)[0] not in CHANGING:
-            return self._peer.ask(line)
+            return self._book.ask(line)
+        self._note_given(line)
         try:
-            return list(self._step(line, LISTED_A_STEP).lines)
+            return list(self._step(line).lines)
         except Stopped as error:
             raise Gone(str(error)) from error
 
     def told_lines(self, lines: Sequence[str]) -> list[list[str]]:
         """The replies to the lines that a new book is told."""
-        replies = self._peer.ask_all(lines)
+        replies = self._book.ask_all(lines)
         for line, reply in zip(lines, replies):
             if reply:
                 self.board.note(line, reply[0])
                 self.told += 1
+                self._note_given(line)
         return replies
+
+    def _note_given(self, line: str) -> None:
+        """Notes input data that is given anew."""
+        if line.startswith("input "):
+            self._anew.add(line.split(" ", 2)[1])

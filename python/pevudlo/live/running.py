@@ -1,6 +1,6 @@
-"""A live session over the library: rows run by themselves while it is edited, and edits are taken back.
+"""A live session whose rows run by themselves while it is edited, and whose edits are taken back.
 
-Edits hold `lock`, and are short. What a tab sees is drawn from a snapshot, with no lock held.
+Edits hold `lock`, and are short. Rows run with no lock held.
 """
 
 from __future__ import annotations
@@ -8,32 +8,34 @@ from __future__ import annotations
 import threading
 import time
 from collections import deque
-from collections.abc import Iterator, Sequence
-from contextlib import contextmanager
+from collections.abc import Sequence
 from pathlib import Path
 
 from pevudlo.hints.meanings import Where
-from pevudlo.lang.board import Board
-from pevudlo.lang.replies import Ok, Row, Status, Word
-from pevudlo.live.seen import Edit
-from pevudlo.live.session import CHANGING, LISTED_A_STEP, Session
-from pevudlo.progress import Progress, line_of, progress
-from pevudlo.record.looks import Look, Looker
-from pevudlo.record.recorder import Step, touched_of
+from pevudlo.lang.replies import Ok, Word
+from pevudlo.client.news import News, shortened
+from pevudlo.live.session import CHANGING, Session, Step
+from pevudlo.progress import line_of
+from pevudlo.record.looks import Looker
 from pevudlo.running.background import Background
-from pevudlo.running.crew import News
+from pevudlo.running.crew import News as Result
+from pevudlo.running.held import bytes_text
+from pevudlo.running.history import Step as Kept
+from pevudlo.running.words import WHY
 from pevudlo.talk import EDITS, Answer, Talk
 from pevudlo.wire.book import Book
 from pevudlo.wire.pipe import is_comment
 
-EVERY = 0.05
+EVERY = 0.04
 """Seconds between two news of results, at least."""
+
+AT_ONCE = 0.004
+"""Seconds that rows have behind an edit, so that what they left is told with it."""
 
 MOST_THROWN = 5
 """So many late results are shown."""
 
 BY_HAND = ("take", "bring", "release")
-OF_ROWS = ("input", "insert", "delete", "replace")
 BY_THEMSELVES = "rows run by themselves here"
 
 
@@ -42,51 +44,38 @@ class OtherTab(Exception):
 
 
 class RunningSession(Session):
-    """A session whose ready rows run beside the edits. `epoch` counts how often edits were taken back or made again.
+    """A session whose ready rows run beside the edits.
 
-    `rows` are those behind the last edit, with the states that they had then. `given` are the keys whose input data was
-    given anew since it was last asked. `edit_lines` has the edits by their numbers, which are the editions of the rows
-    that they touch. Where it isn't shared `editor` is the tab that edits, and the others look.
+    `edit_lines` has the edits by their numbers, which are the editions of the rows that they touch. Where it isn't
+    shared `editor` is the tab that edits, and the others look.
     """
 
     def __init__(self, library: Path, workers: int = 2, is_quiet: bool = True, is_shared: bool = False) -> None:
         self.is_shared, self.editor = is_shared, ""
-        self.rows: tuple[Row, ...] = ()
-        self.edit: Edit | None = None
-        self.given = set[str]()
-        self.edits, self.epoch = 0, 0
         self.edit_lines: dict[int, str] = {}
-        self.thrown: deque[News] = deque(maxlen=MOST_THROWN)
+        self.thrown: deque[Result] = deque(maxlen=MOST_THROWN)
+        self._number = 0
         self._marks: list[int] = []
         self._undone: list[list[str]] = []
-        self._is_told = False
+        self._before: Book | None = None
+        self._seen: tuple[int, int, int, bool] | None = None
         super().__init__(library, workers, is_quiet)
 
     def _begin(self) -> None:
         """Opens the library, and starts a thread that tells the tabs of results."""
-        self.book = Book(self._program)
-        talk = self._talk = Talk(self.book, Where.LIVE)
-        self._lister = Looker(self.book, talk.board)
-        self.background = Background(self.book, lambda: talk.board, self._workers)
+        self._book = Book(self._library)
+        talk = self._talk = Talk(self._book, Where.LIVE)
+        self._lister = Looker(self._book, talk.board)
+        self.background = Background(self._book, lambda: talk.board, self._workers)
         threading.Thread(target=self._gather, args=(self.background,), daemon=True).start()
 
     @property
-    def board(self) -> Board:
-        """What is declared."""
-        return self._talk.board
+    def book(self) -> Book:
+        return self._book
 
     @property
-    def acts(self) -> int:
-        """How many commands and steps of the history came."""
-        return self.told + self.epoch
-
-    def places(self) -> set[str]:
-        """The places where the caret may stand."""
-        return {"start", "end"} | {f"after {row.row}" for row in self.rows}
-
-    def keys(self) -> tuple[list[Look], list[Look]]:
-        """A snapshot has them."""
-        raise ValueError("keys are looked at in a snapshot")
+    def before(self) -> Book | None:
+        return self._before
 
     # Edits.
 
@@ -105,72 +94,47 @@ class RunningSession(Session):
             self.changed()
 
     def run(self, line: str, was: str | None = None) -> Step:
-        """Hands one command to the library. `was` is the instruction that its row had for who wrote the command.
-
-        Raises ValueError for no command and where there is no memory, and OtherRow where the row is another.
-        """
         if is_comment(line) or "\n" in line:
             raise ValueError("one command is wanted")
         if line == "settle":
             self.go_on()
-            return Step(0, line, ("ok",), Ok())
+            return Step(line, ("ok",), Ok())
         with self.lock:
             self._check_row(line, was)
             with self.book.lock:
                 step = self._tell(line)
-                still = self._still() if is_edit(step) else None
-            self._note(step, still)
+                if is_edit(step):
+                    self._made(step)
+            self.note(step)
+            if not step.is_refused and step.word in CHANGING:
+                self.taken.append(step.text)
             self.changed()
             return step
 
-    def run_order(self) -> list[Step]:
-        """No order is taken by hand. Raises ValueError."""
-        raise ValueError(BY_THEMSELVES)
-
-    def _tell(self, line: str) -> Step:
+    def _tell(self, line: str, number: int = 0) -> Step:
         """Asks one line."""
         try:
             answer = self._talk.tell(line)
         except MemoryError as error:
             raise ValueError(str(error)) from error
         assert answer is not None
-        step = step_of(answer)
-        if step.word == "input" and is_edit(step):
-            self.given.add(line.split(" ")[1])
-        return step
+        return step_of(answer, number)
 
-    def _still(self) -> Book:
-        """A snapshot to look at. Raises ValueError where there is no memory for one."""
-        try:
-            return self.book.still()
-        except MemoryError as error:
-            raise ValueError(str(error)) from error
+    def _made(self, step: Step) -> None:
+        """Notes an edit, and what it touches. No result is brought meanwhile."""
+        self._marks.append(len(self.taken))
+        self._undone.clear()
+        self._number += 1
+        self.edit_lines[self._number] = step.text
+        if step.word == "input":
+            self.ledger.give([step.text.split(" ")[1]], self.version + 1)
+        self._turned(step.text, self.background.history.done)
 
-    def _note(self, step: Step, still: Book | None) -> None:
-        """Notes what became of a command."""
-        self.told += 1
-        self.steps.append((self.told, step))
-        if step.is_refused or step.word not in CHANGING:
-            return
-        if still is not None:
-            self._marks.append(len(self.taken))
-            self._undone.clear()
-            self.edits += 1
-            self.edit_lines[self.edits] = step.text
-            before = self._see(still)
-            if step.word in OF_ROWS and any(row.status is Status.SETTLED for row in self.rows + before):
-                self.edit = Edit(step.text, touched_of(before, self.rows))
-        self.taken.append(step.text)
-
-    def _see(self, still: Book) -> tuple[Row, ...]:
-        """Lists the rows of a snapshot, and gives those that were listed before."""
-        before = self.rows
-        self._lister.peer, self._lister.listed_left = still, LISTED_A_STEP
-        self._lister.changed()
-        self.rows = self._lister.rows() or ()
-        if self.caret not in ("start", "end") and self.caret not in self.places():
-            self.caret = "end"
-        return before
+    def _turned(self, line: str, steps: Sequence[Kept]) -> None:
+        """The program is another: its rows are listed, and what was there before stays to be compared with."""
+        self.edits, self.line = self.edits + 1, line
+        self._before = self.book.beside(steps[-1].held) if steps else None
+        self.see_rows()
 
     def load(self, lines: Sequence[str]) -> list[Step]:
         """Hands over a whole script. Gives the steps that were refused. Its edits can't be taken back.
@@ -185,22 +149,23 @@ class RunningSession(Session):
                     told.at(line_of(number, len(lines)))
                     if is_comment(line) or (line == "settle" and not is_by_hand):
                         self.taken.append(line)
-                    elif (step := self._load(line)).is_refused:
+                    elif (step := self._load(line, number)).is_refused:
                         refused.append(step)
             self._marks.clear()
-            self._see(self._still())
+            self.see_rows()
             self.go_on()
         return refused
 
-    def _load(self, line: str) -> Step:
+    def _load(self, line: str, number: int) -> Step:
         """Hands over a line of a script."""
-        step = self._tell(line)
-        self.told += 1
+        step = self._tell(line, number)
         if is_edit(step):
-            self.edits += 1
-            self.edit_lines[self.edits] = line
+            self._number += 1
+            self.edit_lines[self._number] = line
+            if step.word == "input":
+                self.ledger.give([line.split(" ")[1]], self.version + 1)
         if step.is_refused:
-            self.steps.append((self.told, step))
+            self.note(step)
         elif step.word in CHANGING:
             self.taken.append(line)
         return step
@@ -219,15 +184,13 @@ class RunningSession(Session):
 
     def undo(self) -> None:
         """Takes the last edit back. Raises ValueError where there is none."""
-        with self.lock:
-            self._go(True)
-            self._moved()
+        with self.lock, self.book.lock:
+            self._moved("undo", self._go(True))
 
     def redo(self) -> None:
         """Makes the edit again that was taken back last. Raises ValueError where there is none."""
-        with self.lock:
-            self._go(False)
-            self._moved()
+        with self.lock, self.book.lock:
+            self._moved("redo", self._go(False))
 
     def go_to(self, place: int) -> None:
         """Takes back or makes again as many edits as lead to a place of the history: so many edits from its start."""
@@ -237,16 +200,16 @@ class RunningSession(Session):
             if place > len(history.done) + len(history.undone):
                 raise ValueError("the history has no such place")
             while len(history.done) != place:
-                self._go(len(history.done) > place)
-            self._moved()
+                is_back = len(history.done) > place
+                self._moved("undo" if is_back else "redo", self._go(is_back))
 
-    def _go(self, is_back: bool) -> None:
-        """One step of the history."""
+    def _go(self, is_back: bool) -> str:
+        """One step of the history. Gives the edit's line."""
         try:
             line = self.background.undo() if is_back else self.background.redo()
         except IndexError as error:
             raise ValueError(str(error)) from error
-        self.edits += -1 if is_back else 1
+        self._number += -1 if is_back else 1
         if is_back:
             mark = self._marks.pop()
             self._undone.append(self.taken[mark:])
@@ -254,61 +217,100 @@ class RunningSession(Session):
         else:
             self._marks.append(len(self.taken))
             self.taken += self._undone.pop()
-            self.edit_lines[self.edits] = line
+            self.edit_lines[self._number] = line
+        return line
 
-    def _moved(self) -> None:
-        """Another session has come in the place of the present one: what was seen of editions is of others."""
-        self.epoch += 1
-        self.edit = None
-        self._see(self.book.still())
+    def _moved(self, word: str, line: str) -> None:
+        """Another session has come in the place of the present one. Each one on the way is listed, since editions come
+        again: rows that are listed as before are the same only in two that follow each other."""
+        history = self.background.history
+        if line.startswith("input "):
+            self.ledger.keep_given(given_in(self.taken), {line.split(" ", 2)[1]}, self.version + 1)
+        elif line.startswith(("set ", "field ")):
+            self.ledger.declared = self.version + 1
+        self._turned(f"{word}: {line}", history.undone if word == "undo" else history.done)
         self.changed()
+
+    # What tabs are told.
 
     def _gather(self, background: Background) -> None:
         """Tells the tabs of results, some times a second."""
         book, seen = background.book, (0, 0, 0, False)
         while not self._closed and book.is_open:
             with book.lock:
-                while (now := state_of(background)) == seen and not (self._is_told or self._closed) and book.is_open:
+                while (now := state_of(background)) == seen and not self._closed and book.is_open:
                     book.news.wait(1.0)
-                seen, self._is_told = now, False
+                seen = now
                 came = [background.crew.news.popleft() for _ in range(len(background.crew.news))]
             with self.lock:
                 self.thrown.extend(each for each in came if each.word is not Word.KEPT)
-            self.changed()
+                if book.is_open and not self.refresh():
+                    self.changed()
             time.sleep(EVERY)
 
-    def tell_later(self) -> None:
-        """Has the tabs told of what their last draw left, as of a result."""
+    def refresh(self) -> bool:
         with self.book.lock:
-            self._is_told = True
-            self.book.news.notify_all()
+            if not self.book.is_open or (now := state_of(self.background)) == self._seen:
+                return False
+            self._seen = now
+            is_other = self.ledger.turn(self.book.unsettled(), self.version + 1)
+            is_other = self.see_faults() or is_other
+        if is_other:
+            self.changed()
+        return is_other
+
+    def wait_for_small(self) -> None:
+        until = time.monotonic() + AT_ONCE
+        with self.book.lock:
+            while self.book.is_open and self.background.crew.is_on and self.book.unsettled_count():
+                left = until - time.monotonic()
+                if left <= 0:
+                    break
+                self.book.news.wait(left)
+
+    def extra(self) -> News:
+        crew, history = self.background.crew, self.background.history
+        done, undone = history.done, history.undone
+        thrown = [f"A late result of row {each.row} was thrown away: {WHY[each.word]}." for each in self.thrown]
+        return {
+            "on": crew.is_on,
+            "out": crew.running,
+            "failure": "" if crew.trouble is None else str(crew.trouble),
+            "undo": shortened(done[-1].line) if done else "",
+            "redo": shortened(undone[-1].line) if undone else "",
+            "at": len(done),
+            "of": len(done) + len(undone),
+            "dropped": bytes_text(history.most_bytes) if history.has_dropped else "",
+            "thrown": thrown[::-1],
+            "editor": "" if self.is_shared else self.editor,
+        }
+
+    def since(self, row: int) -> str:
+        """The edit that touched a row last."""
+        with self.lock:
+            known = self.ledger.rows.get(row)
+            return "" if known is None else self.edit_lines.get(known.edition, "")
 
     def restart(self) -> None:
-        """There is no program that could end. Raises ValueError."""
         raise ValueError(BY_THEMSELVES)
 
-    def close(self) -> None:
-        """Ends the work, and wakes all who wait."""
-        self._closed = True
-        with self._news:
-            self._news.notify_all()
+    def _end(self) -> None:
         self.background.close()
 
-    @contextmanager
-    def _telling(self, where: str) -> Iterator[Progress]:
-        """Says on a terminal what is being done, while it is done."""
-        with progress(self._is_quiet) as told:
-            yield told
 
-
-def step_of(answer: Answer) -> Step:
+def step_of(answer: Answer, number: int = 0) -> Step:
     """A command with its reply."""
-    return Step(0, answer.line, answer.lines, answer.reply, explanation=answer.explanation)
+    return Step(answer.line, answer.lines, answer.reply, answer.explanation, number)
 
 
 def is_edit(step: Step) -> bool:
     """Whether a command is an edit, and was accepted."""
     return step.word in EDITS and not step.is_refused
+
+
+def given_in(lines: Sequence[str]) -> list[str]:
+    """The keys whose input data accepted lines give, each once."""
+    return list(dict.fromkeys(line.split(" ", 2)[1] for line in lines if line.startswith("input ")))
 
 
 def state_of(background: Background) -> tuple[int, int, int, bool]:

@@ -1,4 +1,4 @@
-"""Serves a session on the loopback address: one page, its news, and what is asked of it. No files.
+"""Serves a session on the loopback address: one page, its news, and what is asked of it. No files but the page's own.
 
 A request is refused where it doesn't name this host, where it comes from another page, or where the token isn't in
 its address. A body above the limit isn't read.
@@ -6,6 +6,7 @@ its address. A body above the limit isn't read.
 
 from __future__ import annotations
 
+import gzip
 import io
 import json
 import secrets
@@ -16,15 +17,15 @@ from http.server import BaseHTTPRequestHandler
 from typing import Any
 from urllib.parse import parse_qs, urlsplit
 
-from pevudlo.live.connections import ANSWER_SECONDS, LimitedServer, TimelyReader
 from pevudlo.files import why
-from pevudlo.live.document import live_document
+from pevudlo.client.files import KINDS, POLICY, client_file
+from pevudlo.live.connections import ANSWER_SECONDS, LimitedServer, TimelyReader
 from pevudlo.live.followed import FollowedSession, OtherText
+from pevudlo.client.news import News, grammar, other_row, refusal, trouble
 from pevudlo.live.running import OtherTab, RunningSession
-from pevudlo.live.running_view import RunningView
-from pevudlo.live.session import OtherRow, Session, Stopped
-from pevudlo.live.view import View, other_row, told
-from pevudlo.record.recorder import LOOKS
+from pevudlo.live.session import MOST_LOOKS, Look, OtherRow, Session, Step, Stopped
+from pevudlo.talk import LOOKS
+from pevudlo.wire.pipe import Ended
 
 HOST = "127.0.0.1"
 MOST_BYTES = 65_536 + 1_024
@@ -33,6 +34,9 @@ MOST_BYTES = 65_536 + 1_024
 MOST_LISTENERS = 32
 HEARTBEAT = 10.0
 """Seconds between two signs of life to a tab that waits for news."""
+
+LEAST_PACKED = 4_096
+"""A text of so many bytes is packed for who takes it so."""
 
 
 def is_number(word: str) -> bool:
@@ -58,7 +62,7 @@ def type_text(session: FollowedSession, asked: dict[str, str]) -> dict[str, obje
 RUNNING = ("go", "stop", "undo", "redo", "history")
 """What can be done with rows that run by themselves."""
 
-OTHER_TAB = '<p class="other">Another tab edits, and this one looks. <button data-act="pen">Edit here</button></p>'
+OTHER_TAB = "Another tab edits, and this one looks."
 
 
 def run_by_itself(session: RunningSession, name: str, asked: dict[str, str]) -> dict[str, object] | None:
@@ -66,13 +70,14 @@ def run_by_itself(session: RunningSession, name: str, asked: dict[str, str]) -> 
 
     Raises KeyError and ValueError where nobody can do it.
     """
+    refused: dict[str, object] = {"pen": True, **trouble(OTHER_TAB)}
     if name == "pen":
         session.take_pen(asked["tab"])
     elif name in RUNNING or (name == "command" and asked["line"].split(" ")[0] not in LOOKS):
         try:
             session.check_tab(asked.get("tab", ""))
         except OtherTab:
-            return {"reply": [], "refused": OTHER_TAB}
+            return {"reply": [], "refused": refused}
         if name == "command":
             return None
         if name == "history":
@@ -83,7 +88,24 @@ def run_by_itself(session: RunningSession, name: str, asked: dict[str, str]) -> 
             {"go": session.go_on, "stop": session.stop, "undo": session.undo, "redo": session.redo}[name]()
     else:
         return None
-    return {"reply": [], "refused": ""}
+    return {"reply": [], "refused": None}
+
+
+def answer_of(step: Step) -> dict[str, object]:
+    """What is answered to a command."""
+    refused = None if step.explanation is None else refusal(step.explanation, step.lines[0])
+    return {"reply": list(step.lines[:1]), "refused": refused}
+
+
+def looks_in(text: str) -> list[Look]:
+    """The values that are asked for, one a line: a key, a row, 1 for it summed up, and which. Raises ValueError."""
+    looks = list[Look]()
+    for line in text.split("\n")[:MOST_LOOKS] if text else ():
+        words = line.split(" ")
+        if len(words) != 4 or not all(map(is_number, words[1:])):
+            raise ValueError("a value is asked for by a key and three numbers")
+        looks.append(Look(words[0], int(words[1]), words[2] == "1", int(words[3])))
+    return looks
 
 
 class Unwelcome(Exception):
@@ -100,7 +122,6 @@ class Server(LimitedServer):
     def __init__(self, session: Session, title: str, port: int = 0) -> None:
         super().__init__((HOST, port), Handler)
         self.session = session
-        self.view = RunningView(session) if isinstance(session, RunningSession) else View(session)
         self.title = title
         self.token = secrets.token_urlsafe(24)
         self.listeners = 0
@@ -115,6 +136,14 @@ class Server(LimitedServer):
     def address(self) -> str:
         """The page's address."""
         return f"{self.origin}/{self.token}/"
+
+    def state(self, seen: int) -> News:
+        """What a tab that has seen a version wants to know. One that has seen none is told what stays, too."""
+        session = self.session
+        if seen:
+            return session.state(seen)
+        hello: News = {"hello": self.title, "grammar": grammar(), "followed": isinstance(session, FollowedSession)}
+        return hello | session.state(0)
 
     def handle_error(self, request: Any, client_address: Any) -> None:
         """Says what went wrong on standard error; a tab that goes while it is answered is no error."""
@@ -153,32 +182,39 @@ class Handler(BaseHTTPRequestHandler):
             self._get(self._allowed(False))
         except Unwelcome as error:
             self._refuse(error.status)
+        except Ended as error:
+            self._send_json({"stopped": str(error)}, HTTPStatus.CONFLICT)
 
     def do_POST(self) -> None:
-        """A command, an order, a place for the caret, or a new start."""
+        """A command, values, a step of the history, or a new start."""
         try:
             name, body = self._allowed(True), self._body()
+            if name == "looks":
+                self._send_looks(body)
+                return
             answer = self._act(name, body)
             if "seen" in body:
-                answer["state"] = self.server.view.since(int(body["seen"]) if is_number(body["seen"]) else 0)
+                self.server.session.wait_for_small()
+                answer["state"] = self.server.state(int(body["seen"]) if is_number(body["seen"]) else 0)
             self._send_json(answer)
         except Unwelcome as error:
             self._refuse(error.status)
-        except Stopped as error:
+        except (Stopped, Ended) as error:
             self._send_json({"stopped": str(error)}, HTTPStatus.CONFLICT)
-        except (KeyError, ValueError) as error:
+        except (KeyError, ValueError, MemoryError) as error:
             self._send_json({"wrong": str(error)}, HTTPStatus.BAD_REQUEST)
 
     def _get(self, name: str) -> None:
         """Answers with what has this name."""
         session = self.server.session
-        if name == "":
-            page = live_document(self.server.title, isinstance(session, FollowedSession))
-            self._send(HTTPStatus.OK, page.encode("utf-8"), "text/html; charset=utf-8")
+        if (data := client_file(name, isinstance(session, FollowedSession))) is not None:
+            self._send(HTTPStatus.OK, data, KINDS[name.rpartition(".")[2]])
         elif name == "news":
             self._news()
         elif name == "state":
-            self._send_json(self.server.view.since(self._asked("seen")))
+            self._send_json(self.server.state(self._asked("seen")))
+        elif name == "since" and isinstance(session, RunningSession):
+            self._send_json({"line": session.since(self._asked("row"))})
         elif name == "script":
             self._send(HTTPStatus.OK, session.script().encode("utf-8", "surrogateescape"), "text/plain; charset=utf-8")
         elif name == "text" and isinstance(session, FollowedSession):
@@ -199,23 +235,19 @@ class Handler(BaseHTTPRequestHandler):
                 return done
         if name == "command":
             try:
-                step = session.run(asked["line"], asked.get("was"))
+                return answer_of(session.run(asked["line"], asked.get("was")))
             except OtherRow as error:
-                return {"reply": [], "refused": other_row(error), "text": error.text}
+                told = other_row(error.row, error.text, error.mine)
+                return {"reply": [], "refused": told, "text": error.text}
             except OSError as error:
                 raise ValueError(f"can't write the file: {why(error)}") from error
-            return {"reply": list(step.lines[:1]), "refused": told(step) if step.is_refused else ""}
-        if name == "order":
-            return {"reply": [step.lines[0] for step in session.run_order()], "refused": ""}
-        if name == "caret":
-            session.move(asked["place"])
-        elif name == "restart":
+        if name == "restart":
             session.restart()
         elif name == "text" and isinstance(session, FollowedSession):
             return type_text(session, asked)
         else:
             raise ValueError("nothing is done at this address")
-        return {"reply": [], "refused": ""}
+        return {"reply": [], "refused": None}
 
     def _allowed(self, is_post: bool) -> str:
         """The part of the address behind the token. Raises Unwelcome where the request may not be answered."""
@@ -280,15 +312,26 @@ class Handler(BaseHTTPRequestHandler):
         finally:
             server.listeners -= 1
 
+    def _send_looks(self, asked: dict[str, str]) -> None:
+        """Answers with values. Raises KeyError and ValueError."""
+        seen, edits = (int(asked[name]) if is_number(asked[name]) else 0 for name in ("seen", "edits"))
+        pieces = self.server.session.looks(looks_in(asked["looks"]), seen, edits)
+        self._send(HTTPStatus.OK, b"".join(pieces), "application/octet-stream")
+
     def _send_json(self, value: dict[str, object], status: HTTPStatus = HTTPStatus.OK) -> None:
         """Answers with JSON."""
-        self._send(status, json.dumps(value).encode("ascii"), "application/json")
+        self._send(status, json.dumps(value, separators=(",", ":")).encode("ascii"), "application/json")
 
     def _send(self, status: HTTPStatus, data: bytes, kind: str) -> None:
-        """Answers, and keeps the connection."""
+        """Answers, and keeps the connection. Long texts are packed for who takes them so."""
         self.connection.settimeout(ANSWER_SECONDS)
+        is_text = kind != "application/octet-stream" and len(data) >= LEAST_PACKED
+        is_packed = is_text and "gzip" in self.headers.get("Accept-Encoding", "")
+        data = gzip.compress(data, 1, mtime=0) if is_packed else data
         self.send_response(status)
         self._say_rules(kind)
+        if is_packed:
+            self.send_header("Content-Encoding", "gzip")
         self.send_header("Content-Length", str(len(data)))
         self.end_headers()
         self.wfile.write(data)
@@ -298,6 +341,7 @@ class Handler(BaseHTTPRequestHandler):
         for name, value in (
             ("Content-Type", kind),
             ("Cache-Control", "no-store"),
+            ("Content-Security-Policy", POLICY),
             ("X-Content-Type-Options", "nosniff"),
             ("X-Frame-Options", "DENY"),
             ("Referrer-Policy", "no-referrer"),

@@ -1,36 +1,40 @@
-"""A program that is edited by hand: the child, the commands that it took, the caret, and who waits for news.
+"""A program that is edited on a page: its rows as tabs know them, the commands that it took, and who waits for news.
 
-All tabs see one session. Every call is safe from any thread: one command runs at a time.
+All tabs see one session. Every call is safe from any thread: one edit is made at a time, and what a tab is told is of
+one moment.
 """
 
 from __future__ import annotations
 
-import os
 import threading
 import time
 from collections import deque
 from collections.abc import Iterator, Sequence
 from contextlib import contextmanager
+from dataclasses import dataclass
+from math import prod
 from pathlib import Path
 
-from pevudlo.draw.visible import visible
-from pevudlo.hints.meanings import Where
+from pevudlo.hints.explanation import Explanation
 from pevudlo.lang.board import Board
-from pevudlo.lang.replies import OrderTaken
-from pevudlo.live.pace import Unhurried
-from pevudlo.live.seen import Seen
-from pevudlo.progress import PROGRESS, Progress, line_of, progress
-from pevudlo.record.looks import Look, Looker
-from pevudlo.record.recorder import Recorder, Step
-from pevudlo.wire.peers import Peer
-from pevudlo.wire.pipe import Pipe, PipeError, is_comment
+from pevudlo.lang.causes import causes
+from pevudlo.lang.keys import axes_of, width_of
+from pevudlo.lang.profiles import WORD
+from pevudlo.lang.replies import Faults, Refused, Reply, Row, parse
+from pevudlo.client import pieces
+from pevudlo.client.ledger import Ledger
+from pevudlo.client.news import News, said, shortened
+from pevudlo.progress import Progress, progress
+from pevudlo.record.looks import Looker
+from pevudlo.talk import Talk
+from pevudlo.wire.book import Book
+from pevudlo.wire.pipe import is_comment
 
-NUMBERS_A_STEP = 150_000
-"""How many numbers are looked at behind one command."""
-
-LISTED_A_STEP = 1_000_000
 KEPT_STEPS = 60
 """How many commands are shown with their replies."""
+
+MOST_LOOKS = 512
+"""So many values are given at once."""
 
 CHANGING = ("paris", "set", "field", "input", "insert", "delete", "replace", "take", "bring", "release", "settle")
 
@@ -52,53 +56,91 @@ class Stopped(Exception):
     """The program has ended. It can be started again."""
 
 
-class Session:
-    """One program and what is known of it. `version` rises with each change.
+@dataclass(frozen=True)
+class Step:
+    """A command, the lines of its reply, the reply that they are, and why it was refused where it was.
 
-    `number` counts the texts of a file that is followed, and is 0 without one.
+    `number` is that of its line, where it is of a script.
     """
 
-    def __init__(self, program: Path, workers: int = 2, is_quiet: bool = True) -> None:
+    text: str
+    lines: tuple[str, ...]
+    reply: Reply
+    explanation: Explanation | None = None
+    number: int = 0
+
+    @property
+    def word(self) -> str:
+        """The first word of the command."""
+        return self.text.split(" ")[0]
+
+    @property
+    def is_refused(self) -> bool:
+        """Whether the reply is a refusal."""
+        return isinstance(self.reply, Refused)
+
+
+@dataclass(frozen=True)
+class Look:
+    """A value that a tab wants: what a row left of a key, row 0 being the start. `is_strip` has it summed up.
+
+    `which` is NOW, BEFORE for what it was before the last edit, or COMPARED for what it is now with what has changed.
+    """
+
+    key: str
+    row: int
+    is_strip: bool
+    which: int
+
+
+NOW, BEFORE, COMPARED = range(3)
+
+
+class Session:
+    """One program and what is known of it. `version` rises with each change, and `edits` with each edit.
+
+    `number` counts the texts of a file that is followed, and is 0 without one. `line` is the last edit.
+    """
+
+    def __init__(self, library: Path, workers: int = 2, is_quiet: bool = True) -> None:
         """`is_quiet` says that a terminal isn't told how far a command is."""
         self.lock = threading.RLock()
         self.version = 1
-        self.number = 0
-        self.trouble = ""
-        self.caret = "end"
+        self.number = self.edits = 0
+        self.trouble = self.line = ""
         self.taken: list[str] = []
         self.steps: deque[tuple[int, Step]] = deque(maxlen=KEPT_STEPS)
         self.told = 0
-        self._program, self._workers, self._is_quiet = program, workers, is_quiet
+        self.rows: tuple[Row, ...] = ()
+        self.ledger = Ledger()
+        self._library, self._workers, self._is_quiet = library, workers, is_quiet
         self._news = threading.Condition()
-        self._closed = False
+        self._closed, self._faults_seen = False, 0
         self._begin()
 
     @property
     def board(self) -> Board:
         """What is declared."""
-        return self._recorder.board
+        return self._talk.board
 
     @property
-    def process(self) -> int:
-        """The child's process id. Raises AttributeError over the library, which has no child."""
-        if not isinstance(self._peer, Pipe):
-            raise AttributeError("a session over the library has no child process")
-        return self._peer.process
+    def book(self) -> Book:
+        """The session of the library whose rows these are."""
+        raise NotImplementedError
+
+    @property
+    def before(self) -> Book | None:
+        """The program before the last edit, where it is kept."""
+        return None
+
+    # What is done.
 
     def run(self, line: str, was: str | None = None) -> Step:
-        """Hands one command to the program. `was` is the instruction that its row had for who wrote the command.
+        """Hands one command to the library. `was` is the instruction that its row had for who wrote the command.
 
-        Raises Stopped where the program has ended, ValueError for no command, and OtherRow where the row is another.
+        Raises ValueError for no command, Stopped where the program has ended, and OtherRow where the row is another.
         """
-        if is_comment(line) or "\n" in line:
-            raise ValueError("one command is wanted")
-        with self.lock:
-            self._check_row(line, was)
-            with self._telling(line if len(line) <= 40 else line[:37] + "..."):
-                step = self._step(line, LISTED_A_STEP)
-            self._see_rows()
-            self.changed()
-            return step
+        raise NotImplementedError
 
     def _check_row(self, line: str, was: str | None) -> None:
         """Raises OtherRow where the row of a command isn't what it was for who wrote it."""
@@ -114,66 +156,16 @@ class Session:
         """How many commands the program took."""
         return sum(not is_comment(line) for line in self.taken)
 
-    def run_order(self) -> list[Step]:
-        """Takes an order and brings its result. The second step is missing where no row is ready."""
-        with self.lock:
-            first = self.run("take")
-            if not isinstance(first.reply, OrderTaken):
-                return [first]
-            return [first, self.run(f"bring {first.reply.order}")]
-
-    def load(self, lines: Sequence[str]) -> list[Step]:
-        """Hands over a whole script. Gives the steps that were refused. Raises Stopped where the program ends."""
-        with self.lock, self._telling("") as told:
-            self._recorder.looker.listed_left = LISTED_A_STEP
-            refused = []
-            for number, line in enumerate(lines, 1):
-                told.at(line_of(number, len(lines)))
-                if is_comment(line):
-                    self.taken.append(line)
-                elif (step := self._step(line)).is_refused:
-                    refused.append(step)
-            self._see_rows()
-            self.changed()
-            return refused
-
     def script(self) -> str:
         """The accepted commands as a script."""
         with self.lock:
             return "".join(f"{line}\n" for line in self.taken)
 
-    def move(self, place: str) -> None:
-        """Moves the caret. Raises ValueError where there is no such place."""
-        with self.lock:
-            if place not in self.places():
-                raise ValueError("the program has no such place")
-            self.caret = place
-            self.changed()
-
-    def keys(self) -> tuple[list[Look], list[Look]]:
-        """Every key at the start, and every key at the caret. Raises Stopped where the program has ended."""
-        with self.lock:
-            if self.trouble:
-                raise Stopped(self.trouble)
-            try:
-                return self.seen.starts(), self.seen.looks(self.caret, Unhurried())
-            except PipeError as error:
-                raise self._stopped(error) from error
-
     def restart(self) -> None:
-        """Starts the program again, and hands it the commands that it took."""
-        with self.lock:
-            self._end()
-            lines, caret = self.taken, self.caret
-            self._forget()
-            self._begin()
-            self.load(lines)
-            self.caret = caret if caret in self.places() else "end"
-            self.changed()
+        """Starts the program again. Raises ValueError where there is none that could end."""
+        raise NotImplementedError
 
-    def places(self) -> set[str]:
-        """The places where the caret may stand."""
-        return {"start", "end"} | {f"after {row.row}" for row in self.seen.rows}
+    # What tabs are told.
 
     def changed(self) -> None:
         """Tells all who wait that there is something new."""
@@ -192,96 +184,124 @@ class Session:
                 self._news.wait(left)
             return self.version
 
+    def refresh(self) -> bool:
+        """Sees which rows are settled by now. Whether some others were before. The lock is held."""
+        return False
+
+    def wait_for_small(self) -> None:
+        """Gives rows that are done at once their time, so that what they left is told with the edit."""
+
+    def extra(self) -> dict[str, object]:
+        """What is told of this kind of session beside its rows."""
+        return {}
+
+    def see_rows(self) -> None:
+        """Lists the rows, for who is told of them. The lock is held, and `changed` is called behind it."""
+        self._lister.changed()
+        self.rows = self._lister.rows()
+        self.ledger.see(self.rows, self.version + 1)
+        self.see_faults()
+
+    def see_faults(self) -> bool:
+        """Sees which rows are refused for their data. Whether they were others before."""
+        reply = parse(self.book.ask("faults"))
+        found = reply.faults if isinstance(reply, Faults) else ()
+        known, ledger = set(self.ledger.faults), self.ledger
+        others = tuple(fault for fault in found if fault not in known or self._is_touched(fault.row))
+        self._faults_seen = self.version + 1
+        if not others and len(found) == len(known):
+            return False
+        words = ledger.causes | causes(others, self.board, self._talk.look)
+        return ledger.refuse(found, {fault.row: words[fault.row] for fault in found}, self.version + 1)
+
+    def _is_touched(self, row: int) -> bool:
+        """Whether a row was touched since faults were looked at last."""
+        known = self.ledger.rows.get(row)
+        return known is None or known.touched > self._faults_seen
+
+    def looks(self, wanted: Sequence[Look], seen: int, edits: int) -> Iterator[bytes]:
+        """Values, for a tab that has seen a version behind so many edits. Edits come between two of them."""
+        for look in wanted[:MOST_LOOKS]:
+            with self.lock:
+                found = self._look(look, seen, edits)
+            yield pieces.empty(found) if isinstance(found, pieces.Kind) else pieces.packed(*found)
+
+    def _look(
+        self, look: Look, seen: int, edits: int
+    ) -> tuple[Sequence[int], int, bool, Sequence[int] | None] | pieces.Kind:
+        """One value, or why there is none. The lock is held."""
+        if self.board.axes_of(look.key) is None or (look.row and look.row not in self.ledger.rows):
+            return pieces.Kind.NONE
+        width, before = width_of(self.board, look.key), self.before if edits == self.edits else None
+        if look.which == BEFORE:
+            was = None if before is None else self._numbers(before, look)
+            return pieces.Kind.NONE if was is None or isinstance(was, int) else (was, width, look.is_strip, None)
+        if not self.ledger.is_current(look.key, look.row, seen):
+            return pieces.Kind.OTHER
+        now = self._numbers(self.book, look)
+        if now is None or isinstance(now, int):
+            return pieces.Kind.NONE if now is None else pieces.Kind.PENDING
+        was = self._numbers(before, look) if before is not None and look.which == COMPARED else None
+        return now, width, look.is_strip, None if isinstance(was, int) else was
+
+    def _numbers(self, book: Book, look: Look) -> Sequence[int] | int | None:
+        """What a row left of a key, the row that it waits for, or None where there is nothing."""
+        count, is_wide = prod(axes_of(self.board, look.key)), width_of(self.board, look.key) > WORD
+        return book.look(look.key, look.row, count, is_wide)
+
+    def state(self, seen: int) -> News:
+        """What a tab that has seen a version wants to know: 0 is none."""
+        with self.lock:
+            if not self.trouble:
+                self.refresh()
+            news: News = {"since": seen, "version": self.version, "edits": self.edits, "line": shortened(self.line)}
+            news |= self.ledger.since(seen) | self.extra()
+            if self.ledger.declared > seen or not seen:
+                board = self.board
+                news["sets"] = {name: list(axes) for name, axes in board.sets.items()}
+                news["fields"] = [[name, field.set, field.width] for name, field in board.fields.items()]
+            news["log"] = [
+                said(step.number, step.text, step.lines, step.explanation)
+                for version, step in self.steps
+                if version > seen
+            ]
+            return news | {"trouble": self.trouble, "text": self.number}
+
+    def note(self, step: Step) -> None:
+        """Notes a command for the log of the page. The lock is held, and `changed` is called behind it."""
+        self.told += 1
+        self.steps.append((self.version + 1, step))
+        if step.word in ("set", "field", "paris"):
+            self.ledger.declared = self.version + 1
+
     @property
     def is_closed(self) -> bool:
         """Whether the session is over."""
         return self._closed
 
     def close(self) -> None:
-        """Ends the program and wakes all who wait."""
+        """Ends the work, and wakes all who wait."""
         self._closed = True
         with self._news:
             self._news.notify_all()
-        if isinstance(self._peer, Pipe):
-            self._peer.kill()
         self._end()
 
     @contextmanager
     def _telling(self, where: str) -> Iterator[Progress]:
         """Says on a terminal what is being done, while it is done."""
-        looker = self._recorder.looker
-        with progress(self._is_quiet) as looker.told:
-            looker.told.at(visible(where))
-            try:
-                yield looker.told
-            finally:
-                looker.told = PROGRESS
+        with progress(self._is_quiet) as told:
+            told.at(where)
+            yield told
 
-    def _forget(self) -> None:
-        """What was known of a program that has ended."""
-        self.taken, self.trouble = [], ""
-        self.steps.clear()
+    # What runs the rows.
 
     def _begin(self) -> None:
-        """Begins the program, and where it is a child a thread that notices its end."""
-        peer = self._peer = self._begun()
-        self._recorder = Recorder(peer, Looker(peer, Board()), Where.LIVE)
-        self.seen = Seen(self._recorder)
-        if isinstance(peer, Pipe):
-            threading.Thread(target=self._watch, args=(peer,), daemon=True).start()
-
-    def _begun(self) -> Peer:
-        """What runs the rows, with nothing declared."""
-        return Pipe(self._program, self._workers)
+        """Begins a program with nothing declared."""
+        raise NotImplementedError
 
     def _end(self) -> None:
         """Ends what runs the rows."""
-        self._peer.close()
+        raise NotImplementedError
 
-    def _watch(self, pipe: Pipe) -> None:
-        """Waits for the end of a child, and says so where nobody wanted it."""
-        try:
-            os.waitid(os.P_PID, pipe.process, os.WEXITED | os.WNOWAIT)
-        except ChildProcessError:
-            return
-        with self.lock:
-            if pipe is self._peer and not self._closed and not self.trouble:
-                try:
-                    pipe.ask("list")
-                except PipeError as error:
-                    self._stopped(error)
-
-    def _stopped(self, error: PipeError) -> Stopped:
-        """Notes that the program has ended."""
-        if not self._closed and not self.trouble:
-            self.trouble = str(error)
-            self.changed()
-        return Stopped(str(error))
-
-    def _step(self, line: str, listed: int | None = None) -> Step:
-        """One command. `listed` is how many lines of lists it may ask for, where it isn't what is left."""
-        if self.trouble:
-            raise Stopped(self.trouble)
-        looker = self._recorder.looker
-        looker.numbers_left = NUMBERS_A_STEP
-        looker.listed_left = looker.listed_left if listed is None else listed
-        try:
-            step = self._recorder.step(line)
-            self.seen.note(step)
-        except PipeError as error:
-            raise self._stopped(error) from error
-        self.told += 1
-        self.steps.append((self.told, step))
-        if not step.is_refused and step.word in CHANGING:
-            self.taken.append(line)
-        return step
-
-    def _see_rows(self) -> None:
-        """The rows as they are."""
-        self._recorder.looker.listed_left = LISTED_A_STEP
-        try:
-            self.seen.see_rows()
-        except PipeError as error:
-            raise self._stopped(error) from error
-        if self.caret not in ("start", "end") and self.caret not in self.places():
-            self.caret = "end"
+    _talk: Talk
+    _lister: Looker

@@ -17,7 +17,7 @@ from pevudlo.lang.instructions import INSTRUCTIONS, read
 from pevudlo.lang.keys import axes_of, context_of, width_of
 from pevudlo.lsp.opened import Opened
 from pevudlo.lsp.spots import Place, name_at, place_of
-from pevudlo.record.earlier import Numbers
+from pevudlo.record.numbers import Numbers
 from pevudlo.reference.entry import Entry
 from pevudlo.reference.table import find
 from pevudlo.reference.text import help_lines

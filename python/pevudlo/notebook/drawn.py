@@ -13,7 +13,7 @@ from pevudlo.document.update import Update
 from pevudlo.draw.grids import Grid, html_of, style, text_of
 from pevudlo.draw.visible import visible
 from pevudlo.lang.keys import axes_of, width_of
-from pevudlo.record.earlier import Numbers
+from pevudlo.record.numbers import Numbers
 
 STYLE = """.pv-piece { border-collapse: collapse }
 .pv-piece caption { text-align: left; padding: 2px 8px; opacity: .7; white-space: nowrap }

@@ -12,9 +12,9 @@ from pevudlo.arguments import Arguments, add_quiet, output_name
 from pevudlo.draw.grids import MOST_CELLS
 from pevudlo.draw.visible import visible
 from pevudlo.files import lines_in, read_lines, why
+from pevudlo.page.moments import MOST_NUMBERS, PICTURE_COUNTS
 from pevudlo.page.page import page_of
 from pevudlo.progress import progress
-from pevudlo.record.looks import MOST_NUMBERS, PICTURE_COUNTS
 from pevudlo.wire.peers import peer_of
 from pevudlo.wire.pipe import PipeError
 from pevudlo.wire.program import NotFound

@@ -1,151 +1,144 @@
-"use strict";
-// The text of a file that is followed: what is typed goes into the file, and beside each visible line stands what it gives.
-(() => {
-  const base = location.pathname;
-  const at = (id) => document.getElementById(id);
-  const area = at("text");
-  const beside = at("beside");
-  // The text that the server has, by its number; the number that was heard of last; whether nothing is to be held.
-  let known = { number: 0, text: "" };
-  let heard = 0;
-  let isSaved = false;
+// The text of a file that is followed: what is typed goes into it, and beside each visible line stands what it gives.
+import { $ } from "./view.js";
 
-  // Where two texts differ: from a place on, up to an end in the first one, with what stands there in the second.
-  function differs(one, other) {
-    const shorter = Math.min(one.length, other.length);
-    let start = 0;
-    while (start < shorter && one[start] === other[start]) start++;
-    let end = 0;
-    while (end < shorter - start && one[one.length - 1 - end] === other[other.length - 1 - end]) end++;
-    return { start, end: one.length - end, text: other.slice(start, other.length - end) };
-  }
+const area = $("text");
+const beside = $("beside");
+// The text that the server has, by its number; the number that was heard of last; whether nothing is to be held.
+let known = { number: 0, text: "" };
+let heard = 0;
+let isSaved = false;
 
-  const put = (text, edit) => text.slice(0, edit.start) + edit.text + text.slice(edit.end);
+// Where two texts differ: from a place on, up to an end in the first one, with what stands there in the second.
+function differs(one, other) {
+  const shorter = Math.min(one.length, other.length);
+  let start = 0;
+  while (start < shorter && one[start] === other[start]) start++;
+  let end = 0;
+  while (end < shorter - start && one[one.length - 1 - end] === other[other.length - 1 - end]) end++;
+  return { start, end: one.length - end, text: other.slice(start, other.length - end) };
+}
 
-  // An edit of a text as one of another text, or null where both change the same part.
-  function moved(edit, from, to) {
-    const theirs = differs(from, to);
-    if (edit.end < theirs.start) return edit;
-    const by = to.length - from.length;
-    return edit.start > theirs.end ? { start: edit.start + by, end: edit.end + by, text: edit.text } : null;
-  }
+const put = (text, edit) => text.slice(0, edit.start) + edit.text + text.slice(edit.end);
 
-  // Puts another text into the area; the cursor stays where it was in it.
-  function show(text) {
-    if (area.value === text) return;
-    const edit = differs(area.value, text);
-    const by = text.length - area.value.length;
-    const place = (old) => (old <= edit.start ? old : Math.max(edit.start, old + by));
-    const [start, end, top] = [place(area.selectionStart), place(area.selectionEnd), area.scrollTop];
-    area.value = text;
-    area.setSelectionRange(start, end);
-    area.scrollTop = top;
-  }
+// An edit of a text as one of another text, or null where both change the same part.
+function moved(edit, from, to) {
+  const theirs = differs(from, to);
+  if (edit.end < theirs.start) return edit;
+  const by = to.length - from.length;
+  return edit.start > theirs.end ? { start: edit.start + by, end: edit.end + by, text: edit.text } : null;
+}
 
-  function say(words) { at("text-answer").textContent = words; }
+// Puts another text into the area; the cursor stays where it was in it.
+function show(text) {
+  if (area.value === text) return;
+  const edit = differs(area.value, text);
+  const by = text.length - area.value.length;
+  const place = (old) => (old <= edit.start ? old : Math.max(edit.start, old + by));
+  const [start, end, top] = [place(area.selectionStart), place(area.selectionEnd), area.scrollTop];
+  area.value = text;
+  area.setSelectionRange(start, end);
+  area.scrollTop = top;
+}
 
-  // Another text is there: what was typed since the known one goes into it, where that is another part.
-  function take(news) {
-    const mine = known.number && known.text !== area.value ? differs(known.text, area.value) : null;
-    const there = mine && moved(mine, known.text, news.text);
-    if (mine && !there) say("The file was changed in the same place, and what was typed isn't in it: " + mine.text);
-    known = news;
-    show(there ? put(news.text, there) : news.text);
-    area.readOnly = news.text.includes("\r");
-    if (area.readOnly) say("The file has carriage returns: it can't be edited here.");
-  }
+function say(words) { $("text-answer").textContent = words; }
 
-  async function get(name) {
-    const answer = await fetch(base + name, { cache: "no-store" });
-    return answer.json();
-  }
+// Another text is there: what was typed since the known one goes into it, where that is another part.
+function take(news) {
+  const mine = known.number && known.text !== area.value ? differs(known.text, area.value) : null;
+  const there = mine && moved(mine, known.text, news.text);
+  if (mine && !there) say("The file was changed in the same place, and what was typed isn't in it: " + mine.text);
+  known = news;
+  show(there ? put(news.text, there) : news.text);
+  area.readOnly = news.text.includes("\r");
+  if (area.readOnly) say("The file has carriage returns: it can't be edited here.");
+}
 
-  async function post(edit, hold) {
-    const body = { was: String(known.number), start: String(edit.start), end: String(edit.end), text: edit.text, hold };
-    const answer = await fetch(base + "text", {
-      method: "POST", headers: { "Content-Type": "application/json" }, body: JSON.stringify(body),
-    });
-    return answer.status === 413 ? { wrong: "That is too much at once: put it into the file elsewhere." } : answer.json();
-  }
+async function get(name) {
+  const answer = await fetch(name, { cache: "no-store" });
+  return answer.json();
+}
 
-  // Hands over what was typed. False where it can't be.
-  async function send() {
-    const typed = area.value;
-    const hold = isSaved ? "" : "yes";
-    isSaved = false;
-    const answer = await post(differs(known.text, typed), hold);
-    if (answer.other) { take(await get("text")); return true; }
-    say(answer.wrong || "");
-    if (answer.wrong) return false;
-    known = { number: answer.number, text: typed };
-    return true;
-  }
+async function post(edit, hold) {
+  const body = { was: String(known.number), start: String(edit.start), end: String(edit.end), text: edit.text, hold };
+  const answer = await fetch("text", {
+    method: "POST", headers: { "Content-Type": "application/json" }, body: JSON.stringify(body),
+  });
+  const isLong = answer.status === 413;
+  return isLong ? { wrong: "That is too much at once: put it into the file elsewhere." } : answer.json();
+}
 
-  // One thing after another, until what was typed is there and what is there is shown.
-  let isBusy = false;
-  async function settle() {
-    if (isBusy) return;
-    isBusy = true;
+// Hands over what was typed. False where it can't be.
+async function send() {
+  const typed = area.value;
+  const hold = isSaved ? "" : "yes";
+  isSaved = false;
+  const answer = await post(differs(known.text, typed), hold);
+  if (answer.other) { take(await get("text")); return true; }
+  say(answer.wrong || "");
+  if (answer.wrong) return false;
+  known = { number: answer.number, text: typed };
+  return true;
+}
+
+// One thing after another, until what was typed is there and what is there is shown.
+let isBusy = false;
+async function settle() {
+  if (isBusy) return;
+  isBusy = true;
+  try {
+    for (let goesOn = true; goesOn; ) {
+      if (heard > known.number) take(await get("text"));
+      else if (!area.readOnly && (isSaved || area.value !== known.text)) goesOn = await send();
+      else goesOn = false;
+    }
+  } catch { /* The page says that nobody answers. */ }
+  isBusy = false;
+  await drawLines();
+}
+
+// What the visible lines give.
+const height = () => parseFloat(getComputedStyle(area).lineHeight);
+const first = () => Math.floor(area.scrollTop / height());
+
+function placeLines() {
+  beside.firstElementChild.style.marginTop = beside.first * height() - area.scrollTop + "px";
+}
+
+let isDrawing = false;
+let isAgain = false;
+async function drawLines() {
+  isAgain = true;
+  if (isDrawing) return;
+  isDrawing = true;
+  while (isAgain) {
+    isAgain = false;
+    const from = first();
     try {
-      for (let goesOn = true; goesOn; ) {
-        if (heard > known.number) take(await get("text"));
-        else if (!area.readOnly && (isSaved || area.value !== known.text)) goesOn = await send();
-        else goesOn = false;
-      }
+      const news = await get(`lines?first=${from}&last=${from + Math.ceil(area.clientHeight / height())}`);
+      if (news.number === known.number) draw(from, news);
     } catch { /* The page says that nobody answers. */ }
-    isBusy = false;
-    await drawLines();
   }
+  isDrawing = false;
+}
 
-  // What the visible lines give.
-  const height = () => parseFloat(getComputedStyle(area).lineHeight);
-  const first = () => Math.floor(area.scrollTop / height());
-
-  function placeLines() {
-    beside.firstElementChild.style.marginTop = beside.first * height() - area.scrollTop + "px";
+function draw(from, news) {
+  const list = document.createElement("ol");
+  for (const [name, mark, text] of news.lines) {
+    const line = document.createElement("li");
+    line.dataset.state = name;
+    line.textContent = `${mark.trim()} ${text}`.trim();
+    line.title = text;
+    list.append(line);
   }
+  beside.first = from;
+  beside.replaceChildren(list);
+  placeLines();
+  $("ran").textContent = news.head;
+  document.body.dataset.text = news.number;
+}
 
-  let isDrawing = false;
-  let isAgain = false;
-  async function drawLines() {
-    isAgain = true;
-    if (isDrawing) return;
-    isDrawing = true;
-    while (isAgain) {
-      isAgain = false;
-      const from = first();
-      try {
-        const news = await get(`lines?first=${from}&last=${from + Math.ceil(area.clientHeight / height())}`);
-        if (news.number === known.number) draw(from, news);
-      } catch { /* The page says that nobody answers. */ }
-    }
-    isDrawing = false;
-  }
-
-  function draw(from, news) {
-    const list = document.createElement("ol");
-    for (const [name, mark, text] of news.lines) {
-      const line = document.createElement("li");
-      line.dataset.state = name;
-      line.textContent = `${mark.trim()} ${text}`.trim();
-      line.title = text;
-      list.append(line);
-    }
-    beside.first = from;
-    beside.replaceChildren(list);
-    placeLines();
-    at("ran").textContent = news.head;
-    document.body.dataset.text = news.number;
-  }
-
-  // What the text gives is shown before the rest of the page, which takes its time where a program is large.
-  window.showsFirst = async () => {
-    const news = await get("lines?first=0&last=0");
-    heard = Math.max(heard, news.number);
-    await settle();
-    if (!document.hidden) await new Promise((go) => requestAnimationFrame(() => setTimeout(go)));
-  };
-
+/** Watches the text, and shows it before the rest of the page, which takes its time where a program is large. */
+export async function watchText() {
   area.addEventListener("input", settle);
   area.addEventListener("change", () => { isSaved = true; settle(); });
   area.addEventListener("scroll", () => { if (beside.firstElementChild) placeLines(); drawLines(); });
@@ -155,5 +148,10 @@
     isSaved = true;
     settle();
   });
-  document.addEventListener("paris-text", (event) => { heard = event.detail; settle(); });
-})();
+  document.addEventListener("pevudlo-text", (event) => { heard = event.detail; settle(); });
+
+  try {
+    heard = (await get("lines?first=0&last=0")).number;
+    await settle();
+  } catch { /* The page says that nobody answers. */ }
+}

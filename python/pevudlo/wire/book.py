@@ -14,14 +14,11 @@ from typing import Optional
 
 from pevudlo.lang.replies import Word
 from pevudlo.values.words import Words, room_of
-from pevudlo.wire.library import Calls, Held, Library
+from pevudlo.wire.library import SOME_ROWS, Calls, Held, Library
 from pevudlo.wire.library_calls import Outcome, trouble
 
 EDITS = ("set ", "field ", "input ", "insert ", "delete ", "replace ")
 LOOKS = ("show ", "list", "faults")
-SOME_ROWS = 64
-"""For so many ids of rows there is room at first."""
-
 WORDS = {1: Word.KEPT, 2: Word.REPEATED, 3: Word.STALE, 4: Word.GONE, 5: Word.FOREIGN}
 
 Keep = Callable[[str], Optional[Callable[[str], None]]]
@@ -210,6 +207,13 @@ class Book(Library):
     def still(self) -> Book:
         """A snapshot to look at: what is done here leaves it as it is."""
         book = Book.over(self._calls, self.snapshot())
+        assert isinstance(book, Book)
+        book.is_copy = True
+        return book
+
+    def beside(self, held: Held) -> Book:
+        """Another session of this library to look at, which who has it keeps."""
+        book = Book.over(self._calls, held)
         assert isinstance(book, Book)
         book.is_copy = True
         return book

@@ -29,6 +29,9 @@ SHORT, LONG = 0.01, 0.04
 SHORT_REPLY = 4_096
 """A reply of so many bytes at most is put into a room that is there."""
 
+SOME_ROWS = 64
+"""For the ids of so many rows there is room at first."""
+
 MOST_AT_ONCE = 4_096
 """So many rows are run in one call at most, behind which Ctrl-C ends a settle."""
 
@@ -91,6 +94,7 @@ class Library:
         self._at, self._length_at = held.at, ctypes.addressof(self._length)
         self._room_at = ctypes.addressof(self._room)
         self._told_at = ctypes.addressof(self._told)
+        self._touched, self._edits = room_of(SOME_ROWS), c_uint64()
 
     @property
     def lock(self) -> threading.RLock:
@@ -196,6 +200,25 @@ class Library:
         name = key.encode("utf-8", "surrogateescape")
         outcome, row = self._call("paris_origin", name, len(name), place, self._told_at)
         return row if outcome == Outcome.OK else None
+
+    def touched(self, since: int) -> tuple[list[int], int]:
+        """The ids of the rows that an edit behind the first so many touched, in program order, and the count of edits.
+
+        These are the rows that were put in or replaced, and those that got other inputs, settled by now or not.
+        """
+        with self.lock:
+            while (count := self._list_touched(since)) > len(self._touched):
+                self._touched = room_of(2 * count)
+            words = ctypes.string_at(self._touched.address, 8 * count)
+            return memoryview(words).cast("Q").tolist(), self._edits.value
+
+    def _list_touched(self, since: int) -> int:
+        """Puts the ids of touched rows into their room, as far as they fit, and gives how many they are."""
+        room, edits = self._touched, ctypes.addressof(self._edits)
+        outcome, count = self._call("paris_touched", since, room.address, len(room), self._told_at, edits)
+        if outcome != Outcome.OK:
+            raise trouble(outcome)
+        return count
 
     def close(self) -> int:
         """Ends the session, and gives 1 where a line was refused, else 0, as the program's exit status does."""

@@ -6,7 +6,7 @@ use Rattle.paris_field.proofs.blocks.push_quad.Goals as goal
 
 pub returns : goal.returns
 returns c =
-    let words = c.quad_words-words.result in
+    let words = c.whole_quad_words.new.words in
     c.in_ok-extend_from_slice.ensures.items ∙ ap (λ l. l ++ words) c.requires.below
     ∙ ap (λ l. numbers (256 * c.args.quad) c.args.layers.now ++ l) (sym (take_all 256 words (omega arith)))
-    ∙ numbers_append (256 * c.args.quad) 256 c.args.layers.now words (omega arith) (λ i h. c.quad_words-words.ensures i h)
+    ∙ numbers_append (256 * c.args.quad) 256 c.args.layers.now words (omega arith) (λ i h. c.whole_quad_words.ensures i h)

@@ -1,25 +1,40 @@
-use Rattle.std.proofs.Common.{ℕ, ◌+◌, ◌*◌, ◌∙◌, ap, arith, get_or, sym, Bool}
+use Rattle.std.proofs.Common.{◌≡◌, ◌≢◌, ℕ, ◌+◌, ◌-◌, ◌*◌, ◌/◌, ◌∙◌, ap, sym, arith, length, get_or, Bool, false, inl, inr}
+use Rattle.std.proofs.lemmas.Bool.{cases_lt}
 use Rattle.paris_model.specs.Elementwise.{binary_overflow, binary_result}
 use Rattle.paris_model.specs.Store.{low}
 use Rattle.paris_field.specs.Numbers.{number_at}
 use Rattle.paris_muldiv.proofs.blocks.put_word_results.Goals as goal
 
-pub returns-clause-values : goal.returns-clause-values
-returns-clause-values g c =
-    λ i inside within.
-    let v : ℕ = 64 * c.args.block + i in
-    let result : ℕ → ℕ = λ L. low L (binary_result g.O.NumberOp.operator L (number_at c.args.xs.now v) (number_at c.args.ys.now v) 0 0) in
-    let r : ℕ = get_or c.results_in_words-word.result.0 i 0 in
-    c.put_block_words.ensures.numbers i inside (omega arith)
-    ∙ ap (λ L. low L r) (sym c.requires.x_count)
-    ∙ c.results_in_words-word.ensures.values i inside (omega arith)
-    ∙ ap result c.requires.x_count
-
-pub returns-clause-overflow : goal.returns-clause-overflow
-returns-clause-overflow g c =
-    λ i inside within.
-    let v : ℕ = 64 * c.args.block + i in
-    let overflows : ℕ → Bool = λ L. binary_overflow g.O.NumberOp.operator L (number_at c.args.xs.now v) (number_at c.args.ys.now v) 0 in
-    c.set_word.ensures.bits i inside within
-    ∙ c.results_in_words-word.ensures.overflow i inside (omega arith)
-    ∙ ap overflows c.requires.x_count
+pub loop-quad-preserved : goal.loop-quad-preserved
+loop-quad-preserved g c =
+    let b : ℕ = c.loop-quad.quad in
+    let result : ℕ → ℕ → ℕ = λ L v. low L (binary_result g.O.NumberOp.operator L (number_at c.args.xs.now v) (number_at c.args.ys.now v) 0 0) in
+    let overflows : ℕ → ℕ → Bool = λ L v. binary_overflow g.O.NumberOp.operator L (number_at c.args.xs.now v) (number_at c.args.ys.now v) 0 in
+    record {
+      long = c.put_quad_results.ensures.long ∙ c.loop-quad.invariant.long;
+      planes = λ k below. c.put_quad_results.ensures.planes k below ∙ c.loop-quad.invariant.long;
+      values = λ v within below.
+          elim (cases_lt v (256 * b)) [
+            | inl under ↦
+                let ne : v / 256 ≢ b = omega arith in
+                c.put_quad_results.ensures.other_values v (omega (arith, c.loop-quad.invariant.long)) ne ∙ c.loop-quad.invariant.values v within under
+            | inr here ↦
+                let there : 256 * b + (v - 256 * b) ≡ v = omega arith in
+                ap (number_at c.put_quad_results.new.values) (sym there)
+                ∙ c.put_quad_results.ensures.values (v - 256 * b) (omega arith) (omega (arith, c.loop-quad.invariant.long))
+                ∙ ap (result (length c.loop-quad.values)) there
+                ∙ ap (λ L. result L v) c.loop-quad.auto.values
+          ];
+      overflow = λ v within below.
+          elim (cases_lt v (256 * b)) [
+            | inl under ↦
+                let ne : v / 256 ≢ b = omega arith in
+                c.put_quad_results.ensures.other_bits v (omega (arith, c.loop-quad.invariant.long)) ne ∙ c.loop-quad.invariant.overflow v within under
+            | inr here ↦
+                let there : 256 * b + (v - 256 * b) ≡ v = omega arith in
+                ap (λ u. get_or c.put_quad_results.new.overflow u false) (sym there)
+                ∙ c.put_quad_results.ensures.overflow (v - 256 * b) (omega arith) (omega (arith, c.loop-quad.invariant.long))
+                ∙ ap (overflows (length c.loop-quad.values)) there
+                ∙ ap (λ L. overflows L v) c.loop-quad.auto.values
+          ];
+    }

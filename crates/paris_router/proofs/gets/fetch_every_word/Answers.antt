@@ -11,7 +11,7 @@ returns-then-address-words-clause-bad c =
     let n : ℕ = length c.args.words.now in
     let test : ℕ → Bool = λ j. nat_le n (get_or c.args.addresses.now j 0) in
     let bad : test i ≡ true = is_outside true (get_or c.args.addresses.now i 0) n refl (omega arith) in
-    sym (c.loop-i.invariant.least ∙ least_here test i 64 (omega arith) bad)
+    sym (c.loop-i.invariant.least ∙ least_here test i 256 (omega arith) bad)
 
 pub loop-i-preserved : goal.loop-i-preserved
 loop-i-preserved c =
@@ -23,7 +23,7 @@ loop-i-preserved c =
     let good : test i ≡ false = is_inside true place n (omega arith) in
     record {
       long = length-set c.loop-i.fetched i word ∙ c.loop-i.invariant.long;
-      least = c.loop-i.invariant.least ∙ least_above test i 64 (omega arith) good;
+      least = c.loop-i.invariant.least ∙ least_above test i 256 (omega arith) good;
       done = below_more _ _
           (λ j h. let ne : j ≢ i = omega arith in
           get_or-set_other c.loop-i.fetched i j word 0 ne ∙ c.loop-i.invariant.done j h)
@@ -34,4 +34,4 @@ pub returns-clause-bad : goal.returns-clause-bad
 returns-clause-bad c =
     let n : ℕ = length c.args.words.now in
     let test : ℕ → Bool = λ j. nat_le n (get_or c.args.addresses.now j 0) in
-    sym (c.loop-i.invariant.least ∙ least_none test c.loop-i.i 64 (omega arith))
+    sym (c.loop-i.invariant.least ∙ least_none test c.loop-i.i 256 (omega arith))

@@ -7,7 +7,7 @@ use Rattle.paris_router.proofs.gets.fetch_every_word.Given as goal
 
 abbrev pub invariant-loop-i : goal.invariant-loop-i
 invariant-loop-i l = record {
-  long : length l.fetched ≡ 64;
-  least : find (λ i. nat_le (length l.words) (get_or l.addresses i 0)) (numbers_below 64) ≡ find (λ i. nat_le (length l.words) (get_or l.addresses i 0)) (range_with_len l.i (64 - l.i));
+  long : length l.fetched ≡ 256;
+  least : find (λ i. nat_le (length l.words) (get_or l.addresses i 0)) (numbers_below 256) ≡ find (λ i. nat_le (length l.words) (get_or l.addresses i 0)) (range_with_len l.i (256 - l.i));
   done : (j : ℕ) → j < l.i → get_or l.fetched j 0 ≡ get_or l.words (get_or l.addresses j 0) 0;
 }

@@ -1,4 +1,4 @@
-use Rattle.std.proofs.Common.{◌≡◌, ℕ, ◌+◌, ◌++◌, ◌∷◌, [], ◌∙◌, Bool, List, ap, arith, false, get_or, subst, sym, true}
+use Rattle.std.proofs.Common.{◌/◌, ◌%◌, ◌≡◌, ℕ, ◌+◌, ◌++◌, ◌∷◌, [], ◌∙◌, Bool, List, ap, arith, false, get_or, subst, sym, true}
 use Rattle.std.specs.Prelude.{◌&&◌, nat_le}
 use Rattle.std.proofs.lemmas.List.{append_assoc}
 use Rattle.paris_model.specs.Mail.{messages}
@@ -13,21 +13,21 @@ pub returns-then-address-vps-clause-bad : goal.returns-then-address-vps-clause-b
 returns-then-address-vps-clause-bad g c =
     let i : ℕ = c.loop-i.i in
     let n : ℕ = g.I.Inbox.count c.args.inbox.now in
-    let test : ℕ → Bool = λ j. word_bit c.args.chosen j && nat_le n (get_or c.args.addresses.now j 0) in
-    let bad : test i ≡ true = is_outside (word_bit c.args.chosen i) (get_or c.args.addresses.now i 0) n (bit_one c.args.chosen i c.if-chosen-i-eq1.true) (omega (arith, c.len-vps.ensures, c.if-address-vps.true)) in
+    let test : ℕ → Bool = λ j. word_bit (get_or c.args.chosen.now (j / 64) 0) (j % 64) && nat_le n (get_or c.args.addresses.now j 0) in
+    let bad : test i ≡ true = is_outside (word_bit (get_or c.args.chosen.now (i / 64) 0) (i % 64)) (get_or c.args.addresses.now i 0) n (bit_one (get_or c.args.chosen.now (i / 64) 0) (i % 64) c.if-chosen-i-eq1.true) (omega (arith, c.len-vps.ensures, c.if-address-vps.true)) in
     sym (c.loop-i.invariant.least ∙ least_here test i c.args.count (omega arith) bad)
 
 pub loop-i-preserved : goal.loop-i-preserved
 loop-i-preserved g c =
     let i : ℕ = c.loop-i.i in
     let n : ℕ = g.I.Inbox.count c.args.inbox.now in
-    let selected : ℕ → Bool = word_bit c.args.chosen in
+    let selected : ℕ → Bool = (λ i. word_bit (get_or c.args.chosen.now (i / 64) 0) (i % 64)) in
     let address : ℕ → ℕ = λ j. get_or c.args.addresses.now j 0 in
     let value : ℕ → ℕ = λ j. get_or c.args.words.now j 0 in
     let test : ℕ → Bool = λ j. selected j && nat_le n (address j) in
     elim c.if-chosen-i-eq1.branch [
       | then-chosen-i-eq1+else-address-vps w ↦
-          let does : selected i ≡ true = bit_one c.args.chosen i w.if-chosen-i-eq1.true in
+          let does : selected i ≡ true = bit_one (get_or c.args.chosen.now (i / 64) 0) (i % 64) w.if-chosen-i-eq1.true in
           let good : test i ≡ false = is_inside (selected i) (address i) n (omega (arith, c.len-vps.ensures, w.if-address-vps.false)) in
           record {
             whole = subst g.I.Inbox.IsWhole (sym w.inbox-is) w.accept.ensures.whole;
@@ -41,7 +41,7 @@ loop-i-preserved g c =
                 subst (g.I.Inbox.HasHad start (mail ++ messages (i + 1) selected address value)) (sym w.inbox-is) done;
           }
       | else-chosen-i-eq1 w ↦
-          let stays : selected i ≡ false = bit_none c.args.chosen i w.if-chosen-i-eq1.false in
+          let stays : selected i ≡ false = bit_none (get_or c.args.chosen.now (i / 64) 0) (i % 64) w.if-chosen-i-eq1.false in
           let good : test i ≡ false = ap (λ b. b && nat_le n (address i)) stays in
           record {
             whole = subst g.I.Inbox.IsWhole (sym w.inbox-is) c.loop-i.invariant.whole;

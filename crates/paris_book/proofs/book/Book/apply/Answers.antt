@@ -11,7 +11,7 @@ either_way (Err e) P Q R f g ok err = g e err
 
 pub invariant_of-self : goal.invariant_of-self
 invariant_of-self c =
-    either_way c.edit.result _ _ (IsAtRest c.edit.new.self)
+    either_way c.apply.result _ _ (IsAtRest c.apply.new.self)
     (λ answer ok. subst IsAtRest (sym ok.2) (off_off (edited_by c.self.inside.loose c.args.edit.now)))
     (λ fault err. subst IsAtRest (sym err.0) c.self.invariant)
-    c.edit.ensures.ok c.edit.ensures.err
+    c.apply.ensures.ok c.apply.ensures.err

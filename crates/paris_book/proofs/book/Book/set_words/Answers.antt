@@ -1,7 +1,18 @@
 use Rattle.std.proofs.Common.{sym, subst}
+use Rattle.std.specs.Prelude.{Result, Ok, Err, OnOk, IfErr}
+use Rattle.paris_events.specs.declared.edits.Edit.TheVariants.{Input}
 use Rattle.paris_machine.specs.CutOff.{IsAtRest}
+use Rattle.paris_machine.specs.Edits.{edited_by}
 use Rattle.paris_machine.proofs.Rests.{off_off}
 use Rattle.paris_book.proofs.book.Book.set_words.Goals as goal
 
-pub invariant_of-self-2 : goal.invariant_of-self-2
-invariant_of-self-2 c = subst IsAtRest (sym c.cut_off.ensures) (off_off c.set_words.new.self)
+either_way : {T E : Type 0} (r : Result T E) (P : Type 0) (Q : E → Type 0) (R : Type 0) → (P → R) → ((e : E) → Q e → R) → OnOk r P → IfErr r Q → R
+either_way (Ok x) P Q R f g ok err = f ok
+either_way (Err e) P Q R f g ok err = g e err
+
+pub invariant_of-self : goal.invariant_of-self
+invariant_of-self c =
+    either_way c.set_words.result _ _ (IsAtRest c.set_words.new.self)
+    (λ ok. subst IsAtRest (sym ok.1) (off_off (edited_by c.self.inside.loose (Input c.args.key c.args.from c.args.words.now))))
+    (λ fault err. subst IsAtRest (sym err.0) c.self.invariant)
+    c.set_words.ensures.ok c.set_words.ensures.err

@@ -1,9 +1,10 @@
-use Rattle.std.proofs.Common.{◌≡◌, ◌+◌, List, [], ◌∷◌, ◌++◌, cond, Some, None, sym, ap, ◌∙◌}
+use Rattle.std.proofs.Common.{◌≡◌, ◌+◌, List, [], ◌∷◌, ◌++◌, cond, Some, None, sym, ap, ◌∙◌, subst}
 use Rattle.std.proofs.Math.Path.{ap₂}
 use Rattle.std.specs.Option.{option_or}
 use Rattle.paris_geometry.specs.Geometry.{processor_count}
 use Rattle.paris_board.specs.Board.{Board, with_set}
 use Rattle.paris_machine.specs.State.{State, declared_flags}
+use Rattle.paris_machine.specs.CutOff.{IsAtRest}
 use Rattle.paris_machine.specs.Edits.{set_added}
 use Rattle.paris_machine.specs.declared.inputs.FlagInputs.{FlagInputs}
 use Rattle.paris_book.specs.Among.{inputs_of}
@@ -11,7 +12,7 @@ use Rattle.paris_names.specs.declared.faults.Fault.TheVariants.{BadAxes}
 use Rattle.paris_board.specs.Board.{set_fault}
 use Rattle.paris_geometry.specs.Geometry.{is_geometry}
 use Rattle.paris_book.proofs.Inserts.{state_of}
-use Rattle.paris_book.proofs.Declares.{set_whole, set_view}
+use Rattle.paris_book.proofs.Declares.{set_whole, set_view, set_enough}
 use Rattle.paris_book.proofs.Calls.{few_edits}
 use Rattle.paris_machine.specs.declared.inputs.FlagInputs.{FlagInputs}
 use Rattle.paris_book.proofs.loose.Loose.add_set.Goals as goal
@@ -34,3 +35,10 @@ returns-clause-ok c =
           ∙ set_view c.self.inside.board c.self.inside.edits c.self.inside.rows.next_id (inputs_of c.self.inside.inputs) c.self.inside.rows.rows c.args.name c.args.axes.now c.self.invariant
           ∙ ap (λ (s : State). set_added s c.args.name c.args.axes.now) c.self.view_is,
     )
+
+pub returns-clause-enough : goal.returns-clause-enough
+returns-clause-enough c =
+    let board : c.add_set.new.self ≡ with_set c.self.inside.board c.args.name c.args.axes.now = c.in_ok-add_set.ensures.ok.2 ∙ ap (with_set c.self.inside.board c.args.name) c.in_ok-geometry.ensures.ok.1 in
+    let flags : c.push_flags.new.all.items ≡ c.self.inside.inputs.flags.items ++ declared_flags (c.self.inside.edits + 1) (processor_count c.args.axes.now) ∷ [] =
+    c.push_flags.ensures ∙ ap₂ (λ xs x. xs ++ x ∷ []) c.in_ok-reserve.ensures.items (c.in_ok-flags.ensures ∙ ap (declared_flags (c.self.inside.edits + 1)) (c.vps.ensures.value ∙ ap processor_count c.in_ok-geometry.ensures.ok.1)) in
+    rw (board, flags) (set_enough c.self.inside.board c.self.inside.edits c.self.inside.rows.next_id (inputs_of c.self.inside.inputs) c.self.inside.rows.rows c.args.name c.args.axes.now c.self.invariant (subst IsAtRest (sym c.self.view_is) c.requires.rests))

@@ -1,9 +1,10 @@
-use Rattle.std.proofs.Common.{List, arith, length, ◌≡◌, ◌+◌, sym, ap, ap₂, ◌∙◌, subst, drop, insert}
+use Rattle.std.proofs.Common.{List, refl, arith, length, ◌≡◌, ◌+◌, sym, ap, ap₂, ◌∙◌, subst, drop, insert}
 use Rattle.paris_names.specs.Keys.{has_key}
 use Rattle.paris_depends.proofs.FewKeys.{writes-few}
 use Rattle.paris_depends.specs.Sweeps.{touched}
 use Rattle.paris_instr.specs.Resolve.{IsFittedTo}
 use Rattle.paris_machine.specs.State.{State}
+use Rattle.paris_machine.specs.CutOff.{IsAtRest}
 use Rattle.paris_names.specs.declared.ids.RowId.{RowId}
 use Rattle.paris_program.specs.Program.{AreOwn}
 use Rattle.paris_book.specs.Entries.{Entry}
@@ -12,9 +13,10 @@ use Rattle.paris_book.specs.Marks.{is_among, data_plan, unsettled_by_ids, ids_in
 use Rattle.paris_book.proofs.Unsettling.{insert_rows}
 use Rattle.paris_book.proofs.Inserts.{inserted_rows, insert_whole, insert_view, state_of}
 use Rattle.paris_book.proofs.Calls.{few_edits, fitted_plan}
+use Rattle.paris_book.proofs.TouchedEdits.{insert_enough}
 use Rattle.paris_book.proofs.loose.Loose.insert_plan.Goals as goal
 
-rows_are : (c : goal.After-drop-ids-2) → c.end_edit.new.rows.rows ≡ inserted_rows c.self.inside.edits c.self.inside.rows.next_id c.self.inside.rows.rows c.args.place c.args.plan
+rows_are : (c : goal.After-end_edit) → c.end_edit.new.rows.rows ≡ inserted_rows c.self.inside.edits c.self.inside.rows.next_id c.self.inside.rows.rows c.args.place c.args.plan
 rows_are c =
     insert_rows c.self.inside.edits c.self.inside.rows.next_id c.args.place c.args.plan c.self.inside.rows.rows c.insert_at.new.self.rows c.end_edit.new.rows.rows (ids_in c.in_ok-ids.ids.items)
     (c.in_ok-id.ensures.ok.1 ∙ ap₂ (λ (l : List Entry) n. insert l c.args.place (n, c.in_ok-row.row)) c.own_all.ensures.rows c.own_all.ensures.next_id ∙ ap (λ d. insert c.self.inside.rows.rows c.args.place (c.self.inside.rows.next_id, d)) c.in_ok-row.ensures)
@@ -41,3 +43,11 @@ returns-clause-ok c = (
 
 pub affected-requires-clause-few : goal.affected-requires-clause-few
 affected-requires-clause-few c = let same = ap length c.writes.ensures in omega (arith, same, writes-few c.args.plan)
+
+pub returns-clause-enough : goal.returns-clause-enough
+returns-clause-enough c =
+    let old : State = state_of c.self.inside.board c.self.inside.edits c.self.inside.rows.next_id (inputs_of c.self.inside.inputs) c.self.inside.rows.rows in
+    let new : State = state_of c.self.inside.board c.end_edit.new.edits c.end_edit.new.rows.next_id (inputs_of c.self.inside.inputs) c.end_edit.new.rows.rows in
+    insert_enough old new c.self.inside.rows.rows c.end_edit.new.rows.rows (subst IsAtRest (sym c.self.view_is) c.requires.rests) refl refl (invariant_of-self-2 c).ids_apart
+    c.args.place refl c.self.inside.edits c.self.inside.rows.next_id c.args.plan (ids_in c.in_ok-ids.ids.items) (rows_are c)
+    (c.in_ok-ids.ensures ∙ ap (λ ks. touched data_plan (has_key ks) (drop c.args.place c.self.inside.rows.rows)) c.writes.ensures)

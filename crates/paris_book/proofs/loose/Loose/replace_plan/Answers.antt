@@ -1,11 +1,12 @@
 use Rattle.std.specs.Prelude.{IsSome}
-use Rattle.std.proofs.Common.{List, ◌≡◌, ◌+◌, ◌++◌, ◌∷◌, Ok, sym, ap, ap₂, ◌∙◌, subst, take, drop}
+use Rattle.std.proofs.Common.{List, refl, ◌≡◌, ◌+◌, ◌++◌, ◌∷◌, Ok, sym, ap, ap₂, ◌∙◌, subst, take, drop}
 use Rattle.paris_depends.specs.Sweeps.{touched}
 use Rattle.paris_instr.specs.Resolve.{IsFittedTo}
 use Rattle.paris_names.specs.declared.ids.RowId.{RowId}
 use Rattle.paris_program.specs.Program.{AreOwn, place_in, place_of, with_row}
 use Rattle.paris_book.specs.Entries.{Entry}
 use Rattle.paris_machine.specs.State.{State, find_row}
+use Rattle.paris_machine.specs.CutOff.{IsAtRest}
 use Rattle.paris_machine.specs.Edits.{replaced_from}
 use Rattle.paris_book.specs.Among.{inputs_of}
 use Rattle.paris_book.specs.Marks.{is_among, data_plan, replaced_data, writes_either, unsettled_by_ids, ids_in}
@@ -15,6 +16,7 @@ use Rattle.paris_book.proofs.Inserts.{state_of}
 use Rattle.paris_book.proofs.Replaces.{replace_whole, replace_view}
 use Rattle.paris_book.proofs.Targets.{Target, target_of, target_row, target_there, target_some, target_within, target_place, target_drop}
 use Rattle.paris_book.proofs.Calls.{few_edits, fitted_plan}
+use Rattle.paris_book.proofs.TouchedEdits.{replace_enough}
 use Rattle.paris_book.proofs.loose.Loose.replace_plan.Goals as goal
 
 pub end_edit-requires-clause-own : goal.end_edit-requires-clause-own
@@ -37,10 +39,10 @@ replace-requires c =
     (target_some c.self.inside.rows.rows (find_row c.args.self.now c.args.id) c.args.id.0 c.args.below
     (target_of c.self.inside.board c.self.inside.edits c.self.inside.rows.next_id (inputs_of c.self.inside.inputs) c.self.inside.rows.rows c.args.self.now c.args.id.0 c.args.below c.self.view_is c.requires.there))
 
-target : (c : goal.After-drop-ids-2) → Target c.self.inside.rows.rows (find_row c.args.self.now c.args.id) c.args.id.0 c.args.below
+target : (c : goal.After-end_edit) → Target c.self.inside.rows.rows (find_row c.args.self.now c.args.id) c.args.id.0 c.args.below
 target c = target_of c.self.inside.board c.self.inside.edits c.self.inside.rows.next_id (inputs_of c.self.inside.inputs) c.self.inside.rows.rows c.args.self.now c.args.id.0 c.args.below c.self.view_is c.requires.there
 
-rows_are : (c : goal.After-drop-ids-2) → c.end_edit.new.rows.rows
+rows_are : (c : goal.After-end_edit) → c.end_edit.new.rows.rows
     ≡ take (target c).place c.self.inside.rows.rows ++ (c.args.id.0, replaced_data c.args.plan (c.self.inside.edits + 1) (target c).row) ∷ swept_entries (c.self.inside.edits + 1) (writes_either (target c).row.plan c.args.plan) (drop ((target c).place + 1) c.self.inside.rows.rows)
 rows_are c =
     let t = target c in
@@ -54,7 +56,7 @@ rows_are c =
     (c.in_ok-ids.ensures t.row t.by_id ∙ ap (λ k. touched data_plan (writes_either t.row.plan c.args.plan) (drop k c.self.inside.rows.rows)) t.just_below)
     (c.end_edit.ensures.rows ∙ ap (λ js. unsettled_by_ids (c.self.inside.edits + 1) (ids_in js) c.replace.new.self.rows) c.as_slice-2.ensures.value)
 
-next_is : (c : goal.After-drop-ids-2) → c.end_edit.new.rows.next_id ≡ c.self.inside.rows.next_id
+next_is : (c : goal.After-end_edit) → c.end_edit.new.rows.next_id ≡ c.self.inside.rows.next_id
 next_is c = c.end_edit.ensures.next_id ∙ c.replace.ensures.next_id ∙ c.own_all.ensures.next_id
 
 pub unreachable-requires : goal.unreachable-requires
@@ -77,3 +79,13 @@ returns-clause-ok c =
     ap₂ (λ number next. state_of c.self.inside.board number next (inputs_of c.self.inside.inputs) c.end_edit.new.rows.rows) c.end_edit.ensures.edits (next_is c)
     ∙ replace_view c.self.inside.board c.self.inside.edits c.self.inside.rows.next_id (inputs_of c.self.inside.inputs) c.self.inside.rows.rows c.end_edit.new.rows.rows c.args.self.now t.place (c.args.id.0, t.row) (drop (t.place + 1) c.self.inside.rows.rows) c.args.plan behind c.self.invariant (rows_are c) c.self.view_is
     ∙ ap (λ o. replaced_from c.args.self.now o (Ok c.args.plan)) (sym t.seen)
+
+pub returns-clause-enough : goal.returns-clause-enough
+returns-clause-enough c =
+    let t = target c in
+    let behind = target_drop c.self.inside.rows.rows (find_row c.args.self.now c.args.id) c.args.id.0 c.args.below t in
+    let old : State = state_of c.self.inside.board c.self.inside.edits c.self.inside.rows.next_id (inputs_of c.self.inside.inputs) c.self.inside.rows.rows in
+    let new : State = state_of c.self.inside.board c.end_edit.new.edits c.end_edit.new.rows.next_id (inputs_of c.self.inside.inputs) c.end_edit.new.rows.rows in
+    replace_enough old new c.self.inside.rows.rows c.end_edit.new.rows.rows (subst IsAtRest (sym c.self.view_is) c.requires.rests) refl refl (invariant_of-self-2 c).ids_apart
+    t.place refl (c.args.id.0, t.row) (drop (t.place + 1) c.self.inside.rows.rows) behind (c.self.inside.edits + 1) c.args.plan (ids_in c.in_ok-ids.ids.items) (rows_are c)
+    (c.in_ok-ids.ensures t.row t.by_id ∙ ap (λ k. touched data_plan (writes_either t.row.plan c.args.plan) (drop k c.self.inside.rows.rows)) t.just_below)
