@@ -137,11 +137,19 @@ uint32_t paris_settle(paris_handle *handle, uint64_t *ran);
    At PARIS_PARTLY memory was refused once *ran were run, nothing else has changed, and the call can be made again. */
 uint32_t paris_run(paris_handle *handle, uint64_t most, uint64_t *ran);
 
+/* Runs orders as paris_run does, and puts the ids of their rows into a room, one after another, or the first ones where the room has fewer
+   words than *ran. After paris_release, with UINT64_MAX, it settles every row, and tells which ones were run. */
+uint32_t paris_run_ids(paris_handle *handle, uint64_t most, uint64_t *room, size_t len, uint64_t *ran);
+
 /* Settles what the value of a key at a place stands on: the unsettled rows that it is made by, in program order, and no other. *ran is how
    many orders were run. Then paris_get has the value. A row that is out is run here too, and what is brought of it later is
    PARIS_REPEATED. What `show` refuses is refused, by the same fault. At PARIS_PARTLY so many orders were run, settled rows stay so, and
    the call can be made again. */
 uint32_t paris_settle_for(paris_handle *handle, const uint8_t *key, size_t key_len, uint64_t place, uint64_t *ran);
+
+/* Settles a value as paris_settle_for does, and puts the ids of the rows that are run into a room, in program order, or the first ones
+   where the room has fewer words than *ran. */
+uint32_t paris_settle_for_ids(paris_handle *handle, const uint8_t *key, size_t key_len, uint64_t place, uint64_t *room, size_t len, uint64_t *ran);
 
 /* Puts the ids of the unsettled rows into a room, in program order, or the first ones where the room has fewer words. *count is how many
    rows are unsettled. What became unsettled by an edit is what is here after it and wasn't before. It takes no memory. */

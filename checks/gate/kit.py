@@ -28,6 +28,8 @@ COSTS = ROOT / "checks" / "gate" / "out" / "costs.json"
 BUDGETS = ROOT / "checks" / "gate" / "budgets"
 # A proof gains little from more jobs.
 MOST_JOBS = 4
+# How much of the longest chain's weight a chain has that isn't to wait for processors.
+NEAR = 0.95
 
 
 def load_rt() -> ModuleType:
@@ -175,8 +177,9 @@ Task = tuple[list[Any], int, int, int, Callable[[int], bool]]
 def in_lanes(tasks: dict[Any, Task], lanes: int, memory: int) -> dict[Any, bool]:
     """Runs tasks side by side and says of each whether it went well. A task is: those that it waits for, its weight, its bytes of memory,
     how many jobs it can use, and a call that gets how many it may use. Those with no weight are called at once, since nothing is left to do
-    in them. Of the others first come those with the most weight behind them, and the very first gets half of the idle lanes at least. One
-    that waits for a task that didn't go well isn't run."""
+    in them. Of the others first come those with the most weight behind them. One for which the longest chain waits gets as many jobs as it
+    can use, beside those that run already, and counts for half of the idle lanes at least. One that waits for a task that didn't go well
+    isn't run."""
     behind = {key: 0 for key in tasks}
     for key in reversed([*tasks]):
         behind[key] += tasks[key][1]
@@ -191,15 +194,17 @@ def in_lanes(tasks: dict[Any, Task], lanes: int, memory: int) -> dict[Any, bool]
                 left.remove(key)
                 ended[key] = False
             ready = [it for it in left if all(below in ended for below in tasks[it][0])]
+            longest = max((behind[it] for it in left), default=0)
             for place, key in enumerate(ready):
                 idle = lanes - sum(jobs for _, _, jobs in running.values())
                 room = memory - sum(needs for _, needs, _ in running.values())
                 needs, most = tasks[key][2:4]
                 if idle > 0 and (needs <= room or not running):
                     share = max(idle // (len(ready) - place), 0 if place else (idle + 1) // 2)
-                    jobs = max(1, min(most, share, 1 + int((room / needs - 1) / 0.6)))
+                    wanted = most if behind[key] >= NEAR * longest else share
+                    jobs = max(1, min(most, wanted, 1 + int((room / needs - 1) / 0.6)))
                     left.remove(key)
-                    running[pool.submit(tasks[key][4], jobs)] = key, int(needs * (1 + 0.6 * (jobs - 1))), jobs
+                    running[pool.submit(tasks[key][4], jobs)] = key, int(needs * (1 + 0.6 * (jobs - 1))), max(1, min(jobs, share))
             for done in wait(running, return_when=FIRST_COMPLETED).done if running else ():
                 ended[running.pop(done)[0]] = done.result()
     return ended

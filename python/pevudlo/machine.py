@@ -440,11 +440,15 @@ class Machine:
 
         It runs them in this thread, and other calls wait.
         """
+        return len(self.run_for(key, at))
+
+    def run_for(self, key: str, at: Place = END) -> tuple[int, ...]:
+        """Runs rows as `settle_for` does, and gives the ids of those that ran, in program order. The others were cut off."""
         number = place_number(spelled(at))
-        ran = None if number is None else self._inside("settle_for").book.settle_for(key, number)
+        ran = None if number is None else self._inside("run_for").book.settle_for(key, number)
         if ran is None:
             self._talk.command(f"show {key} {spelled(at)}")
-        return ran or 0
+        return tuple(ran or ())
 
     def _inside(self, call: str) -> Background:
         """The workers and steps of a machine over the library. Raises TypeError over a program."""

@@ -225,6 +225,22 @@ def test_settling_one_value_runs_what_it_stands_on_alone() -> None:
         assert numbers(machine, "b") == [0] * 4
 
 
+def test_rows_that_run_for_one_value_are_named() -> None:
+    with small() as machine:
+        first = machine.insert(paris.u_move("b", "a", 8))
+        second = machine.insert(paris.logxor("c", "b", "b", 8))
+        third = machine.insert(paris.u_add("d", "c", "a", 8))
+        assert machine.run_for("d") == (first, second, third)
+        machine.input("a", [1, 1, 1, 1])
+        # (the second row computes the same zeros, and the third reads a)
+        assert machine.run_for("c") == (first, second)
+        assert machine.run_for("d") == (third,) and machine.run_for("d") == ()
+        machine.replace(first, paris.u_move("b", "a", 8))
+        assert machine.run_for("d") == ()
+        with pytest.raises(Refusal):
+            machine.run_for("z")
+
+
 # Undo
 
 

@@ -63,7 +63,7 @@ class Case:
     def _hold(self) -> None:
         """Has each row wait for `free` before it ends, and lack memory then where that is refused."""
         execute, run = Book.execute, Library.run
-        settle_for = self.book._calls["paris_settle_for"]
+        settle_for = self.book._calls["paris_settle_for_ids"]
 
         def executed(book: Book, slot: Slot) -> None:
             assert self.free.wait(LIMIT)
@@ -87,7 +87,7 @@ class Case:
         self.patch.setattr(Book, "execute", executed)
         self.patch.setattr(Library, "run", ran)
         call: Callable[..., int] = settled_for
-        self.patch.setitem(self.book._calls, "paris_settle_for", call)
+        self.patch.setitem(self.book._calls, "paris_settle_for_ids", call)
 
     def begin(self, seconds: float | None = None) -> Told:
         """Makes the call, and waits until it is under way."""

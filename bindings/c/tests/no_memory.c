@@ -94,12 +94,14 @@ static void settle(paris_handle *handle, const char *none, struct told *told) {
 }
 
 static void run(paris_handle *handle, const char *none, struct told *told) {
+  uint64_t room[NUMBERS];
   (void)none;
-  told->status = paris_run(handle, UINT64_MAX, &told->ran);
+  told->status = paris_run_ids(handle, UINT64_MAX, room, NUMBERS, &told->ran);
 }
 
 static void settle_for(paris_handle *handle, const char *key, struct told *told) {
-  told->status = paris_settle_for(handle, bytes(key), strlen(key), PARIS_END, &told->ran);
+  uint64_t room[NUMBERS];
+  told->status = paris_settle_for_ids(handle, bytes(key), strlen(key), PARIS_END, room, NUMBERS, &told->ran);
 }
 
 static void set(paris_handle *handle, const char *key, struct told *told) {

@@ -263,6 +263,36 @@ static void rows_are_run(void) {
   WANT(paris_close(&handle), PARIS_OK);
 }
 
+/* Rows 2 and 3 read b. A room of one word has the first id, and the count is of all. */
+static void rows_that_ran_are_told(void) {
+  static const uint64_t nine[1] = {9};
+  paris_handle handle = {0};
+  uint64_t ran = 7, room[3] = {7, 7, 7};
+  WANT(paris_run_ids(&handle, 2, room, 3, &ran), PARIS_CLOSED);
+  WANT(paris_settle_for_ids(&handle, bytes("d"), 1, PARIS_END, room, 3, &ran), PARIS_CLOSED);
+  three_rows(&handle);
+  WANT(paris_run_ids(&handle, 2, room, 3, &ran), PARIS_OK);
+  WANT(ran, 2);
+  WANT(room[0], 1);
+  WANT(room[1], 2);
+  WANT(room[2], 7);
+  WANT(paris_set(&handle, bytes("b"), 1, 0, nine, 1), PARIS_OK);
+  WANT(paris_settle_for_ids(&handle, bytes("d"), 1, PARIS_END, room, 3, &ran), PARIS_OK);
+  WANT(ran, 1);
+  WANT(room[0], 3);
+  WANT(room[1], 2);
+  WANT(paris_settle_for_ids(&handle, bytes("d"), 1, PARIS_END, room, 3, &ran), PARIS_OK);
+  WANT(ran, 0);
+  WANT(room[0], 3);
+  WANT(paris_set(&handle, bytes("a"), 1, 0, nine, 1), PARIS_OK);
+  WANT(paris_run_ids(&handle, UINT64_MAX, room, 1, &ran), PARIS_OK);
+  WANT(ran, 3);
+  WANT(room[0], 1);
+  WANT(room[1], 2);
+  WANT(paris_settle_for_ids(&handle, bytes("1"), 1, PARIS_END, room, 3, &ran), PARIS_NO_KEY);
+  WANT(paris_close(&handle), PARIS_OK);
+}
+
 static void want_touched(int line, paris_handle *handle, uint64_t since, size_t wanted, uint64_t first, uint64_t second, uint64_t accepted) {
   uint64_t room[2] = {7, 7}, edits = 0;
   size_t count = 0;
@@ -459,6 +489,7 @@ int main(void) {
   snapshots();
   no_commands();
   rows_are_run();
+  rows_that_ran_are_told();
   touched_rows_are_told();
   runs_beside_orders();
   one_value_is_settled();

@@ -173,7 +173,29 @@ impl Session {
     /// Runs at most so many orders, one after another, and answers how many: fewer where no row is ready
     /// any more. Orders that are out stay so.
     pub fn run(&mut self, most: u64) -> Result<u64, Error> {
-        self.0.run(most)
+        self.0.run(most, &mut [])
+    }
+
+    /// Runs orders as [`run`](Session::run) does, and puts the ids of their rows into a room, one after
+    /// another, as many as it has places for.
+    ///
+    /// ```
+    /// # fn main() -> Result<(), paris::Error> {
+    /// use paris::Session;
+    ///
+    /// let mut session = Session::new()?;
+    /// session.answer("set s 4")?;
+    /// session.answer("field a s 8")?;
+    /// session.answer("insert end my-send-address-1L a 2")?;
+    /// let mut ids = [0; 8];
+    ///
+    /// assert_eq!(session.run_ids(u64::MAX, &mut ids)?, 1);
+    /// assert_eq!(ids[..2], [1, 0]);
+    /// # Ok(())
+    /// # }
+    /// ```
+    pub fn run_ids(&mut self, most: u64, ids: &mut [u64]) -> Result<u64, Error> {
+        self.0.run(most, ids)
     }
 
     /// Settles the value of a key at a place: runs the unsettled rows that it stands on, and no other, and
@@ -197,7 +219,18 @@ impl Session {
     /// # }
     /// ```
     pub fn settle_for(&mut self, key: impl AsRef<[u8]>, place: Place) -> Result<u64, Error> {
-        self.0.settle_for(key.as_ref(), place.number())
+        self.0.settle_for(key.as_ref(), place.number(), &mut [])
+    }
+
+    /// Settles a value as [`settle_for`](Session::settle_for) does, and puts the ids of the rows that are run
+    /// into a room, in program order, as many as it has places for.
+    pub fn settle_for_ids(
+        &mut self,
+        key: impl AsRef<[u8]>,
+        place: Place,
+        ids: &mut [u64],
+    ) -> Result<u64, Error> {
+        self.0.settle_for(key.as_ref(), place.number(), ids)
     }
 
     /// The ids of the unsettled rows, in program order. What an edit made unsettled is here after it and

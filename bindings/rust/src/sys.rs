@@ -109,12 +109,20 @@ extern "C" {
     fn paris_rows(handle: *mut Words, room: *mut u64, len: usize, count: *mut usize) -> u32;
     fn paris_settle(handle: *mut Words, ran: *mut u64) -> u32;
     fn paris_faults(handle: *mut Words, room: *mut u64, len: usize, count: *mut usize) -> u32;
-    fn paris_run(handle: *mut Words, most: u64, ran: *mut u64) -> u32;
-    fn paris_settle_for(
+    fn paris_run_ids(
+        handle: *mut Words,
+        most: u64,
+        room: *mut u64,
+        len: usize,
+        ran: *mut u64,
+    ) -> u32;
+    fn paris_settle_for_ids(
         handle: *mut Words,
         key: *const u8,
         key_len: usize,
         place: u64,
+        room: *mut u64,
+        len: usize,
         ran: *mut u64,
     ) -> u32;
     fn paris_unsettled(handle: *mut Words, room: *mut u64, len: usize, count: *mut usize) -> u32;
@@ -324,18 +332,36 @@ impl Handle {
         settled(status, ran)
     }
 
-    pub(crate) fn run(&mut self, most: u64) -> Result<u64, Error> {
+    /// Puts the ids of the rows that are run into a room, as many as there is room for.
+    pub(crate) fn run(&mut self, most: u64, room: &mut [u64]) -> Result<u64, Error> {
         let mut ran = 0;
-        // SAFETY: the handle is in no other call.
-        let status = unsafe { paris_run(self.0.get(), most, &mut ran) };
+        let (start, len) = (room.as_mut_ptr(), room.len());
+        // SAFETY: the handle is in no other call, and the room is a slice.
+        let status = unsafe { paris_run_ids(self.0.get(), most, start, len, &mut ran) };
         settled(status, ran)
     }
 
-    pub(crate) fn settle_for(&mut self, key: &[u8], place: u64) -> Result<u64, Error> {
+    /// Puts the ids of the rows that are run into a room, as many as there is room for.
+    pub(crate) fn settle_for(
+        &mut self,
+        key: &[u8],
+        place: u64,
+        room: &mut [u64],
+    ) -> Result<u64, Error> {
         let mut ran = 0;
-        // SAFETY: the handle is in no other call, and the key is a slice.
-        let status =
-            unsafe { paris_settle_for(self.0.get(), key.as_ptr(), key.len(), place, &mut ran) };
+        let (name, start) = (key.as_ptr(), room.as_mut_ptr());
+        // SAFETY: the handle is in no other call, and the key and the room are slices.
+        let status = unsafe {
+            paris_settle_for_ids(
+                self.0.get(),
+                name,
+                key.len(),
+                place,
+                start,
+                room.len(),
+                &mut ran,
+            )
+        };
         settled(status, ran)
     }
 

@@ -22,6 +22,7 @@ pub mod Origins
 pub mod OwnOrders
 pub mod Pending
 pub mod Playing
+pub mod RanIds
 pub mod ReadyRuns
 pub mod Recalling
 pub mod Recipes

@@ -5,6 +5,7 @@ pub mod Kept
 pub mod Laws
 pub mod Marks
 pub mod Origins
+pub mod RanIds
 pub mod Rounds
 pub mod Rows
 pub mod RowsInside

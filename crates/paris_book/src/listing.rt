@@ -58,7 +58,7 @@ fn put_unsettled(rows: &Rows, room: &mut [u64])
 }
 
 /// Puts an id into a room, where it has that place.
-fn put_id(room: &mut [u64], at: usize, id: u64)
+pub(crate) fn put_id(room: &mut [u64], at: usize, id: u64)
     ensures { room.new ≡ slice_set room.old at id }
 {
     if at < room.len() {

@@ -1,19 +1,23 @@
 //! Settling what one value stands on, and no more.
 
-ghost use Rattle.std.specs.Prelude.{◌≡◌, ◌∷◌, [], ◌+◌, ◌≤◌, Err, Some, length, map, take, true, IfOk, IfErr, OnOk, OnErr};
+ghost use Rattle.std.specs.Prelude.{◌≡◌, ◌∷◌, [], ◌+◌, ◌<◌, ◌≤◌, Err, Some, length, map, slice_get, slice_set, take, true, IfOk, IfErr, OnOk, OnErr};
+ghost use Rattle.std.specs.Option.{option_map};
 ghost use Rattle.paris_names.specs.declared.keys.Key.{Key as AnyKey};
 ghost use Rattle.paris_names.specs.Keys.{has_key};
 ghost use Rattle.paris_board.specs.Board.{key_named};
 ghost use Rattle.paris_depends.specs.Sweeps.{marked};
 ghost use Rattle.paris_machine.specs.Settling.{all_settled, due};
-ghost use Rattle.paris_machine.specs.State.{place_of_spot};
+ghost use Rattle.paris_machine.specs.State.{Row, place_of_spot};
 ghost use Rattle.paris_machine.specs.Events.{has_value};
 ghost use Rattle.paris_machine.specs.Show.{show_reply};
 ghost use Rattle.paris_book.specs.Entries.{machine_row};
+ghost use Rattle.paris_book.specs.RanIds.{ran_ids_for, turned_ids};
 ghost use Rattle.paris_book.specs.Rounds.{Advances, StaySettled, ran_of};
+ghost use Rattle.paris_book.specs.Unsettled.{filled};
 ghost use Rattle.paris_book.specs.Wanted.{has_turn, stands_on, settled_for, turned_all, wanted_from, wants};
 
 use crate::book::Book;
+use crate::listing::put_id;
 use crate::loose::Loose;
 use crate::program_rows::Rows;
 use crate::rows::RowData;
@@ -61,7 +65,28 @@ fn places_for(alloc: Global, rows: &Rows, place: usize, key: Key) -> Result<Vec<
     Ok(places)
 }
 
+/// Puts the id of a row that had its turn into a room, where it was run and the room has that place.
+fn put_ran(room: &mut [u64], at: u64, more: u64, id: Option<RowId>)
+    ensures none { more ≡ 0 → room.new ≡ room.old }
+    ensures put { (i : RowId) → 0 < more → id ≡ Some i → room.new ≡ slice_set room.old at i.0 }
+{
+    if let (1.., Some(id)) = (more, id) {
+        put_id(room, at as usize, id.0);
+    }
+}
+
 impl Loose {
+    /// The id of the row at a place. `None` where there is no row.
+    fn id_at(&self, place: usize) -> Option<RowId>
+        ensures { result ≡ option_map (λ (r : Row). r.id) (slice_get self.now.rows place) }
+    {
+        if place >= self.rows.len() {
+            return None;
+        }
+        let (id, _) = self.rows.at(place);
+        Some(id)
+    }
+
     /// The key and the place that a look is at. The error is the look's.
     fn found(&self, name: KeyName, spot: Spot) -> Result<(Key, usize), Fault>
         ensures key { IfOk result (λ found. key_named self.now.board name ≡ Some found.0) }
@@ -74,9 +99,10 @@ impl Loose {
         Ok((key, place))
     }
 
-    /// Gives the rows at these places their turn, the last of them first. The answer is how many were run, at an error too, which says
-    /// that memory was refused.
-    fn turn_all(&mut self, places: Vec<usize>) -> Result<u64, SettleFault>
+    /// Gives the rows at these places their turn, the last of them first, and puts the ids of those that are run into a room. The answer
+    /// is how many were run, at an error too, which says that memory was refused.
+    fn turn_all(&mut self, places: Vec<usize>, room: &mut [u64]) -> Result<u64, SettleFault>
+        ensures ids { room.new ≡ filled room.old (take (ran_of result) (turned_ids places.items self.old)) }
         ensures state { OnOk result (self.new ≡ turned_all places.items self.old) }
         ensures advances { Advances (ran_of result) self.old self.new }
     {
@@ -85,25 +111,28 @@ impl Loose {
         let mut left = places;
         let mut ran = 0;
         while let Some(place) = left.pop() {
+            let id = self.id_at(place);
             let Ok(more) = self.turn_at(&OpenGate, place) else {
                 return Err(SettleFault { ran });
             };
+            put_ran(room, ran, more, id);
             ran += more;
         }
         Ok(ran)
     }
 
-    /// Gives the rows that the value of a key at a place stands on their turn, in program order. The answer is how many were run, at an
-    /// error too, which says that memory was refused.
-    fn turn_for(&mut self, place: usize, key: Key) -> Result<u64, SettleFault>
+    /// Gives the rows that the value of a key at a place stands on their turn, in program order, and puts the ids of those that are run
+    /// into a room. The answer is how many were run, at an error too, which says that memory was refused.
+    fn turn_for(&mut self, place: usize, key: Key, room: &mut [u64]) -> Result<u64, SettleFault>
         requires { place ≤ length self.old.rows }
+        ensures ids { room.new ≡ filled room.old (take (ran_of result) (turned_ids (stands_on self.old place key) self.old)) }
         ensures state { OnOk result (self.new ≡ turned_all (stands_on self.old place key) self.old) }
         ensures advances { Advances (ran_of result) self.old self.new }
     {
         let Ok(places) = places_for(self.alloc, &self.rows, place, key) else {
             return Err(SettleFault { ran: 0 });
         };
-        self.turn_all(places)
+        self.turn_all(places, room)
     }
 }
 
@@ -127,8 +156,29 @@ impl Book {
         ensures refused { IfErr result (λ fault. Err fault ≡ show_reply self.old name spot) }
         ensures err { OnErr result (self.new ≡ self.old) }
     {
+        self.settle_for_ids(name, spot, &mut [])
+    }
+
+    /// Settles a value as `settle_for` does, and puts the ids of the rows that are run into a room, in program order, as many as it has
+    /// places for.
+    pub fn settle_for_ids(
+        &mut self,
+        name: KeyName,
+        spot: Spot,
+        room: &mut [u64],
+    ) -> Result<Result<u64, SettleFault>, Fault>
+        ensures ids { IfOk result (λ ran. room.new ≡ filled room.old (take (ran_of ran) (ran_ids_for self.old name spot))) }
+        ensures state { IfOk result (λ ran. OnOk ran (self.new ≡ settled_for self.old name spot)) }
+        ensures shown { IfOk result (λ ran. OnOk ran (has_value (show_reply self.new name spot) ≡ true)) }
+        ensures count { IfOk result (λ ran. due self.new + ran_of ran ≡ due self.old) }
+        ensures same { OnOk result (all_settled self.new ≡ all_settled self.old) }
+        ensures stay { OnOk result (StaySettled self.old.rows self.new.rows) }
+        ensures refused { IfErr result (λ fault. Err fault ≡ show_reply self.old name spot) }
+        ensures err { OnErr result (self.new ≡ self.old) }
+        ensures room { OnErr result (room.new ≡ room.old) }
+    {
         let (key, place) = self.loose.found(name, spot)?;
-        let ran = self.loose.turn_for(place, key);
+        let ran = self.loose.turn_for(place, key, room);
         self.loose.cut_off();
         Ok(ran)
     }

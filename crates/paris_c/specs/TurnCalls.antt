@@ -1,5 +1,5 @@
 -- What a call runs of a session, and what it tells of unsettled rows, where the handle is open.
-use Rattle.std.specs.Prelude.{◌≡◌, ◌<◌, ◌+◌, ℕ, true, List, length, Option, Some, None, Result, Ok, Err}
+use Rattle.std.specs.Prelude.{◌≡◌, ◌<◌, ◌+◌, ℕ, true, List, length, take, Option, Some, None, Result, Ok, Err}
 use Rattle.paris_names.specs.declared.faults.Fault.{Fault}
 use Rattle.paris_names.specs.declared.ids.RowId.{RowId}
 use Rattle.paris_names.specs.declared.names.KeyName.{KeyName}
@@ -9,6 +9,7 @@ use Rattle.paris_machine.specs.Orders.{take_reply}
 use Rattle.paris_machine.specs.Settling.{all_settled, due, unsettled_rows}
 use Rattle.paris_machine.specs.Show.{show_reply}
 use Rattle.paris_book.specs.Origins.{origin_reply}
+use Rattle.paris_book.specs.RanIds.{ran_ids, ran_ids_for}
 use Rattle.paris_book.specs.Rounds.{StaySettled}
 use Rattle.paris_book.specs.TouchedIds.{touched_ids}
 use Rattle.paris_book.specs.Unsettled.{filled, unsettled_ids}
@@ -27,6 +28,16 @@ HasRunOrders _ _ ran = ⊥
 abbrev pub HasRunAll : Option Contents → ℕ → ℕ → Type 0
 HasRunAll None most ran = ⊥
 HasRunAll (Some new) most ran = ran < most → take_reply new.session.state ≡ None
+
+-- the room has as many ids of the rows that so many orders were run of as there is room for
+abbrev pub HasRanIds : Option Contents → ℕ → List ℕ → List ℕ → Type 0
+HasRanIds None ran before after = ⊥
+HasRanIds (Some old) ran before after = after ≡ filled before (ran_ids ran old.session.state)
+
+-- the same of the first so many of those that a value is settled by
+abbrev pub HasRanFor : Option Contents → Option KeyName → ℕ → ℕ → List ℕ → List ℕ → Type 0
+HasRanFor (Some old) (Some key) place ran before after = after ≡ filled before (take ran (ran_ids_for old.session.state key (spot_of place)))
+HasRanFor _ _ place ran before after = ⊥
 
 -- the room has as many ids of unsettled rows as there is room for
 abbrev pub HasUnsettled : Option Contents → List ℕ → List ℕ → Type 0

@@ -3,7 +3,7 @@
 ghost use Rattle.std.specs.Prelude.{◌≡◌, ◌≢◌, ◌⊎◌, ◌<◌, ◌≤◌, Some, None};
 ghost use Rattle.paris_text.specs.Words.{key_word};
 ghost use Rattle.paris_c.specs.Calls.{looked, ShowsFault};
-ghost use Rattle.paris_c.specs.TurnCalls.{origin_looked, HasRunOrders, HasRunAll, HasUnsettled, CountsUnsettled, HasTouched, CountsTouched, HasEdits, HasOrigin, HasOriginFault, IsSettledFor, IsPartlySettledFor};
+ghost use Rattle.paris_c.specs.TurnCalls.{origin_looked, HasRanFor, HasRanIds, HasRunOrders, HasRunAll, HasUnsettled, CountsUnsettled, HasTouched, CountsTouched, HasEdits, HasOrigin, HasOriginFault, IsSettledFor, IsPartlySettledFor};
 ghost use Rattle.paris_c.specs.declared.statuses.TheConstants.{OK, NO_KEY, PARTLY};
 
 use crate::contents::Contents;
@@ -12,15 +12,17 @@ use crate::statuses::{self, NO_KEY, OK, PARTLY};
 use paris_text::key_of_word;
 
 impl Contents {
-    /// Runs at most so many orders, and says how many. Where memory is refused, it says this too.
-    pub(crate) fn run(&mut self, most: u64, ran: &mut u64) -> u32
+    /// Runs at most so many orders, puts the ids of their rows into a room, as many as there is room for, and says how many were run. Where
+    /// memory is refused, it says this too.
+    pub(crate) fn run(&mut self, most: u64, room: &mut [u64], ran: &mut u64) -> u32
+        ensures ids { HasRanIds (Some self.old) ran.new room.old room.new }
         ensures ran { HasRunOrders (Some self.old) (Some self.new) ran.new }
         ensures most { ran.new ≤ most }
         ensures all { result ≡ OK → HasRunAll (Some self.new) most ran.new }
         ensures fewer { result ≡ PARTLY → ran.new < most }
         ensures status { (result ≡ OK) ⊎ (result ≡ PARTLY) }
     {
-        match self.session.run(most) {
+        match self.session.run_ids(most, room) {
             Ok(count) => {
                 *ran = count;
                 OK
@@ -74,9 +76,17 @@ impl Contents {
         }
     }
 
-    /// Settles what the key of a word stands on at a place, and says how many orders were run. Where memory is refused, it says this
-    /// too.
-    pub(crate) fn settle_for(&mut self, key: &[u8], place: u64, ran: &mut u64) -> u32
+    /// Settles what the key of a word stands on at a place, puts the ids of the rows that are run into a room, as many as there is room
+    /// for, and says how many orders were run. Where memory is refused, it says this too.
+    pub(crate) fn settle_for(
+        &mut self,
+        key: &[u8],
+        place: u64,
+        room: &mut [u64],
+        ran: &mut u64,
+    ) -> u32
+        ensures ids { (result ≡ OK) ⊎ (result ≡ PARTLY) → HasRanFor (Some self.old) (key_word key.now) place ran.new room.old room.new }
+        ensures room { result ≢ OK → result ≢ PARTLY → room.new ≡ room.old }
         ensures settled { result ≡ OK → IsSettledFor (Some self.old) (Some self.new) (key_word key.now) place ran.new }
         ensures partly { result ≡ PARTLY → IsPartlySettledFor (Some self.old) (Some self.new) ran.new }
         ensures fault { 1 ≤ result → result ≤ 23 → ShowsFault (looked (Some self.old) (key_word key.now) place) result }
@@ -87,7 +97,7 @@ impl Contents {
         let Some(key) = key_of_word(key) else {
             return NO_KEY;
         };
-        match self.session.settle_for(key, spot_at(place)) {
+        match self.session.settle_for_ids(key, spot_at(place), room) {
             Ok(Ok(count)) => {
                 *ran = count;
                 OK

@@ -1,11 +1,12 @@
 //! Orders that a session runs itself, with no line that says so, and what is asked of its unsettled rows.
 
-ghost use Rattle.std.specs.Prelude.{◌≡◌, ◌+◌, ◌<◌, ◌≤◌, length, Err, None, true, IsSome, IfOk, IfErr, OnOk, OnErr};
+ghost use Rattle.std.specs.Prelude.{◌≡◌, ◌+◌, ◌<◌, ◌≤◌, length, take, Err, None, true, IsSome, IfOk, IfErr, OnOk, OnErr};
 ghost use Rattle.paris_machine.specs.Events.{has_value};
 ghost use Rattle.paris_machine.specs.Orders.{take_reply};
 ghost use Rattle.paris_machine.specs.Settling.{all_settled, due, unsettled_rows};
 ghost use Rattle.paris_machine.specs.Show.{show_reply};
 ghost use Rattle.paris_book.specs.Origins.{origin_reply};
+ghost use Rattle.paris_book.specs.RanIds.{ran_ids, ran_ids_for};
 ghost use Rattle.paris_book.specs.Rounds.{StaySettled, ran_of};
 ghost use Rattle.paris_book.specs.TouchedIds.{touched_ids};
 ghost use Rattle.paris_book.specs.Unsettled.{filled, unsettled_ids};
@@ -38,7 +39,19 @@ impl Session {
         ensures fewer { OnErr result (ran_of result < most) }
         ensures ready { OnErr result (IsSome (take_reply self.new.state)) }
     {
-        let ran = self.book.run(most);
+        self.run_ids(most, &mut [])
+    }
+
+    /// Runs orders as `run` does, and puts the ids of their rows into a room, one after another, as many as it has places for.
+    pub fn run_ids(&mut self, most: u64, room: &mut [u64]) -> Result<u64, SettleFault>
+        ensures state { self.new ≡ after_runs (ran_of result) self.old }
+        ensures ids { room.new ≡ filled room.old (ran_ids (ran_of result) self.old.state) }
+        ensures most { ran_of result ≤ most }
+        ensures all { IfOk result (λ ran. ran < most → take_reply self.new.state ≡ None) }
+        ensures fewer { OnErr result (ran_of result < most) }
+        ensures ready { OnErr result (IsSome (take_reply self.new.state)) }
+    {
+        let ran = self.book.run_ids(most, room);
         if count_of(&ran) > 0 {
             self.begun = true;
         }
@@ -64,7 +77,29 @@ impl Session {
         ensures refused { IfErr result (λ fault. Err fault ≡ show_reply self.old.state name spot) }
         ensures err { OnErr result (self.new ≡ self.old) }
     {
-        let ran = self.book.settle_for(name, spot)?;
+        self.settle_for_ids(name, spot, &mut [])
+    }
+
+    /// Settles a value as `settle_for` does, and puts the ids of the rows that are run into a room, in program order, as many as it has
+    /// places for.
+    pub fn settle_for_ids(
+        &mut self,
+        name: KeyName,
+        spot: Spot,
+        room: &mut [u64],
+    ) -> Result<Result<u64, SettleFault>, Fault>
+        ensures ids { IfOk result (λ ran. room.new ≡ filled room.old (take (ran_of ran) (ran_ids_for self.old.state name spot))) }
+        ensures state { IfOk result (λ ran. OnOk ran (self.new ≡ with_book self.old (settled_for self.old.state name spot) self.old.tray)) }
+        ensures shown { IfOk result (λ ran. OnOk ran (has_value (show_reply self.new.state name spot) ≡ true)) }
+        ensures count { IfOk result (λ ran. due self.new.state + ran_of ran ≡ due self.old.state) }
+        ensures same { OnOk result (all_settled self.new.state ≡ all_settled self.old.state) }
+        ensures stay { OnOk result (StaySettled self.old.state.rows self.new.state.rows) }
+        ensures left { OnOk result (self.new ≡ with_book self.old self.new.state self.old.tray) }
+        ensures refused { IfErr result (λ fault. Err fault ≡ show_reply self.old.state name spot) }
+        ensures err { OnErr result (self.new ≡ self.old) }
+        ensures room { OnErr result (room.new ≡ room.old) }
+    {
+        let ran = self.book.settle_for_ids(name, spot, room)?;
         self.begun = true;
         Ok(ran)
     }

@@ -184,17 +184,22 @@ class Book(Library):
         room = self._ids
         return self._check(*self._call("paris_unsettled", room.address, len(room), self._told_at))
 
-    def settle_for(self, key: str, place: int) -> int | None:
-        """Runs the rows that a value stands on, and gives how many ran. None where the look is refused."""
+    def settle_for(self, key: str, place: int) -> list[int] | None:
+        """Runs the rows that a value stands on, and gives the ids of those that ran. None where the look is refused."""
         name = key.encode("utf-8", "surrogateescape")
         with self.lock:
-            outcome, ran = self._call("paris_settle_for", name, len(name), place, self._told_at)
+            # (there is room for all that are unsettled, so for all that run)
+            count = self._list_unsettled()
+            if count > len(self._ids):
+                self._ids = room_of(2 * count)
+            outcome, ran = self._call("paris_settle_for_ids", name, len(name), place, self._ids.address, count, self._told_at)
             if outcome in (Outcome.OK, Outcome.PARTLY):
                 self._has_run(ran)
+            ids = memoryview(ctypes.string_at(self._ids.address, 8 * min(ran, count))).cast("Q").tolist() if outcome == Outcome.OK else None
             self.tell()
         if outcome in (Outcome.NO_MEMORY, Outcome.PARTLY):
             raise trouble(outcome)
-        return ran if outcome == Outcome.OK else None
+        return ids
 
     # Snapshots.
 

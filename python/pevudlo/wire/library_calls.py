@@ -65,7 +65,7 @@ CALLS: dict[str, tuple[Any, ...]] = {
     "paris_unsettled": (c_void_p, c_void_p, c_size_t, c_void_p),
     "paris_touched": (c_void_p, c_uint64, c_void_p, c_size_t, c_void_p, c_void_p),
     "paris_origin": (c_void_p, c_char_p, c_size_t, c_uint64, c_void_p),
-    "paris_settle_for": (c_void_p, c_char_p, c_size_t, c_uint64, c_void_p),
+    "paris_settle_for_ids": (c_void_p, c_char_p, c_size_t, c_uint64, c_void_p, c_size_t, c_void_p),
 }
 
 

@@ -7,7 +7,7 @@ use Rattle.paris_machine.proofs.Rests.{off_off}
 use Rattle.paris_book.specs.Wanted.{stands_on}
 use Rattle.paris_book.proofs.Settled.{cut_leaves}
 use Rattle.paris_book.proofs.Wanting.{shown_then}
-use Rattle.paris_book.proofs.book.Book.settle_for.Goals as goal
+use Rattle.paris_book.proofs.book.Book.settle_for_ids.Goals as goal
 
 when_ok : {T E : Type 0} (r : Result T E) (P Q : Type 0) → (P → Q) → OnOk r P → OnOk r Q
 when_ok (Ok x) P Q f p = f p
