@@ -18,6 +18,7 @@ pub mod Copied
 pub mod Brought
 pub mod OneLine
 pub mod OneByOne
+pub mod Neighbours
 pub mod Totals
 pub mod Spans
 pub mod Rows

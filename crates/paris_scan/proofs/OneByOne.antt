@@ -66,21 +66,33 @@ pub before_later : (d : Direction) (by n place : ℕ) → place < n → HasBefor
 before_later Upward by n place h has = (let b : by ≤ n - 1 - place = has.0 refl in record { place_of = place + by; later = omega arith; within = omega (arith, h, b); is = omega (arith, h, b) })
 before_later Downward by n place h has = (let b : (n - 1 - (n - 1 - place)) + by < n = has.1 refl in record { place_of = place + by; later = omega arith; within = omega (arith, h, b); is = omega (arith, h, b) })
 
+-- at the processors of the first places a function is made, and at the others it is what it was
+pub record Passed {X : Type 0} (n : ℕ) (at : ℕ → ℕ) (place : ℕ) (made old now : ℕ → X) : Type 0 where
+  pub first : (p : ℕ) → p < place → now (at p) ≡ made (at p)
+  pub rest : (p : ℕ) → place ≤ p → p < n → now (at p) ≡ old (at p)
+
+pub passed_put : {X : Type 0} {n : ℕ} {at : ℕ → ℕ} → Order n at → (place : ℕ) (made old now next : ℕ → X) (v : ℕ) → Passed n at place made old now → place < n → v ≡ at place → next v ≡ made v → ((u : ℕ) → u < n → u ≢ v → next u ≡ now u) → Passed n at (place + 1) made old next
+passed_put {X} {n} {at} o place made old now next v w h is made_is others = record {
+  first = λ p below. elim (cases_eq p place) [
+    | inl e ↦ let same : at p ≡ v = ap at e ∙ sym is in ap next same ∙ made_is ∙ ap made (sym same)
+    | inr apart ↦ others (at p) (o.within p (omega (arith, h, below))) (λ e. o.apart p place (omega (arith, below, apart)) h (e ∙ is)) ∙ w.first p (omega (arith, below, apart))
+  ];
+  rest = λ p above below. others (at p) (o.within p below) (λ e. o.apart place p (omega (arith, above)) below (sym (e ∙ is))) ∙ w.rest p (omega (arith, above)) below;
+}
+
+pub passed_all : {X : Type 0} {n : ℕ} {at : ℕ → ℕ} → Order n at → (made old now : ℕ → X) → Passed n at n made old now → (v : ℕ) → v < n → now v ≡ made v
+passed_all {X} {n} {at} o made old now w v h =
+    ap now (sym (o.twice v h)) ∙ w.first (at v) (o.within v h) ∙ ap made (o.twice v h)
+
 -- what the processors of the first places hold is made, and the others hold what was there
-pub record Walked {X : Type 0} (n : ℕ) (at : ℕ → ℕ) (place : ℕ) (made old : ℕ → X) (d : X) (xs : List X) : Type 0 where
-  pub first : (p : ℕ) → p < place → get_or xs (at p) d ≡ made (at p)
-  pub rest : (p : ℕ) → place ≤ p → p < n → get_or xs (at p) d ≡ old (at p)
+abbrev pub Walked : {X : Type 0} → ℕ → (ℕ → ℕ) → ℕ → (ℕ → X) → (ℕ → X) → X → List X → Type 0
+Walked n at place made old d xs = Passed n at place made old (λ v. get_or xs v d)
 
 pub walked_set : {X : Type 0} {n : ℕ} {at : ℕ → ℕ} → Order n at → (place : ℕ) (made old : ℕ → X) (d : X) (xs : List X) (v : ℕ) (x : X) → Walked n at place made old d xs → length xs ≡ n → place < n → v ≡ at place → x ≡ made v → Walked n at (place + 1) made old d (set xs v x)
-walked_set {X} {n} {at} o place made old d xs v x w long h is made_is = record {
-  first = λ p below. elim (cases_eq p place) [
-    | inl e ↦
-        let same : at p ≡ v = ap at e ∙ sym is in
-        ap (λ u. get_or (set xs v x) u d) same ∙ get_or-set_same xs v x d (omega (arith, is, o.within place h, long)) ∙ made_is ∙ ap made (sym same)
-    | inr apart ↦ get_or-set_other xs v (at p) x d (λ e. o.apart p place (omega (arith, below, apart)) h (e ∙ is)) ∙ w.first p (omega (arith, below, apart))
-  ];
-  rest = λ p above below. get_or-set_other xs v (at p) x d (λ e. o.apart place p (omega (arith, above)) below (sym (e ∙ is))) ∙ w.rest p (omega (arith, above)) below;
-}
+walked_set {X} {n} {at} o place made old d xs v x w long h is made_is =
+    passed_put o place made old (λ u. get_or xs u d) (λ u. get_or (set xs v x) u d) v w h is
+    (get_or-set_same xs v x d (omega (arith, is, o.within place h, long)) ∙ made_is)
+    (λ u _ e. get_or-set_other xs v u x d e)
 
 pub walked_kept : {X : Type 0} {n : ℕ} {at : ℕ → ℕ} (place : ℕ) (made old : ℕ → X) (d : X) (xs : List X) → Walked n at place made old d xs → place < n → old (at place) ≡ made (at place) → Walked n at (place + 1) made old d xs
 walked_kept {X} {n} {at} place made old d xs w h same = record {
@@ -92,8 +104,7 @@ walked_kept {X} {n} {at} place made old d xs w h same = record {
 }
 
 pub walked_all : {X : Type 0} {n : ℕ} {at : ℕ → ℕ} → Order n at → (made old : ℕ → X) (d : X) (xs : List X) → Walked n at n made old d xs → (v : ℕ) → v < n → get_or xs v d ≡ made v
-walked_all {X} {n} {at} o made old d xs w v h =
-    ap (λ u. get_or xs u d) (sym (o.twice v h)) ∙ w.first (at v) (o.within v h) ∙ ap made (o.twice v h)
+walked_all o made old d xs w v h = passed_all o made old (λ u. get_or xs u d) w v h
 
 -- what the one before holds
 pub cut_same : {X : Type 0} (b : Bool) (d x y : X) → (b ≡ false → x ≡ y) → cond b d x ≡ cond b d y

@@ -1,5 +1,5 @@
 -- Values that are made one after another along lines.
-use Rattle.std.specs.Prelude.{ℕ, ◌≡◌, ◌<◌, ◌≤◌, ◌+◌, ◌-◌, ◌^◌, Bool, List, cond, nat_le, slice_index}
+use Rattle.std.specs.Prelude.{ℕ, ◌≡◌, ◌<◌, ◌≤◌, ◌+◌, ◌-◌, ◌*◌, ◌^◌, Bool, List, cond, min, nat_le, slice_index}
 use Rattle.paris_geometry.specs.declared.direction.Direction.{Direction}
 use Rattle.paris_geometry.specs.declared.direction.Direction.TheVariants.{Upward, Downward}
 use Rattle.paris_model.specs.declared.operators.Combiner.{Combiner}
@@ -51,3 +51,25 @@ low_sums bits n sums = everywhere n (λ v. low bits (sums v))
 -- where the sums of n processors need more bits
 abbrev pub over_sums : ℕ → ℕ → (ℕ → ℕ) → List Bool
 over_sums bits n sums = bits_everywhere n (λ v. nat_le (2 ^ bits) (sums v))
+
+-- a word has the low bits of a sum, and a bit says whether it needs more
+abbrev pub IsKept : ℕ → ℕ → Bool → ℕ → Type 0
+IsKept bits word over sum = (word ≡ low bits sum) × (over ≡ nat_le (2 ^ bits) sum)
+
+-- how many of n processors are in a block of 64
+abbrev pub processors_of : ℕ → ℕ → ℕ
+processors_of n block = min (n - 64 * block) 64
+
+-- the first place, of n that are walked in the direction, of a processor of the block
+abbrev pub first_place : Direction → ℕ → ℕ → ℕ
+first_place Upward n block = 64 * block
+first_place Downward n block = n - (64 * block + 64)
+
+-- what is held is of the value of the processor right before a place, of n that are walked in the direction, if there is one
+abbrev pub HeldBefore : (ℕ → Type 0) → Direction → ℕ → (ℕ → ℕ) → ℕ → Type 0
+HeldBefore Held direction n values place = 0 < place → Held (values (walked direction n (place - 1)))
+
+-- in a block of n processors the values go on, one neighbour after another, from what is held of the one before the block
+pub record GoOn (Held : ℕ → Type 0) (next : ℕ → ℕ → ℕ) (none block : ℕ) (direction : Direction) (n : ℕ) (begins : ℕ → Bool) (values : ℕ → ℕ) : Type 0 where
+  pub runs : (i : ℕ) → i < processors_of n block → values (64 * block + i) ≡ next (64 * block + i) (value_before none direction 1 begins values (64 * block + i))
+  pub held : HeldBefore Held direction n values (first_place direction n block)

@@ -14,6 +14,7 @@ mod halves;
 mod lines;
 mod maxima;
 mod moves;
+mod near;
 mod partner;
 mod repeated;
 mod results;

@@ -12,6 +12,7 @@ ghost use Rattle.paris_scan.specs.Runs.{before, begins_run};
 use crate::adjacent::power;
 use crate::lines::{Along, begin_plane};
 use crate::moves::move_cut;
+use crate::near::near_sums;
 use crate::results::Combined;
 use paris_field::FieldValue;
 use paris_geometry::Direction;
@@ -24,8 +25,8 @@ use std::alloc::{AllocError, Global};
 #[derive(Drop)]
 pub(crate) struct Steps {
     pub(crate) direction: Direction,
-    by: usize,
-    begins: Plane,
+    pub(crate) by: usize,
+    pub(crate) begins: Plane,
     ghost some: { 0 < by },
     ghost reach: { (v : ℕ) → v < length begins → has begins v ≡ false → HasBefore direction by (length begins) v },
 }
@@ -111,8 +112,8 @@ fn is_over(before: bool, sum: u128, bound: u128) -> bool
     before || sum >= bound
 }
 
-/// Writes over each word the low `bits` bits of the sum of the one before it and its own, and puts a 1 where the sum needs more.
-fn make_sums(steps: &Steps, selected: &Plane, bits: u64, words: &mut [u64], overflow: &mut Plane)
+/// Does `make_sums` a processor at a time, however far apart neighbours are.
+fn far_sums(steps: &Steps, selected: &Plane, bits: u64, words: &mut [u64], overflow: &mut Plane)
     requires narrow { bits ≤ 64 }
     requires count { length steps.now.begins ≡ length words.old }
     requires selected { length selected.now ≡ length words.old }
@@ -131,6 +132,23 @@ fn make_sums(steps: &Steps, selected: &Plane, bits: u64, words: &mut [u64], over
         if is_over(bit_before(steps, overflow, v), sum, bound) {
             overflow.set(v, true);
         }
+    }
+}
+
+/// Writes over each word the low `bits` bits of the sum of the one before it and its own, and puts a 1 where the sum needs more.
+fn make_sums(steps: &Steps, selected: &Plane, bits: u64, words: &mut [u64], overflow: &mut Plane)
+    requires narrow { bits ≤ 64 }
+    requires count { length steps.now.begins ≡ length words.old }
+    requires selected { length selected.now ≡ length words.old }
+    requires zeros { overflow.old ≡ replicate (length words.old) false }
+    ensures long { length words.new ≡ length words.old }
+    ensures words { (sums : ℕ → ℕ) → AreRunning (added (own_word (has selected.now) words.old)) 0 steps.now.direction steps.now.by (length words.old) (has steps.now.begins) sums → words.new ≡ low_sums bits (length words.old) sums }
+    ensures overflow { (sums : ℕ → ℕ) → AreRunning (added (own_word (has selected.now) words.old)) 0 steps.now.direction steps.now.by (length words.old) (has steps.now.begins) sums → overflow.new ≡ over_sums bits (length words.old) sums }
+{
+    if steps.by == 1 {
+        near_sums(steps, selected, bits, words, overflow);
+    } else {
+        far_sums(steps, selected, bits, words, overflow);
     }
 }
 

@@ -23,11 +23,21 @@ use paris_layer::Layer;
 use paris_model::{Combiner, Inclusion};
 use std::alloc::{AllocError, Global};
 
-/// So many turns of a plane, or fewer, take less time than sums that are made one after another.
-const FEW_TURNS: u64 = 760;
+/// Up to how many turns of a plane take less time than values that are made one after another.
+#[derive(Clone, Copy)]
+struct FewTurns {
+    /// where neighbours are neighbours in memory
+    near: u64,
+    /// elsewhere
+    far: u64,
+}
 
-/// So many turns of a plane, or fewer, take less time than maxima that are made one after another.
-const FEW_TURNS_OF_MAXIMA: u64 = 200;
+const FEW_TURNS: FewTurns = FewTurns {
+    near: 160,
+    far: 760,
+};
+
+const FEW_TURNS_OF_MAXIMA: FewTurns = FewTurns { near: 70, far: 200 };
 
 /// What the values that a scan combines come to, by an operator that has no plane of its own.
 fn scan_field<C: Commute>(
@@ -77,13 +87,14 @@ fn scan_complements<C: Commute>(
     Ok(value)
 }
 
-/// Whether a turn of each plane for each digit of a coordinate makes more turns than `few`.
-fn has_many_turns(along: &Along, bits: u64, few: u64) -> bool
+/// Whether a turn of each plane for each digit of a coordinate makes more turns than few.
+fn has_many_turns(along: &Along, bits: u64, few: FewTurns) -> bool
     requires axis { along.now.axis < length along.now.geometry }
     requires narrow { bits ≤ 64 }
 {
     let digits = u64::from(along.geometry.len(along.axis).trailing_zeros());
-    digits * bits > few
+    let is_near = along.geometry.stride(along.axis) == 1;
+    digits * bits > if is_near { few.near } else { few.far }
 }
 
 /// The low bits of the sums that a scan makes, and where the exact sum needs more.

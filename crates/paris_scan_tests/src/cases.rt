@@ -77,8 +77,10 @@ pub(crate) const COLUMNS: &[(&[u64], &[u64], &[u64])] = &[
 /// processors the context is 1.
 pub(crate) const RUNNING_SETS: &[(&[u64], &[u64], &[u64])] = &[
     (&[1], NUMBERS, &[0, 8]),
+    (&[8], &[64], &[0, 5, 8]),
     (&[32], NUMBERS, &[0, 5, 8]),
     (&[64], NUMBERS, &[5]),
+    (&[128], NUMBERS, &[5, 8]),
     (&[2, 8, 4, 2], NUMBERS, &[5]),
     (&[4, 4, 4, 4], NUMBERS, &[0, 5, 8]),
     (&[1, 256], NUMBERS, &[8]),

@@ -3,7 +3,7 @@ use Rattle.paris_model.specs.Store.{low}
 use Rattle.paris_field.specs.Numbers.{has}
 use Rattle.paris_scan.specs.Running.{AreRunning, added, own_word, walked}
 use Rattle.paris_scan.proofs.OneByOne.{Walked}
-use Rattle.paris_scan.proofs.running.make_sums.Given as goal
+use Rattle.paris_scan.proofs.running.far_sums.Given as goal
 
 abbrev pub invariant-loop-place : goal.invariant-loop-place
 invariant-loop-place l = record {

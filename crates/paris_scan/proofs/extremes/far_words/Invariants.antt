@@ -2,7 +2,7 @@ use Rattle.std.proofs.Common.{◌≡◌, ℕ, length, get_or}
 use Rattle.paris_field.specs.Numbers.{has}
 use Rattle.paris_scan.specs.Running.{AreRunning, taken, walked}
 use Rattle.paris_scan.proofs.OneByOne.{Walked}
-use Rattle.paris_scan.proofs.extremes.make_words.Given as goal
+use Rattle.paris_scan.proofs.extremes.far_words.Given as goal
 
 abbrev pub invariant-loop-place : goal.invariant-loop-place
 invariant-loop-place g l = record {

@@ -6,7 +6,7 @@ use Rattle.paris_model.specs.declared.operators.Combiner.{Combiner}
 use Rattle.paris_field.specs.Numbers.{has}
 use Rattle.paris_scan.specs.Running.{HasBefore, taken, value_before, walked}
 use Rattle.paris_scan.proofs.OneByOne.{Walked, forward, made_before, walked_all, walked_set}
-use Rattle.paris_scan.proofs.extremes.make_words.Goals as goal
+use Rattle.paris_scan.proofs.extremes.far_words.Goals as goal
 
 pub loop-place-preserved : goal.loop-place-preserved
 loop-place-preserved g c =

@@ -8,8 +8,8 @@ use Rattle.paris_field.proofs.Places.{plane_is}
 use Rattle.paris_scan.specs.Running.{AreRunning, HasBefore, added, own_word, value_before, walked}
 use Rattle.paris_scan.specs.Runs.{before}
 use Rattle.paris_scan.proofs.OneByOne.{Walked, forward, low_next, made_before, over_next, walked_all, walked_kept, walked_set}
-use Rattle.paris_scan.proofs.running.make_sums.Goals as goal
-use Rattle.paris_scan.proofs.running.make_sums.Goals.{then-is_over, else-is_over}
+use Rattle.paris_scan.proofs.running.far_sums.Goals as goal
+use Rattle.paris_scan.proofs.running.far_sums.Goals.{then-is_over, else-is_over}
 
 pub loop-place-preserved : goal.loop-place-preserved
 loop-place-preserved c =
