@@ -10,6 +10,7 @@ use Rattle.paris_machine.specs.Results.{verdict_at, verdict_on, verdict_of, brou
 use Rattle.paris_book.specs.Steps.{WasSettled, kept_on, after_keep}
 use Rattle.paris_program.specs.Program.{place_of}
 use Rattle.paris_book.specs.Marks.{kept_data}
+use Rattle.paris_book.specs.declared.sources.Source.{Source}
 use Rattle.paris_book.specs.Entries.{Entry, machine_row, with_data, seen}
 use Rattle.paris_book.proofs.Entering.{find_is}
 use Rattle.paris_events.specs.declared.verdicts.Verdict.{Verdict}
@@ -35,12 +36,12 @@ kept_verdict Repeated h = absurd (let x : false ≡ true = h in cc)
 kept_verdict Foreign h = absurd (let x : false ≡ true = h in cc)
 kept_verdict Kept h = refl
 
-pub state_kept : (b : Board) (n m : ℕ) (inputs : Inputs) (es : List Entry) (s : State) (k : ℕ) (e : Entry) (t : Task) (v : Verdict) → state_of b n m inputs es ≡ s → find_id t.id.0 (map machine_row es) ≡ Some (k, machine_row e) → v ≡ verdict_at (seen inputs es) (k, machine_row e) t → is_kept v ≡ true → state_of b n m inputs (set es k (with_data (kept_data t) e)) ≡ after_keep s t
-state_kept b n m inputs es s k e t v y x z h = sym (
+pub state_kept : (b : Board) (n m : ℕ) (inputs : Inputs) (es : List Entry) (s : State) (k : ℕ) (e : Entry) (t : Task) (sources : List Source) (v : Verdict) → state_of b n m inputs es ≡ s → find_id t.id.0 (map machine_row es) ≡ Some (k, machine_row e) → v ≡ verdict_at (seen inputs es) (k, machine_row e) t → is_kept v ≡ true → state_of b n m inputs (set es k (with_data (kept_data t sources) e)) ≡ after_keep s t
+state_kept b n m inputs es s k e t sources v y x z h = sym (
     ap (λ (z : State). after_keep z t) (sym y)
     ∙ ap (λ o. kept_on (state_of b n m inputs es) (verdict_of (state_of b n m inputs es) t) o (work_of t)) x
     ∙ ap (λ q. kept_on (state_of b n m inputs es) q (Some (k, machine_row e)) (work_of t)) (answer_found b n m inputs es (state_of b n m inputs es) k e t refl x ∙ sym z ∙ kept_verdict v h)
-    ∙ ap (λ (rs : List Row). record { board = b; edits = n; inputs = inputs; next = m; rows = rs }) (sym (map-set machine_row es k (with_data (kept_data t) e))))
+    ∙ ap (λ (rs : List Row). record { board = b; edits = n; inputs = inputs; next = m; rows = rs }) (sym (map-set machine_row es k (with_data (kept_data t sources) e))))
 
 -- the entry of an id that was found at a place of the program
 pub found_entry : (i j : ℕ) (rows : List Entry) (k : ℕ) → j ≡ i → Some k ≡ place_of rows j → (e : Entry) × (find_id i (map machine_row rows) ≡ Some (k, machine_row e)) × (slice_get rows k ≡ Some e)
@@ -71,15 +72,15 @@ pub brought_same : (b : Board) (n m : ℕ) (inputs : Inputs) (es : List Entry) (
 brought_same b n m inputs es s k e t v y x z h = sym (bring_other s (verdict_of s t) (find_row s t.id) (work_of t) (ap is_kept (answer_found b n m inputs es s k e t y x ∙ sym z) ∙ h))
 
 -- a row was settled of a state at rest
-pub was_settled : (b : Board) (n m : ℕ) (inputs : Inputs) (es : List Entry) (s : State) (k : ℕ) (e : Entry) (t : Task) → state_of b n m inputs es ≡ s → slice_get es k ≡ Some e → IsAtRest s → WasSettled (state_of b n m inputs (set es k (with_data (kept_data t) e))) k
-was_settled b n m inputs es s k e t y at rests = record {
+pub was_settled : (b : Board) (n m : ℕ) (inputs : Inputs) (es : List Entry) (s : State) (k : ℕ) (e : Entry) (t : Task) (sources : List Source) → state_of b n m inputs es ≡ s → slice_get es k ≡ Some e → IsAtRest s → WasSettled (state_of b n m inputs (set es k (with_data (kept_data t sources) e))) k
+was_settled b n m inputs es s k e t sources y at rests = record {
   before = s;
   row = machine_row e;
-  next = machine_row (with_data (kept_data t) e);
+  next = machine_row (with_data (kept_data t sources) e);
   rests = rests;
   here = ap (λ (u : State). slice_get u.rows k) (sym y) ∙ row_at es k e at;
   settled = refl;
   plan = refl;
-  now = ap (λ (rs : List Row). record { board = b; edits = n; inputs = inputs; next = m; rows = rs }) (map-set machine_row es k (with_data (kept_data t) e))
-      ∙ ap (λ (u : State). record u { rows = set u.rows k (machine_row (with_data (kept_data t) e)) }) y;
+  now = ap (λ (rs : List Row). record { board = b; edits = n; inputs = inputs; next = m; rows = rs }) (map-set machine_row es k (with_data (kept_data t sources) e))
+      ∙ ap (λ (u : State). record u { rows = set u.rows k (machine_row (with_data (kept_data t sources) e)) }) y;
 }

@@ -15,6 +15,7 @@ use Rattle.paris_machine.proofs.Anywhere.{cut_early}
 use Rattle.paris_machine.proofs.Ends.{world_is}
 use Rattle.paris_book.specs.Statuses.{next_unsettled}
 use Rattle.paris_book.specs.Marks.{again_data}
+use Rattle.paris_book.specs.declared.sources.Source.{Source}
 use Rattle.paris_book.specs.Entries.{Entry, machine_row, with_data, seen}
 use Rattle.paris_book.specs.Steps.{cuts_on, cuts_at}
 use Rattle.paris_book.proofs.Finds.{entry_at, row_at}
@@ -30,9 +31,9 @@ module _ (b : Board) (n m : ℕ) (inputs : Inputs) (es : List Entry) (s : State)
   pub row_cut : (slice_get s.rows place ≡ Some (machine_row e)) × (is_cut s place (machine_row e) ≡ is_cut (seen inputs es) place (machine_row e))
   row_cut = subst (λ (z : State). (slice_get z.rows place ≡ Some (machine_row e)) × (is_cut z place (machine_row e) ≡ is_cut (seen inputs es) place (machine_row e))) y (row_at es place e at, refl)
 
-  pub cut_state : is_cut (seen inputs es) place (machine_row e) ≡ true → state_of b n m inputs (set es place (with_data again_data e)) ≡ cut_at s place
-  cut_state h =
-      ap (λ (rs : List Row). record { board = b; edits = n; inputs = inputs; next = m; rows = rs }) (map-set machine_row es place (with_data again_data e))
+  pub cut_state : (sources : List Source) → is_cut (seen inputs es) place (machine_row e) ≡ true → state_of b n m inputs (set es place (with_data (again_data sources) e)) ≡ cut_at s place
+  cut_state sources h =
+      ap (λ (rs : List Row). record { board = b; edits = n; inputs = inputs; next = m; rows = rs }) (map-set machine_row es place (with_data (again_data sources) e))
       ∙ ap (λ (z : State). with_status z (place, machine_row e) Settled) y
       ∙ ap (λ c. cond c (with_status s (place, machine_row e) Settled) s) (sym (row_cut.1 ∙ h))
       ∙ ap (cut_found s place) (sym row_cut.0)

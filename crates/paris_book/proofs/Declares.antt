@@ -1,5 +1,5 @@
 -- A declaration leaves all rows, and keeps what is always true of a book.
-use Rattle.std.proofs.Common.{◌≡◌, ℕ, ◌<◌, ◌≤◌, ◌+◌, List, [], ◌∷◌, ◌++◌, Bool, true, false, cond, Option, Some, None, refl, sym, ap, ◌∙◌, subst, arith, eqb, map, length, zero, suc, set, get_or, slice_get, length-append}
+use Rattle.std.proofs.Common.{◌≡◌, ℕ, ◌<◌, ◌≤◌, ◌+◌, ◌⊎◌, inl, inr, List, [], ◌∷◌, ◌++◌, Bool, true, false, cond, Option, Some, None, refl, sym, ap, ◌∙◌, subst, arith, eqb, map, length, zero, suc, set, get_or, slice_get, length-append}
 use Rattle.std.proofs.Math.Path.{ap₂}
 use Rattle.std.proofs.lemmas.Bool.Decides.{Decides-eqb}
 use Rattle.std.proofs.lemmas.Bool.{eqb-true}
@@ -38,6 +38,7 @@ use Rattle.paris_book.proofs.Recipes.{judged_swept}
 use Rattle.paris_book.proofs.Values.{Agree, sound_swept, swept_rows}
 use Rattle.paris_book.proofs.EditLemmas.{same_new_start}
 use Rattle.paris_book.specs.Touched.{AreEnough}
+use Rattle.paris_book.proofs.Sourced.{all_stand, every_stays, sourced_from}
 use Rattle.paris_book.proofs.Inserts.{rows_up, fitted_up, state_of}
 use Rattle.paris_book.proofs.TouchedEdits.{input_enough}
 
@@ -132,6 +133,13 @@ module _ (n : ℕ) (d : Key → Bool) (old new : Inputs) (news : News n d old ne
       by_test true e = rw (news.given k e) (omega arith)
       by_test false e = rw (news.same k e) (let y : number_in (input_of old k) ≤ n = below k in omega arith)
 
+  news_told : (k : Key) (v : Input) → input_of new k ≡ Some v → (input_of old k ≡ Some v) ⊎ (n < v.number)
+  news_told k v has = by_test (d k) refl
+    where
+      by_test : (b : Bool) → d k ≡ b → (input_of old k ≡ Some v) ⊎ (n < v.number)
+      by_test true e = let number : v.number ≡ n + 1 = ap number_in (sym has) ∙ news.given k e in inr (omega (arith, number))
+      by_test false e = inl (sym (news.same k e) ∙ has)
+
   pub news_fitted : (es : List Entry) → AllFitted old es → AllFitted new es
   news_fitted es f = fitted_up old new es (λ k s h. by_test k s h (d k) refl) f
     where
@@ -154,6 +162,7 @@ module _ (n : ℕ) (d : Key → Bool) (old new : Inputs) (news : News n d old ne
         ids_apart = w.ids_apart;
         fitted = news_fitted es w.fitted;
         sound = subst (Sound (start_world new) (λ _. true)) quiet (sound_swept (n + 1) d (start_world old) (start_world new) (λ _. true) (λ _. true) news_agree (λ f t. refl) es w.sound);
+        sourced = sourced_from n (n + 1) old new es es (omega arith) (every_stays n (n + 1) es es (all_stand es)) news_told w.sourced;
       }
 
   -- no row is touched, so none can be cut off then

@@ -22,6 +22,7 @@ use Rattle.paris_book.proofs.Origins.{ripe, sound-take}
 use Rattle.paris_book.proofs.Recipes.{past_all}
 use Rattle.paris_book.proofs.EditLemmas.{eqb_flip, judged_delete, NotOf, not_of_all}
 use Rattle.paris_machine.proofs.Tests.{or_first, or_second}
+use Rattle.paris_book.proofs.Sourced.{Comes, Every, Stands, all_stand, every_drop, every_join, every_stays, every_swept, every_take, no_news, sourced_from}
 use Rattle.paris_book.proofs.Inserts.{rows_up, rows_swept, rows-take, rows-drop, rows-join, inputs_up, ids_swept, sound-drop, sound-join, agree_one_back, agree_ripen, fitted_swept, fitted-take, fitted-drop, fitted-join, state_of}
 
 -- an id that no row has is not that of this row, nor of the others
@@ -61,6 +62,7 @@ delete_whole b n m inputs es zs p e back few x w z =
     let rows : RowsBelow (n + 1) m es = rows_up n m (n + 1) m es (omega arith) (omega arith) w.rows_below in
     let behind : RowsBelow (n + 1) m (e ∷ back) = rw x at (rows-drop (n + 1) m es p rows) in
     let fits : AllFitted inputs (e ∷ back) = rw x at (fitted-drop inputs es p w.fitted) in
+    let stand : Every (Stands es) (e ∷ back) = rw x at (every_drop (Stands es) es p (all_stand es)) in
     let less = w.next_few in
     rw z (record {
       next_few = omega (arith, less);
@@ -73,6 +75,9 @@ delete_whole b n m inputs es zs p e back few x w z =
       ids_apart = rw (map-append (λ (y : Entry). y.0) (take p es) (swept_entries (n + 1) d back), ids_swept (n + 1) d back) (apart_without es p e back x w.ids_apart).1;
       fitted = fitted-join inputs (take p es) (swept_entries (n + 1) d back) (fitted-take inputs es p w.fitted) (fitted_swept inputs (n + 1) d back fits.1);
       sound = sound_delete (n + 1) (start_world inputs) (λ _. true) es p e back x w.sound;
+      sourced = sourced_from n (n + 1) inputs inputs es (take p es ++ swept_entries (n + 1) d back) (omega arith)
+          (every_join (Comes n (n + 1) es) (take p es) (swept_entries (n + 1) d back) (every_stays n (n + 1) es (take p es) (every_take (Stands es) es p (all_stand es))) (every_swept n d es back stand.1))
+          (no_news n inputs) w.sourced;
     })
 
 pub delete_view : (b : Board) (n m : ℕ) (inputs : Inputs) (es zs : List Entry) (s : State) (p : ℕ) (e : Entry) (back : List Entry) → drop p es ≡ e ∷ back → IsWhole b n m inputs es → zs ≡ take p es ++ swept_entries (n + 1) (has_key (writes e.1.plan)) back → state_of b n m inputs es ≡ s

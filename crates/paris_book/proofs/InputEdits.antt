@@ -1,5 +1,5 @@
 -- An input edit of a key keeps what is always true of a book.
-use Rattle.std.proofs.Common.{◌≡◌, ℕ, ◌<◌, ◌≤◌, ◌+◌, List, [], ◌∷◌, Bool, true, false, Option, IsSome, Some, None, refl, sym, ap, ◌∙◌, subst, arith, eqb, map, length, zero, suc, set, slice_get, length-set}
+use Rattle.std.proofs.Common.{◌≡◌, ℕ, ◌<◌, ◌≤◌, ◌+◌, ◌⊎◌, inl, inr, List, [], ◌∷◌, Bool, true, false, Option, IsSome, Some, None, refl, sym, ap, ◌∙◌, subst, arith, eqb, map, length, zero, suc, set, slice_get, length-set}
 use Rattle.std.proofs.Math.Path.{ap₂}
 use Rattle.std.proofs.lemmas.Bool.{eqb-true, eq-eqb}
 use Rattle.std.specs.Prelude.{not, ◌&&◌, ◌||◌}
@@ -26,6 +26,7 @@ use Rattle.paris_book.proofs.Recipes.{judged_swept}
 use Rattle.paris_book.proofs.Values.{Agree, sound_swept, swept_rows}
 use Rattle.paris_book.proofs.EditLemmas.{same_new_start}
 use Rattle.paris_machine.proofs.Tests.{or_first}
+use Rattle.paris_book.proofs.Sourced.{all_stand, every_swept, sourced_from}
 use Rattle.paris_book.proofs.Inserts.{rows_up, rows_swept, inputs_up, ids_swept, start_below, fitted_up, fitted_swept, state_of}
 
 get-set_same : {X : Type 0} (xs : List X) (i : ℕ) (x y : X) → slice_get xs i ≡ Some y → slice_get (set xs i x) i ≡ Some x
@@ -149,6 +150,17 @@ flags_stay inputs (Flag s flag) i = by_there (slice_get inputs.flags s)
     by_there None = refl
     by_there (Some x) = length-set inputs.flags s (with_flag_input x flag i)
 
+-- the input data of each key is as it was, or has the new number
+input_news : (n : ℕ) (inputs : Inputs) (k : Key) (i j : Input) → input_of inputs k ≡ Some j → i.number ≡ n + 1 → (f : Key) (v : Input) → input_of (with_input inputs k i) f ≡ Some v → (input_of inputs f ≡ Some v) ⊎ (n < v.number)
+input_news n inputs k i j there new f v has = by_test (key_eq f k) refl
+  where
+    by_test : (b : Bool) → key_eq f k ≡ b → (input_of inputs f ≡ Some v) ⊎ (n < v.number)
+    by_test true t =
+        let is : Some i ≡ Some v = sym (ap (input_of (with_input inputs k i)) (key_eq-true f k t) ∙ input-set_same inputs k i j there) ∙ has in
+        let number : v.number ≡ n + 1 = ap number_in (sym is) ∙ new in
+        inr (omega (arith, number))
+    by_test false t = inl (sym (input-set_other inputs k f i t) ∙ has)
+
 -- the input data of a key that has the shape of another
 -- a key's input data, where it has some
 pub record Present (inputs : Inputs) (k : Key) : Type 0 where
@@ -179,6 +191,7 @@ input_whole b n m inputs es zs k i j few there new width count w z =
       ids_apart = rw (ids_swept (n + 1) d es) w.ids_apart;
       fitted = fitted_swept (with_input inputs k i) (n + 1) d es (fitted_up inputs (with_input inputs k i) es (λ f s h. stays f ∙ h) w.fitted);
       sound = sound_swept (n + 1) d (start_world inputs) (start_world (with_input inputs k i)) (λ _. true) (λ _. true) (input_agree inputs k i) (λ f t. refl) es w.sound;
+      sourced = sourced_from n (n + 1) inputs (with_input inputs k i) es (swept_entries (n + 1) d es) (omega arith) (every_swept n d es es (all_stand es)) (input_news n inputs k i j there new) w.sourced;
     })
 
 pub input_whole_at : (b : Board) (n m : ℕ) (inputs : Inputs) (es zs : List Entry) (k : Key) (i j : Input) → n < MAX_EDITS → input_of inputs k ≡ Some j → i.number ≡ n + 1 → i.value.width ≡ j.value.width → length i.value.numbers ≡ length j.value.numbers

@@ -1,5 +1,5 @@
 -- An insert keeps what is always true of a book.
-use Rattle.std.proofs.Common.{◌≡◌, ℕ, ◌<◌, ◌≤◌, ◌+◌, List, [], ◌∷◌, ◌++◌, Bool, true, false, cond, Some, refl, sym, ap, ◌∙◌, subst, arith, eqb, map, take, drop, zero, suc}
+use Rattle.std.proofs.Common.{◌≡◌, ℕ, ◌<◌, ◌≤◌, ◌+◌, inr, List, [], ◌∷◌, ◌++◌, Bool, true, false, cond, Some, refl, sym, ap, ◌∙◌, subst, arith, eqb, map, take, drop, zero, suc}
 use Rattle.std.proofs.lemmas.Bool.Decides.{Decides-eqb}
 use Rattle.std.proofs.lemmas.List.{take-map, drop-map, map-append}
 use Rattle.std.specs.List.{list_any}
@@ -28,6 +28,7 @@ use Rattle.paris_book.proofs.Recipes.{past_all}
 use Rattle.paris_book.proofs.EditLemmas.{judged_insert, below_all, Below}
 use Rattle.paris_machine.proofs.Tests.{or_first, or_second}
 use Rattle.paris_machine.specs.State.{IdsApart}
+use Rattle.paris_book.proofs.Sourced.{Comes, Stands, all_stand, every_drop, every_join, every_stays, every_swept, every_take, no_news, none_told, sourced_from}
 
 pub sound-drop : (w : World) (h : Key → Bool) (es : List Entry) (p : ℕ) → Sound w h es → Sound (run w (map entry_plan (take p es))) (ripe h (take p es)) (drop p es)
 sound-drop w h [] zero s = tt
@@ -188,6 +189,10 @@ insert_whole b n m inputs es zs p x few fit w z =
       ids_apart = rw (map-append (λ (y : Entry). y.0) (take p es) (e ∷ back)) (apart_insert m n es p (ids_of back) w.ids_apart w.rows_below (ids_swept (n + 1) d (drop p es)));
       fitted = fitted-join inputs (take p es) (e ∷ back) (fitted-take inputs es p w.fitted) (fit, fitted_swept inputs (n + 1) d (drop p es) (fitted-drop inputs es p w.fitted));
       sound = sound_insert (n + 1) (start_world inputs) (λ _. true) es p e w.sound refl;
+      sourced = sourced_from n (n + 1) inputs inputs es (take p es ++ e ∷ back) (omega arith)
+          (every_join (Comes n (n + 1) es) (take p es) (e ∷ back) (every_stays n (n + 1) es (take p es) (every_take (Stands es) es p (all_stand es)))
+          (inr (record { done = refl; sources = none_told; edition = refl; above = omega arith }), every_swept n d es (drop p es) (every_drop (Stands es) es p (all_stand es))))
+          (no_news n inputs) w.sourced;
     })
 
 pub insert_view : (b : Board) (n m : ℕ) (inputs : Inputs) (es zs : List Entry) (s : State) (p : ℕ) (x : Plan) → IsWhole b n m inputs es → zs ≡ inserted_rows n m es p x → state_of b n m inputs es ≡ s → state_of b (n + 1) (m + 1) inputs zs ≡ row_inserted s p x

@@ -18,6 +18,7 @@ pub mod Indexing
 pub mod InputEdits
 pub mod Inserts
 pub mod Listed
+pub mod Naming
 pub mod Origins
 pub mod OwnOrders
 pub mod Pending
@@ -37,6 +38,7 @@ pub mod Settled
 pub mod Settling
 pub mod Shows
 pub mod Slots
+pub mod Sourced
 pub mod Spans
 pub mod Sweeping
 pub mod Swept

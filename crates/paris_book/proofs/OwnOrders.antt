@@ -1,17 +1,13 @@
 -- The order that a row would give now, by the entries, and what keeping its result leaves of a book.
-use Rattle.std.proofs.Common.{◌≡◌, ℕ, List, Bool, true, false, cond, Option, Some, None, refl, sym, ap, ◌∙◌, map, set, slice_get}
-use Rattle.std.proofs.Math.Path.{ap₂}
+use Rattle.std.proofs.Common.{◌≡◌, ℕ, ◌≤◌, List, Bool, true, false, cond, Option, Some, None, refl, sym, ap, ◌∙◌, subst, map, set, slice_get}
 use Rattle.std.proofs.lemmas.List.{map-set}
 use Rattle.std.proofs.lemmas.Option.{slice_get-map}
-use Rattle.std.specs.Prelude.{◌&&◌, not}
 use Rattle.std.specs.Option.{option_map, unwrap_or}
 use Rattle.std.specs.List.{list_all}
-use Rattle.std.specs.Cmp.Lexicographic.{pointwise}
 use Rattle.paris_board.specs.Board.{Board}
 use Rattle.paris_model.specs.Frame.{World}
 use Rattle.paris_model.specs.Instructions.{reads}
-use Rattle.paris_instr.specs.PlanEq.{plan_eq}
-use Rattle.paris_field.specs.Fields.{FieldNumbers, field_eq}
+use Rattle.paris_names.specs.declared.ids.Edition.{Edition}
 use Rattle.paris_exec.specs.Tasks.{Task}
 use Rattle.paris_events.specs.Rows.{is_settled}
 use Rattle.paris_events.specs.declared.rows.Status.TheVariants.{Settled}
@@ -21,16 +17,16 @@ use Rattle.paris_machine.specs.Settling.{work_in}
 use Rattle.paris_book.specs.Marks.{kept_data}
 use Rattle.paris_book.specs.Entries.{Entry, machine_row, with_data, seen}
 use Rattle.paris_book.proofs.Among.{firm_among, inputs_among, order_among}
-use Rattle.paris_book.specs.Verdicts.{last_by, cut_by}
-use Rattle.paris_book.specs.Steps.{cuts_on, cuts_at, order_on, own_order, run_on, run_at}
+use Rattle.paris_book.specs.Sources.{AreSources}
+use Rattle.paris_book.specs.declared.sources.Source.{Source}
+use Rattle.paris_book.specs.Steps.{order_on, own_order, run_on, run_at}
 use Rattle.paris_book.specs.Whole.{IsWhole}
-use Rattle.paris_book.proofs.Cutting.{row_cut}
 use Rattle.paris_book.proofs.Finds.{row_at}
 use Rattle.paris_book.proofs.Inserts.{state_of}
 use Rattle.paris_book.proofs.Settling.{kept_whole}
-use Rattle.paris_book.proofs.Shows.{now_is, present_seen}
+use Rattle.paris_book.proofs.Naming.{others_free}
+use Rattle.paris_book.proofs.Shows.{now_is}
 use Rattle.paris_book.proofs.Takes.{own_seen}
-use Rattle.paris_machine.specs.CutOff.{is_cut, is_last_present}
 
 -- what a choice gave tells how it was made
 pub cond_some : {X : Type 0} (b : Bool) (x y : X) → Some x ≡ cond b (Some y) None → (b ≡ true) × (x ≡ y)
@@ -61,37 +57,17 @@ module _ (b : Board) (n m : ℕ) (inputs : Inputs) (es : List Entry) (s : State)
         let found = own_entry in
         ap (λ (o : Option Entry). (unwrap_or o e).1.plan) (sym at ∙ found.1) ∙ ap (λ (z : Task). z.plan) (sym found.3)
 
-    -- whether it is cut off is seen by the values in the order
-    pub cut_by_own : (e : Entry) → slice_get es place ≡ Some e → cut_by t.inputs e ≡ is_cut (seen inputs es) place (machine_row e)
-    cut_by_own e at = ap (λ b. not (is_settled e.1.status) && b) (by_done e.1.done)
-      where
-        found : (f : Entry) × (slice_get es place ≡ Some f) × (list_all (firm_among es place) (reads f.1.plan) ≡ true) × (t ≡ order_among inputs es place f)
-        found = own_entry
+    pub own_whole : (e : Entry) (sources : List Source) → slice_get es place ≡ Some e → list_all (firm_among es place) (reads e.1.plan) ≡ true → t ≡ order_among inputs es place e → is_settled e.1.status ≡ false → AreSources inputs es place (reads e.1.plan) sources → IsWhole b n m inputs es
+        → IsWhole b n m inputs (set es place (with_data (kept_data t sources) e))
+    own_whole e sources at firm is unsettled from w =
+        let edition : t.edition ≡ e.1.edition = ap (λ (u : Task). u.edition) is in
+        kept_whole b n m inputs es place e t sources at firm (ap (λ (u : Task). u.inputs) (sym is)) (ap (λ (u : Task). u.plan) (sym is)) from
+        (subst (λ (c : Edition). c.0 ≤ n) (sym edition) (w.sourced.numbers place e at).edition)
+        (others_free n inputs es place e (with_data (kept_data t sources) e) t at unsettled refl refl edition w.sourced) w
 
-        same : found.0 ≡ e
-        same = ap (λ (o : Option Entry). unwrap_or o e) (sym found.1 ∙ at)
-
-        firm : list_all (firm_among es place) (reads e.1.plan) ≡ true
-        firm = ap (λ (z : Entry). list_all (firm_among es place) (reads z.1.plan)) (sym same) ∙ found.2
-
-        values : t.inputs ≡ inputs_among inputs es place e.1.plan
-        values = ap (λ (u : Task). u.inputs) found.3 ∙ ap (λ (z : Entry). inputs_among inputs es place z.1.plan) same
-
-        by_done : (o : Option Task) → last_by t.inputs e o ≡ is_last_present (seen inputs es) place (machine_row e) (option_map work_of o)
-        by_done None = refl
-        by_done (Some d) =
-            ap₂ (λ (f : Bool) (v : List FieldNumbers). plan_eq e.1.plan d.plan && (f && pointwise field_eq v d.inputs)) (sym firm) values
-            ∙ sym (present_seen inputs es place e d)
-
-    pub cuts_here : (c : Bool) (e : Entry) → slice_get es place ≡ Some e → c ≡ cut_by t.inputs e → c ≡ cuts_at s place
-    cuts_here c e at is = is ∙ cut_by_own e at ∙ (let row = row_cut b n m inputs es s place e y at in sym row.1 ∙ ap (cuts_on s place) (sym row.0))
-
-    pub own_whole : (e : Entry) → slice_get es place ≡ Some e → list_all (firm_among es place) (reads e.1.plan) ≡ true → t ≡ order_among inputs es place e → IsWhole b n m inputs es → IsWhole b n m inputs (set es place (with_data (kept_data t) e))
-    own_whole e at firm is w = kept_whole b n m inputs es place e t at firm (ap (λ (u : Task). u.inputs) (sym is)) (ap (λ (u : Task). u.plan) (sym is)) w
-
-  pub own_state : (t : Task) (e : Entry) → slice_get es place ≡ Some e → t ≡ order_among inputs es place e → state_of b n m inputs (set es place (with_data (kept_data t) e)) ≡ run_at s place
-  own_state t e at is =
-      ap (λ (rs : List Row). record { board = b; edits = n; inputs = inputs; next = m; rows = rs }) (map-set machine_row es place (with_data (kept_data t) e))
+  pub own_state : (t : Task) (e : Entry) (sources : List Source) → slice_get es place ≡ Some e → t ≡ order_among inputs es place e → state_of b n m inputs (set es place (with_data (kept_data t sources) e)) ≡ run_at s place
+  own_state t e sources at is =
+      ap (λ (rs : List Row). record { board = b; edits = n; inputs = inputs; next = m; rows = rs }) (map-set machine_row es place (with_data (kept_data t sources) e))
       ∙ ap (λ (w : Work). record { board = b; edits = n; inputs = inputs; next = m; rows = set (map machine_row es) place (record (machine_row e) { status = Settled; last = Some w }) }) work
       ∙ ap (run_on (state_of b n m inputs es) place) (sym (row_at es place e at))
       ∙ ap (λ (z : State). run_at z place) y

@@ -1,5 +1,5 @@
 -- A book of which no order is out any more is as whole as it was.
-use Rattle.std.proofs.Common.{◌≡◌, ℕ, List, [], ◌∷◌, Bool, true, cond, refl, sym, ap, ◌∙◌, map}
+use Rattle.std.proofs.Common.{◌≡◌, ℕ, inl, List, [], ◌∷◌, Bool, true, cond, refl, sym, ap, ◌∙◌, arith, map}
 use Rattle.std.proofs.lemmas.Map.Made.{keys_of-map_values}
 use Rattle.paris_names.specs.declared.keys.Key.{Key}
 use Rattle.paris_names.specs.Keys.{has_key}
@@ -17,6 +17,7 @@ use Rattle.paris_events.specs.declared.rows.Status.{Status}
 use Rattle.paris_events.specs.declared.rows.Status.TheVariants.{Waiting, Out, Settled}
 use Rattle.paris_book.proofs.Inserts.{state_of}
 use Rattle.paris_book.proofs.Settling.{sound_more}
+use Rattle.paris_book.proofs.Sourced.{Comes, Every, Stands, all_stand, no_news, sourced_from}
 
 -- what is settled stays so, and nothing else becomes so
 pub settled_same : (s : Status) → is_settled (recalled_status s) ≡ is_settled s
@@ -44,6 +45,11 @@ fitted_recalled : (inputs : Inputs) (es : List Entry) → AllFitted inputs es �
 fitted_recalled inputs [] f = tt
 fitted_recalled inputs (e ∷ es) f = (f.0, fitted_recalled inputs es f.1)
 
+every_recalled : (n : ℕ) (es xs : List Entry) → Every (Stands es) xs → Every (Comes n n es) (map (with_data recalled_data) xs)
+every_recalled n es [] all = tt
+every_recalled n es (x ∷ xs) all =
+    (inl (record { place = all.0.place; e = x; at = all.0.at; id = refl; done = refl; sources = refl; edition = inl (refl, λ u. sym (settled_same x.1.status) ∙ u) }), every_recalled n es xs all.1)
+
 pub release_whole : (b : Board) (n m : ℕ) (inputs : Inputs) (es : List Entry) → IsWhole b n m inputs es → IsWhole b n m inputs (map (with_data recalled_data) es)
 release_whole b n m inputs es w = record {
   next_few = w.next_few;
@@ -56,6 +62,7 @@ release_whole b n m inputs es w = record {
   ids_apart = rw (keys_of-map_values recalled_data es) w.ids_apart;
   fitted = fitted_recalled inputs es w.fitted;
   sound = sound_recalled (start_world inputs) (λ _. true) es w.sound;
+  sourced = sourced_from n n inputs inputs es (map (with_data recalled_data) es) (omega arith) (every_recalled n es es (all_stand es)) (no_news n inputs) w.sourced;
 }
 
 view_recalled : (es : List Entry) → map machine_row (map (with_data recalled_data) es) ≡ map recalled_row (map machine_row es)

@@ -1,5 +1,5 @@
 -- A replace keeps what is always true of a book.
-use Rattle.std.proofs.Common.{◌≡◌, ℕ, ◌<◌, ◌≤◌, ◌+◌, List, ◌∷◌, ◌++◌, Bool, true, refl, sym, ap, ◌∙◌, arith, map, take, drop}
+use Rattle.std.proofs.Common.{◌≡◌, ℕ, ◌<◌, ◌≤◌, ◌+◌, inl, inr, List, ◌∷◌, ◌++◌, Bool, true, refl, sym, ap, ◌∙◌, arith, map, take, drop}
 use Rattle.std.proofs.lemmas.List.{take-map, drop-map, map-append, take-append-drop}
 use Rattle.paris_names.specs.declared.keys.Key.{Key}
 use Rattle.paris_names.specs.Keys.{has_key}
@@ -21,6 +21,7 @@ use Rattle.paris_book.proofs.Origins.{ripe, sound-take}
 use Rattle.paris_book.proofs.Recipes.{past_all}
 use Rattle.paris_book.proofs.EditLemmas.{judged_replace, Below, below_all, NotOf, not_of_all}
 use Rattle.paris_machine.proofs.Tests.{or_first, or_second}
+use Rattle.paris_book.proofs.Sourced.{Comes, Every, Stands, all_stand, every_drop, every_join, every_stays, every_swept, every_take, no_news, sourced_from}
 use Rattle.paris_book.proofs.Inserts.{rows_up, rows_swept, rows-take, rows-drop, rows-join, inputs_up, ids_swept, start_below, sound-drop, sound-join, agree_one, agree_one_back, agree_ripen, right_unsettled, fitted_swept, fitted-take, fitted-drop, fitted-join, state_of}
 use Rattle.paris_book.proofs.Deletes.{apart_without}
 
@@ -48,6 +49,7 @@ replace_whole b n m inputs es zs p e back x few fit y w z =
     let behind : RowsBelow (n + 1) m (e ∷ back) = rw y at (rows-drop (n + 1) m es p rows) in
     let fits : AllFitted inputs (e ∷ back) = rw y at (fitted-drop inputs es p w.fitted) in
     let ids : ids_of (take p es) ++ e.0 ∷ ids_of back ≡ ids_of es = sym (map-append (λ (v : Entry). v.0) (take p es) (e ∷ back)) ∙ ap (λ vs. ids_of (take p es ++ vs)) (sym y) ∙ ap ids_of (take-append-drop p es) in
+    let stand : Every (Stands es) (e ∷ back) = rw y at (every_drop (Stands es) es p (all_stand es)) in
     let less = w.next_few in
     rw z (record {
       next_few = omega (arith, less);
@@ -60,6 +62,10 @@ replace_whole b n m inputs es zs p e back x few fit y w z =
       ids_apart = rw (map-append (λ (v : Entry). v.0) (take p es) (u ∷ swept_entries (n + 1) d back), ids_swept (n + 1) d back, ids) w.ids_apart;
       fitted = fitted-join inputs (take p es) (u ∷ swept_entries (n + 1) d back) (fitted-take inputs es p w.fitted) (fit, fitted_swept inputs (n + 1) d back fits.1);
       sound = sound_replace n (start_world inputs) (λ _. true) es p e back x y w.sound;
+      sourced = sourced_from n (n + 1) inputs inputs es (take p es ++ u ∷ swept_entries (n + 1) d back) (omega arith)
+          (every_join (Comes n (n + 1) es) (take p es) (u ∷ swept_entries (n + 1) d back) (every_stays n (n + 1) es (take p es) (every_take (Stands es) es p (all_stand es)))
+          (inl (record { place = stand.0.place; e = e; at = stand.0.at; id = refl; done = refl; sources = refl; edition = inr (refl, omega arith) }), every_swept n d es back stand.1))
+          (no_news n inputs) w.sourced;
     })
 
 pub replace_view : (b : Board) (n m : ℕ) (inputs : Inputs) (es zs : List Entry) (s : State) (p : ℕ) (e : Entry) (back : List Entry) (x : Plan) → drop p es ≡ e ∷ back → IsWhole b n m inputs es

@@ -19,7 +19,12 @@ use Rattle.paris_events.specs.Rows.{is_settled}
 use Rattle.paris_events.specs.declared.rows.Status.TheVariants.{Settled}
 use Rattle.paris_machine.specs.State.{Inputs, start_world, work_of}
 use Rattle.paris_machine.specs.Orders.{is_firm}
+use Rattle.paris_names.specs.declared.ids.Edition.{Edition}
 use Rattle.paris_book.specs.Marks.{out_data, kept_data, again_data}
+use Rattle.paris_book.specs.Sources.{AreSources, NamesResult}
+use Rattle.paris_book.specs.declared.sources.Source.{Source}
+use Rattle.paris_book.proofs.Naming.{sourced_settled, others_free, others_same}
+use Rattle.paris_book.proofs.Sourced.{sourced_put}
 use Rattle.paris_book.specs.Kept.{ripen, Sound, present}
 use Rattle.paris_program.specs.Program.{ids_of}
 use Rattle.paris_book.specs.Whole.{RowsBelow, Fitted, AllFitted, IsWhole}
@@ -30,7 +35,7 @@ use Rattle.std.proofs.lemmas.Slice.Eq.{bytes_eq-Decides}
 use Rattle.paris_book.proofs.Origins.{ripe, ripe_is, is_firm_or}
 use Rattle.paris_book.proofs.Inserts.{right_unsettled}
 use Rattle.paris_machine.proofs.Tests.{and_first, and_second, all_more}
-use Rattle.paris_book.proofs.Shows.{present_seen}
+use Rattle.paris_book.proofs.Shows.{fitted_at, present_seen}
 use Rattle.paris_machine.specs.CutOff.{is_present, is_cut, is_last_present}
 use Rattle.paris_machine.specs.Results.{verdict_at}
 
@@ -46,9 +51,9 @@ pub sound_more : (w : World) (h h' : Key → Bool) → ((f : Key) → h f ≡ tr
 sound_more w h h' m [] s = tt
 sound_more w h h' m (e ∷ es) s = (record { kept = s.0.kept; origins = λ t. all_more h h' m (reads e.1.plan) (s.0.origins t) }, sound_more (one e.1.plan w) (ripen h e) (ripen h' e) (ripen_more h h' e m) es s.1)
 
-settle_more : (h : Key → Bool) (e : Entry) (t : Task) → (f : Key) → ripen h e f ≡ true → ripen h (with_data (kept_data t) e) f ≡ true
+settle_more : (h : Key → Bool) (e : Entry) (t : Task) (sources : List Source) → (f : Key) → ripen h e f ≡ true → ripen h (with_data (kept_data t sources) e) f ≡ true
 unfolding ripen
-settle_more h e t f x = by_has (has_key (writes e.1.plan) f) x
+settle_more h e t sources f x = by_has (has_key (writes e.1.plan) f) x
   where
     by_has : (b : Bool) → cond b (is_settled e.1.status) (h f) ≡ true → cond b true (h f) ≡ true
     by_has true y = refl
@@ -62,13 +67,13 @@ out_more h e u f x = by_has (has_key (writes e.1.plan) f) x
     by_has true y = absurd (let z : true ≡ false = sym y ∙ u in cc)
     by_has false y = y
 
-pub sound_kept : (w : World) (h : Key → Bool) (es : List Entry) (k : ℕ) (e : Entry) (t : Task) → slice_get es k ≡ Some e → t.plan ≡ e.1.plan → list_all (ripe h (take k es)) (reads e.1.plan) ≡ true → numbers_of t.inputs ≡ map (run w (map entry_plan (take k es))) (reads e.1.plan) → Sound w h es → Sound w h (set es k (with_data (kept_data t) e))
-sound_kept w h [] k e t x p a b s = absurd (cc)
-sound_kept w h (y ∷ es) zero e t x p a b s =
+pub sound_kept : (w : World) (h : Key → Bool) (es : List Entry) (k : ℕ) (e : Entry) (t : Task) (sources : List Source) → slice_get es k ≡ Some e → t.plan ≡ e.1.plan → list_all (ripe h (take k es)) (reads e.1.plan) ≡ true → numbers_of t.inputs ≡ map (run w (map entry_plan (take k es))) (reads e.1.plan) → Sound w h es → Sound w h (set es k (with_data (kept_data t sources) e))
+sound_kept w h [] k e t sources x p a b s = absurd (cc)
+sound_kept w h (y ∷ es) zero e t sources x p a b s =
     let same : y ≡ e = cc in
     let rest : Sound (one e.1.plan w) (ripen h e) es = subst (λ (z : Entry). Sound (one z.1.plan w) (ripen h z) es) same s.1 in
-    (record { kept = λ _. ap Some (ap₂ (λ u v. (u, v)) p b); origins = λ _. a }, sound_more (one e.1.plan w) (ripen h e) (ripen h (with_data (kept_data t) e)) (settle_more h e t) es rest)
-sound_kept w h (y ∷ es) (suc k) e t x p a b s = (s.0, sound_kept (one y.1.plan w) (ripen h y) es k e t x p a b s.1)
+    (record { kept = λ _. ap Some (ap₂ (λ u v. (u, v)) p b); origins = λ _. a }, sound_more (one e.1.plan w) (ripen h e) (ripen h (with_data (kept_data t sources) e)) (settle_more h e t sources) es rest)
+sound_kept w h (y ∷ es) (suc k) e t sources x p a b s = (s.0, sound_kept (one y.1.plan w) (ripen h y) es k e t sources x p a b s.1)
 
 sound_out : (w : World) (h : Key → Bool) (es : List Entry) (k : ℕ) (e : Entry) → slice_get es k ≡ Some e → is_settled e.1.status ≡ false → Sound w h es → Sound w h (set es k (with_data out_data e))
 sound_out w h [] k e x u s = absurd (cc)
@@ -115,6 +120,7 @@ take_whole b n m inputs es k e x u w = record {
   ids_apart = rw (ids_put (with_data out_data e) e refl refl refl es k x) w.ids_apart;
   fitted = fitted_put (with_data out_data e) e refl refl refl inputs es k x w.fitted;
   sound = sound_out (start_world inputs) (λ _. true) es k e x u w.sound;
+  sourced = sourced_put n inputs es k e (with_data out_data e) x refl refl refl refl (λ _. u) w.sourced;
 }
 
 -- the values that are brought are the present ones
@@ -144,49 +150,73 @@ firm_ripe es place (k ∷ ks) h =
     by_origin None t = refl
     by_origin (Some e) t = t
 
-kept_means : (inputs : Inputs) (es : List Entry) (place : ℕ) (e : Entry) (t : Task) → verdict_at (seen inputs es) (place, machine_row e) t ≡ Kept → present_among inputs es place e t ≡ true
-kept_means inputs es place e t h =
-    sym (present_seen inputs es place e t) ∙ go (eqb e.1.edition.0 t.edition.0) (is_settled e.1.status) (is_present (seen inputs es) place (machine_row e) (work_of t)) h
+-- what is kept is of the row's edition, of present values, and of an unsettled row
+record KeepsNow (inputs : Inputs) (es : List Entry) (place : ℕ) (e : Entry) (t : Task) : Type 0 where
+  pub edition : t.edition ≡ e.1.edition
+  pub unsettled : is_settled e.1.status ≡ false
+  pub agrees : present_among inputs es place e t ≡ true
+
+kept_means : (inputs : Inputs) (es : List Entry) (place : ℕ) (e : Entry) (t : Task) → verdict_at (seen inputs es) (place, machine_row e) t ≡ Kept → KeepsNow inputs es place e t
+kept_means inputs es place e t h = record {
+  edition = (let same : e.1.edition.0 ≡ t.edition.0 = eqb-true e.1.edition.0 t.edition.0 parts.0 in (λ i. record { 0 = sym same i }));
+  unsettled = parts.1;
+  agrees = sym (present_seen inputs es place e t) ∙ parts.2;
+}
   where
-    go : (a b c : Bool) → cond a (cond b Repeated (cond c Kept Foreign)) (Stale e.1.edition) ≡ Kept → c ≡ true
-    go a b true x = refl
+    go : (a b c : Bool) → cond a (cond b Repeated (cond c Kept Foreign)) (Stale e.1.edition) ≡ Kept → (a ≡ true) × (b ≡ false) × (c ≡ true)
+    go true false true x = (refl, refl, refl)
+    go true true true x = absurd (cc)
+    go false b true x = absurd (cc)
     go true true false x = absurd (cc)
     go true false false x = absurd (cc)
     go false b false x = absurd (cc)
 
--- a row that keeps the result of its own plan on the present values
-pub kept_whole : (b : Board) (n m : ℕ) (inputs : Inputs) (es : List Entry) (k : ℕ) (e : Entry) (t : Task) → slice_get es k ≡ Some e → list_all (firm_among es k) (reads e.1.plan) ≡ true → inputs_among inputs es k e.1.plan ≡ t.inputs → e.1.plan ≡ t.plan
-    → IsWhole b n m inputs es → IsWhole b n m inputs (set es k (with_data (kept_data t) e))
-kept_whole b n m inputs es k e t x firm values p w = record {
+    parts : (eqb e.1.edition.0 t.edition.0 ≡ true) × (is_settled e.1.status ≡ false) × (is_present (seen inputs es) place (machine_row e) (work_of t) ≡ true)
+    parts = go (eqb e.1.edition.0 t.edition.0) (is_settled e.1.status) (is_present (seen inputs es) place (machine_row e) (work_of t)) h
+
+-- a row that keeps the result of its own plan on the present values, with their sources
+pub kept_whole : (b : Board) (n m : ℕ) (inputs : Inputs) (es : List Entry) (k : ℕ) (e : Entry) (t : Task) (sources : List Source) → slice_get es k ≡ Some e → list_all (firm_among es k) (reads e.1.plan) ≡ true → inputs_among inputs es k e.1.plan ≡ t.inputs → e.1.plan ≡ t.plan
+    → AreSources inputs es k (reads e.1.plan) sources → t.edition.0 ≤ n → ((p : ℕ) (z : Entry) → slice_get es p ≡ Some z → NamesResult z (with_data (kept_data t sources) e))
+    → IsWhole b n m inputs es → IsWhole b n m inputs (set es k (with_data (kept_data t sources) e))
+kept_whole b n m inputs es k e t sources x firm values p from number others w = record {
   next_few = w.next_few;
   edits_few = w.edits_few;
   as_many_fields = w.as_many_fields;
   as_many_flags = w.as_many_flags;
   shaped = w.shaped;
   inputs_below = w.inputs_below;
-  rows_below = rows_put (with_data (kept_data t) e) e refl refl refl n m es k x w.rows_below;
-  ids_apart = rw (ids_put (with_data (kept_data t) e) e refl refl refl es k x) w.ids_apart;
-  fitted = fitted_put (with_data (kept_data t) e) e refl refl refl inputs es k x w.fitted;
-  sound = sound_kept (start_world inputs) (λ _. true) es k e t x (sym p) (firm_ripe es k (reads e.1.plan) firm) (ap numbers_of (sym values) ∙ numbers_among inputs es k e.1.plan (reads e.1.plan)) w.sound;
+  rows_below = rows_put (with_data (kept_data t sources) e) e refl refl refl n m es k x w.rows_below;
+  ids_apart = rw (ids_put (with_data (kept_data t sources) e) e refl refl refl es k x) w.ids_apart;
+  fitted = fitted_put (with_data (kept_data t sources) e) e refl refl refl inputs es k x w.fitted;
+  sound = sound_kept (start_world inputs) (λ _. true) es k e t sources x (sym p) (firm_ripe es k (reads e.1.plan) firm) (ap numbers_of (sym values) ∙ numbers_among inputs es k e.1.plan (reads e.1.plan)) w.sound;
+  sourced = sourced_settled n inputs es k e (with_data (kept_data t sources) e) t x refl refl refl refl number
+      (subst (λ (q : Plan). AreSources inputs es k (reads q) sources) p from) (ap (inputs_among inputs es k) (sym p) ∙ values) others
+      w.inputs_below w.ids_apart w.fitted (subst (Fitted inputs) p (fitted_at inputs es k e w.fitted x)) w.sound w.sourced;
 }
 
-pub bring_whole : (b : Board) (n m : ℕ) (inputs : Inputs) (es : List Entry) (k : ℕ) (e : Entry) (t : Task) → slice_get es k ≡ Some e → verdict_at (seen inputs es) (k, machine_row e) t ≡ Kept → e.1.plan ≡ t.plan → IsWhole b n m inputs es → IsWhole b n m inputs (set es k (with_data (kept_data t) e))
-bring_whole b n m inputs es k e t x v p w =
-    let rest = and_second (plan_eq e.1.plan t.plan) _ (kept_means inputs es k e t v) in
+pub bring_whole : (b : Board) (n m : ℕ) (inputs : Inputs) (es : List Entry) (k : ℕ) (e : Entry) (t : Task) (sources : List Source) → slice_get es k ≡ Some e → verdict_at (seen inputs es) (k, machine_row e) t ≡ Kept → e.1.plan ≡ t.plan → AreSources inputs es k (reads e.1.plan) sources
+    → IsWhole b n m inputs es → IsWhole b n m inputs (set es k (with_data (kept_data t sources) e))
+bring_whole b n m inputs es k e t sources x v p from w =
+    let means = kept_means inputs es k e t v in
+    let rest = and_second (plan_eq e.1.plan t.plan) _ means.agrees in
     let firm : list_all (firm_among es k) (reads e.1.plan) ≡ true = and_first (list_all (firm_among es k) (reads e.1.plan)) (pointwise field_eq (inputs_among inputs es k e.1.plan) t.inputs) rest in
     let values : inputs_among inputs es k e.1.plan ≡ t.inputs = same_values (inputs_among inputs es k e.1.plan) t.inputs (and_second (list_all (firm_among es k) (reads e.1.plan)) (pointwise field_eq (inputs_among inputs es k e.1.plan) t.inputs) rest) in
-    kept_whole b n m inputs es k e t x firm values p w
+    let number : t.edition.0 ≤ n = subst (λ (c : Edition). c.0 ≤ n) (sym means.edition) (w.sourced.numbers k e x).edition in
+    kept_whole b n m inputs es k e t sources x firm values p from number
+    (others_free n inputs es k e (with_data (kept_data t sources) e) t x means.unsettled refl refl means.edition w.sourced) w
 
--- a row that is cut off is settled by the result that it keeps, which is of its own plan on the present values
-pub again_whole : (b : Board) (n m : ℕ) (inputs : Inputs) (es : List Entry) (k : ℕ) (e : Entry) → slice_get es k ≡ Some e → is_cut (seen inputs es) k (machine_row e) ≡ true → ((d : Task) → e.1.done ≡ Some d → e.1.plan ≡ d.plan) → IsWhole b n m inputs es
-    → IsWhole b n m inputs (set es k (with_data again_data e))
-again_whole b n m inputs es k e x cut same_plan w = by_done e.1.done refl (and_second (not (is_settled e.1.status)) (is_last_present (seen inputs es) k (machine_row e) (option_map work_of e.1.done)) cut)
+-- a row that is cut off is settled by the result that it keeps, which is of its own plan on the present values, with their sources
+pub again_whole : (b : Board) (n m : ℕ) (inputs : Inputs) (es : List Entry) (k : ℕ) (e : Entry) (sources : List Source) → slice_get es k ≡ Some e → is_cut (seen inputs es) k (machine_row e) ≡ true → ((d : Task) → e.1.done ≡ Some d → e.1.plan ≡ d.plan) → AreSources inputs es k (reads e.1.plan) sources → IsWhole b n m inputs es
+    → IsWhole b n m inputs (set es k (with_data (again_data sources) e))
+again_whole b n m inputs es k e sources x cut same_plan from w = by_done e.1.done refl (and_second (not (is_settled e.1.status)) (is_last_present (seen inputs es) k (machine_row e) (option_map work_of e.1.done)) cut)
   where
-    by_done : (o : Option Task) → e.1.done ≡ o → is_last_present (seen inputs es) k (machine_row e) (option_map work_of o) ≡ true → IsWhole b n m inputs (set es k (with_data again_data e))
+    by_done : (o : Option Task) → e.1.done ≡ o → is_last_present (seen inputs es) k (machine_row e) (option_map work_of o) ≡ true → IsWhole b n m inputs (set es k (with_data (again_data sources) e))
     by_done None h t = absurd (let z : false ≡ true = t in cc)
     by_done (Some d) h t =
         let rest = and_second (plan_eq e.1.plan d.plan) _ (sym (present_seen inputs es k e d) ∙ t) in
         let firm : list_all (firm_among es k) (reads e.1.plan) ≡ true = and_first (list_all (firm_among es k) (reads e.1.plan)) (pointwise field_eq (inputs_among inputs es k e.1.plan) d.inputs) rest in
         let values : inputs_among inputs es k e.1.plan ≡ d.inputs = same_values (inputs_among inputs es k e.1.plan) d.inputs (and_second (list_all (firm_among es k) (reads e.1.plan)) (pointwise field_eq (inputs_among inputs es k e.1.plan) d.inputs) rest) in
         let plan : e.1.plan ≡ d.plan = same_plan d h in
-        subst (λ (o : Option Task). IsWhole b n m inputs (set es k (e.0, record e.1 { status = Settled; done = o }))) (sym h) (kept_whole b n m inputs es k e d x firm values plan w)
+        subst (λ (o : Option Task). IsWhole b n m inputs (set es k (e.0, record e.1 { status = Settled; done = o; sources = sources }))) (sym h)
+        (kept_whole b n m inputs es k e d sources x firm values plan from ((w.sourced.numbers k e x).result d h)
+        (others_same n inputs es k e (with_data (kept_data d sources) e) x refl (sym h) w.sourced) w)

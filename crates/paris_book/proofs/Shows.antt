@@ -105,7 +105,7 @@ origin_kept inputs es k place e s o t none =
     let wrong : nothing ≡ Some (e.1.plan, told.0) = ap last_kept (sym none) ∙ told.1 in
     absurd (cc)
 
-fitted_entry : (inputs : Inputs) (es : List Entry) (k : Key) (place : ℕ) (e : Entry) → AllFitted inputs es → origin_among es place k ≡ Some e → Fitted inputs e.1.plan
+pub fitted_entry : (inputs : Inputs) (es : List Entry) (k : Key) (place : ℕ) (e : Entry) → AllFitted inputs es → origin_among es place k ≡ Some e → Fitted inputs e.1.plan
 fitted_entry inputs [] k zero e f o = absurd (cc)
 fitted_entry inputs [] k (suc place) e f o = absurd (cc)
 fitted_entry inputs (x ∷ es) k zero e f o = absurd (cc)

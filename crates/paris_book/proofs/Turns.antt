@@ -86,6 +86,19 @@ module _ (s : State) (place : ℕ) where
         left : (r : Row) → slice_get s.rows place ≡ Some r → is_left s place r ≡ true
         left r at = ap₂ (λ a b. not (a || b)) (sym (ap settled_on at) ∙ unsettled) (sym (ap (cuts_on s place) at) ∙ uncut_here)
 
+    -- its turn's order is the one that it gives
+    pub turn_own : own_order s place ≡ turn_order s place
+    turn_own = by_row (slice_get s.rows place) unsettled uncut_here
+      where
+        by_free : (r : Row) (l b : Bool) → l ≡ true → cond b (Some (order_of s (place, r))) None ≡ cond (l && b) (cond b (Some (order_of s (place, r))) None) None
+        by_free r true true h = refl
+        by_free r true false h = refl
+        by_free r false b h = absurd (let x : false ≡ true = h in cc)
+
+        by_row : (o : Option Row) → settled_on o ≡ false → cuts_on s place o ≡ false → order_on s place o ≡ cond (runs_on s place o) (order_on s place o) None
+        by_row None u c = refl
+        by_row (Some r) u c = by_free r (is_left s place r) (is_free s place r) (ap₂ (λ a b. not (a || b)) u c)
+
     -- it waits, where it gives no order
     pub turn_waits : own_order s place ≡ None → (false ≡ runs_at s place) × (s ≡ turned_at s place)
     turn_waits none = by_row (slice_get s.rows place) none unsettled uncut_here

@@ -10,6 +10,8 @@ pub mod Rounds
 pub mod Rows
 pub mod RowsInside
 pub mod SharedIndexes
+pub mod SourceLists
+pub mod Sources
 pub mod Statuses
 pub mod Steps
 pub mod TouchedIds

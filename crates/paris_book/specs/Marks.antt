@@ -10,6 +10,8 @@ use Rattle.paris_exec.specs.Tasks.{Task}
 use Rattle.paris_machine.specs.Orders.{recalled_status}
 use Rattle.paris_book.specs.Rows.{RowData}
 use Rattle.paris_book.specs.Entries.{Entry, with_data}
+use Rattle.paris_book.specs.SourceLists.{no_sources}
+use Rattle.paris_book.specs.declared.sources.Source.{Source}
 use Rattle.paris_events.specs.declared.rows.Status.TheVariants.{Waiting, Out, Settled}
 
 abbrev pub data_plan : RowData → Plan
@@ -17,11 +19,11 @@ data_plan row = row.plan
 
 -- a row that the edit of this number gives this plan
 abbrev pub fresh_data : Plan → ℕ → RowData
-fresh_data p n = record { plan = p; set_by = n; edition = record { 0 = n }; status = Waiting; done = None }
+fresh_data p n = record { plan = p; set_by = n; edition = record { 0 = n }; status = Waiting; done = None; sources = no_sources }
 
 -- a row to which the edit of this number gives another plan
 abbrev pub replaced_data : Plan → ℕ → RowData → RowData
-replaced_data p n row = record { plan = p; set_by = n; edition = record { 0 = n }; status = Waiting; done = row.done }
+replaced_data p n row = record { plan = p; set_by = n; edition = record { 0 = n }; status = Waiting; done = row.done; sources = row.sources }
 
 -- whether a plan or another one writes a key
 abbrev pub writes_either : Plan → Plan → Key → Bool
@@ -46,13 +48,13 @@ recalled_data row = record row { status = recalled_status row.status }
 abbrev pub out_data : RowData → RowData
 out_data row = record row { status = Out }
 
--- a row with the result that it keeps
-abbrev pub kept_data : Task → RowData → RowData
-kept_data t row = record row { status = Settled; done = Some t }
+-- a row with the result that it keeps, and the sources of the values that this one was computed by
+abbrev pub kept_data : Task → List Source → RowData → RowData
+kept_data t sources row = record row { status = Settled; done = Some t; sources = sources }
 
--- a row settled by the result that it keeps
-abbrev pub again_data : RowData → RowData
-again_data row = record row { status = Settled }
+-- a row settled by the result that it keeps, with the present sources of the same values
+abbrev pub again_data : List Source → RowData → RowData
+again_data sources row = record row { status = Settled; sources = sources }
 
 -- whether a row has one of these ids
 abbrev pub is_among : List ℕ → Entry → Bool

@@ -19,7 +19,7 @@ done_held (HeldCase.Done t) = Some t
 done_held (HeldCase.Replaced p t) = Some t
 
 abbrev pub row_of : Inside → RowData
-row_of r = record { plan = plan_held r.held; set_by = r.set_by; edition = r.edition; status = r.status; done = done_held r.held }
+row_of r = record { plan = plan_held r.held; set_by = r.set_by; edition = r.edition; status = r.status; done = done_held r.held; sources = r.sources.keys }
 
 -- a result, where it is of a plan
 abbrev pub of_plan : Plan → Option Task → Option Task

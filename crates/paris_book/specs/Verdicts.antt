@@ -1,12 +1,9 @@
--- What a row keeps: for a look at it, and beside values.
-use Rattle.std.specs.Prelude.{◌≡◌, Bool, true, false, ◌&&◌, not, List, length, Option, Some, None}
-use Rattle.std.specs.Cmp.Lexicographic.{pointwise}
+-- What a row keeps for a look at it.
+use Rattle.std.specs.Prelude.{◌≡◌, true, false, length, Some}
 use Rattle.paris_names.specs.declared.keys.Key.{Key}
 use Rattle.paris_names.specs.Keys.{has_key}
 use Rattle.paris_geometry.specs.Geometry.{processor_count}
 use Rattle.paris_model.specs.Instructions.{writes}
-use Rattle.paris_instr.specs.PlanEq.{plan_eq}
-use Rattle.paris_field.specs.Fields.{FieldNumbers, field_eq}
 use Rattle.paris_exec.specs.Tasks.{Task, task_value}
 use Rattle.paris_events.specs.Rows.{is_settled}
 use Rattle.paris_book.specs.Entries.{Entry, id_of}
@@ -21,12 +18,3 @@ KeptFor e k = is_settled e.1.status ≡ true → (d : Task) × (e.1.done ≡ Som
 abbrev pub LooksAt : SharedLook → Entry → Key → Type 0
 LooksAt (Settled v) e k = (is_settled e.1.status ≡ true) × ((d : Task) × (e.1.done ≡ Some d) × (v.now ≡ task_value d k) × (length v.now.numbers ≡ processor_count d.plan.axes))
 LooksAt (Pending id) e k = (is_settled e.1.status ≡ false) × (id ≡ id_of e)
-
--- whether the result that was last kept of a row is of its plan and of these values
-abbrev pub last_by : List FieldNumbers → Entry → Option Task → Bool
-last_by values e None = false
-last_by values e (Some t) = plan_eq e.1.plan t.plan && pointwise field_eq values t.inputs
-
--- the same of a row that is unsettled
-abbrev pub cut_by : List FieldNumbers → Entry → Bool
-cut_by values e = not (is_settled e.1.status) && last_by values e e.1.done

@@ -10,6 +10,7 @@ use Rattle.paris_book.specs.Kept.{Sound}
 use Rattle.paris_machine.specs.State.{Inputs, IdsApart, input_of, number_in, start_world}
 use Rattle.paris_machine.specs.declared.inputs.Input.{Input}
 use Rattle.paris_book.specs.Entries.{Entry}
+use Rattle.paris_book.specs.Sources.{IsSourced}
 use Rattle.paris_names.specs.declared.limits.TheConstants.{MAX_EDITS}
 
 -- the width of a key and how many numbers it has, if it is declared
@@ -54,3 +55,4 @@ pub record IsWhole (board : Board) (edits next : ℕ) (inputs : Inputs) (rows : 
   pub ids_apart : IdsApart (ids_of rows)
   pub fitted : AllFitted inputs rows
   pub sound : Sound (start_world inputs) (λ _. true) rows
+  pub sourced : IsSourced edits inputs rows

@@ -1,4 +1,5 @@
-//! Early cut-off: a row that would compute again what it computed last is settled with that, and nothing is executed.
+//! Early cut-off: a row that would compute again what it computed last is settled with that, and nothing is executed. It takes over the
+//! present sources of the values that it reads. Where these stay, nothing is compared when it is looked at again.
 
 ghost use Rattle.std.specs.Prelude.{◌≡◌, ◌<◌, length, slice_get, true, false, Some, if◌then◌else◌, IfOk, OnOk, OnErr};
 ghost use Rattle.paris_names.specs.declared.keys.Key.{Key as AnyKey};
@@ -9,9 +10,9 @@ ghost use Rattle.paris_machine.specs.State.{Row, find_row};
 ghost use Rattle.paris_machine.specs.CutOff.{cut_at, cut_off};
 ghost use Rattle.paris_book.specs.Touched.{cut_one, cut_listed};
 ghost use Rattle.paris_book.specs.Marks.{ids_in};
-ghost use Rattle.paris_book.specs.Steps.{WasSettled, cuts_at, left_at, own_order, settled_on, sweeps_at, swept_at, turn_order};
+ghost use Rattle.paris_book.specs.Steps.{WasSettled, cuts_at, left_at, settled_on, sweeps_at, swept_at, turn_order};
 
-use crate::looks::{is_cut, is_cut_by};
+use crate::looks::sources_if_cut;
 use crate::loose::Loose;
 use paris_depends::{is_any_marked, is_none_marked, mark};
 use paris_exec::Order;
@@ -38,24 +39,11 @@ impl Loose {
         if place >= self.rows.len() {
             return false;
         }
-        let cut = is_cut(&self.inputs, &self.rows, place);
-        if cut {
-            self.rows.settle_again(place);
-        }
-        cut
-    }
-
-    /// The same where the order is there that the row would give now, and with it the values at the keys that it reads.
-    fn cut_by(&mut self, place: usize, order: &Order) -> bool
-        requires { own_order self.old place ≡ Some order.now }
-        ensures cut { result ≡ cuts_at self.old place }
-        ensures state { self.new ≡ cut_at self.old place }
-    {
-        let cut = is_cut_by(&self.rows, place, order.inputs());
-        if cut {
-            self.rows.settle_again(place);
-        }
-        cut
+        let Some(sources) = sources_if_cut(&self.inputs, &self.rows, place) else {
+            return false;
+        };
+        self.rows.settle_again(place, sources);
+        true
     }
 
     /// The order by which the row at a place is run at its turn. `None` where it isn't: there is no row, or it is settled, or a key that
@@ -66,27 +54,11 @@ impl Loose {
         ensures err { OnErr result (self.new ≡ self.old) }
         ensures left { OnErr result (left_at self.old place ≡ true) }
     {
-        if self.is_settled_at(place) {
+        // A row that is cut off wants no order.
+        if self.is_settled_at(place) || self.cut_at(place) {
             return Ok(None);
         }
-        let Ok(own) = self.own_order(place) else {
-            // A row that is cut off wants no order.
-            return if self.cut_at(place) {
-                Ok(None)
-            } else {
-                Err(AllocError)
-            };
-        };
-        match own {
-            None => Ok(None),
-            Some(order) => {
-                if self.cut_by(place, &order) {
-                    Ok(None)
-                } else {
-                    Ok(Some(order))
-                }
-            }
-        }
+        self.own_order(place)
     }
 
     /// One pass over the rows in program order, which settles each that is cut off. It needs no memory.

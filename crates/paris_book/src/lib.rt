@@ -22,6 +22,7 @@ mod running;
 mod settlement;
 mod shared_index;
 mod snapshot;
+mod sources;
 mod statuses;
 mod wanted;
 mod work;

@@ -1,6 +1,6 @@
 //! What the rows and the input data show.
 
-ghost use Rattle.std.specs.Prelude.{◌≡◌, ◌<◌, ◌≤◌, ◌&&◌, ℕ, not, length, take, map, true, false, Some, None, if◌then◌else◌, IfOk, IfSome, IsSome, slice_get};
+ghost use Rattle.std.specs.Prelude.{◌≡◌, ◌<◌, ◌≤◌, ◌&&◌, ℕ, not, length, take, map, true, false, Some, None, if◌then◌else◌, IfOk, IfSome, IsSome, is_some, slice_get};
 ghost use Rattle.std.specs.Option.{option_map};
 ghost use Rattle.std.specs.List.{list_all, list_any};
 ghost use Rattle.std.specs.Cmp.Lexicographic.{pointwise};
@@ -19,7 +19,8 @@ ghost use Rattle.paris_machine.specs.Results.{verdict_at};
 ghost use Rattle.paris_book.specs.Kept.{Sound, present};
 ghost use Rattle.paris_book.specs.Whole.{AllFitted, Fitted, shape_in};
 ghost use Rattle.paris_book.specs.Among.{inputs_of, shown_at, shared_shown, LookFits};
-ghost use Rattle.paris_book.specs.Verdicts.{KeptFor, LooksAt, cut_by};
+ghost use Rattle.paris_book.specs.Sources.{AreNamed, AreSources, IsSource, SameArePresent, TellsResult};
+ghost use Rattle.paris_book.specs.Verdicts.{KeptFor, LooksAt};
 ghost use Rattle.paris_book.specs.Entries.{Entry, machine_row, seen, rows_seen};
 ghost use Rattle.paris_book.specs.Steps.{order_on};
 
@@ -27,6 +28,7 @@ use crate::inputs::{InputData, input_at};
 use crate::look::SharedLook;
 use crate::program_rows::Rows;
 use crate::rows::RowData;
+use crate::sources::{Source, Sources};
 use paris_depends::{is_any_marked, mark};
 use paris_events::Verdict;
 use paris_exec::{Done, Order};
@@ -167,25 +169,83 @@ pub(crate) fn is_firm(rows: &Rows, place: usize, key: &Key) -> bool
     }
 }
 
-/// Whether the origins of all these keys are.
-fn are_firm(rows: &Rows, place: usize, keys: &[Key]) -> bool
-    requires { place ≤ length rows.now.rows }
-    ensures { result ≡ list_all (λ k. is_firm_origin (origin_at (rows_seen rows.now.rows) place k)) keys.now }
+/// Where the value of a key comes from whose origin is a row. `None` where it waits for the row.
+fn source_in(id: RowId, row: &RowData) -> Option<Source>
+    ensures firm { is_some result ≡ is_settled row.now.status }
+    ensures source { IfSome result (λ s. TellsResult (id.0, row.now) s) }
 {
-    for key in keys {
-        if !is_firm(rows, place, key) {
-            return false;
+    if row.status().is_settled() {
+        match row.done() {
+            None => Some(Source::Unknown),
+            Some(done) => Some(Source::Row(id, done.order().edition())),
         }
+    } else {
+        None
     }
-    true
 }
 
-/// Whether values are the present ones at the keys that a plan reads. They aren't where a key waits for an unsettled row.
-fn agree(inputs: &InputData, rows: &Rows, place: usize, plan: &Plan, values: &[SharedValue]) -> bool
+/// Where the value of a key at a place comes from. `None` where it waits for an unsettled row.
+fn source_at(inputs: &InputData, rows: &Rows, place: usize, key: &Key) -> Option<Source>
+    requires { place ≤ length rows.now.rows }
+    ensures firm { is_some result ≡ is_firm_origin (origin_at (rows_seen rows.now.rows) place key.now) }
+    ensures source { IfSome result (λ s. IsSource (inputs_of inputs.now) rows.now.rows place key.now s) }
+{
+    match rows.origin(place, key) {
+        None => match input_at(inputs, key) {
+            Some(input) => Some(Source::Input(input.number)),
+            None => Some(Source::Unknown),
+        },
+        Some(id) => match rows.row(id) {
+            Some(row) => source_in(id, row),
+            None => unreachable!(),
+        },
+    }
+}
+
+/// Where the values at keys come from. `None` where one of them waits for an unsettled row.
+fn sources_at(inputs: &InputData, rows: &Rows, place: usize, keys: &[Key]) -> Option<Sources>
+    requires { place ≤ length rows.now.rows }
+    ensures firm { is_some result ≡ list_all (λ k. is_firm_origin (origin_at (rows_seen rows.now.rows) place k)) keys.now }
+    ensures sources { IfSome result (λ s. AreSources (inputs_of inputs.now) rows.now.rows place keys.now s.keys) }
+{
+    let mut sources = Sources::none();
+    for number in 0..keys.len() {
+        match source_at(inputs, rows, place, &keys[number]) {
+            None => return None,
+            Some(source) => sources.put(number, source),
+        }
+    }
+    Some(sources)
+}
+
+/// Where the values come from that the row at a place reads. Where one of them waits for an unsettled row, none counts as known.
+pub(crate) fn present_sources(inputs: &InputData, rows: &Rows, place: usize) -> Sources
+    requires { place < length rows.now.rows }
+    ensures { (e : Entry) → slice_get rows.now.rows place ≡ Some e → AreSources (inputs_of inputs.now) rows.now.rows place (reads e.1.plan) result.keys }
+{
+    let (_, row) = rows.at(place);
+    match sources_at(inputs, rows, place, row.plan().reads()) {
+        Some(sources) => sources,
+        None => Sources::none(),
+    }
+}
+
+/// Whether values are the present ones at the keys that a plan reads. They aren't where a key waits for an unsettled row. Where the
+/// source of a value is the present one, nothing is compared.
+fn agree(
+    inputs: &InputData,
+    rows: &Rows,
+    place: usize,
+    plan: &Plan,
+    values: &[SharedValue],
+    kept: &Sources,
+    present: &Sources,
+) -> bool
     requires within { place ≤ length rows.now.rows }
     requires sound { Sound (start_world (inputs_of inputs.now)) (λ _. true) rows.now.rows }
     requires fitted { AllFitted (inputs_of inputs.now) rows.now.rows }
     requires plan_fitted { Fitted (inputs_of inputs.now) plan.now }
+    requires same { SameArePresent (inputs_of inputs.now) rows.now.rows place plan.now values.now kept.now.keys present.now.keys }
     ensures { result ≡ (list_all (λ k. is_firm_origin (origin_at (rows_seen rows.now.rows) place k)) (reads plan.now)
         && pointwise field_eq (inputs_now (seen (inputs_of inputs.now) rows.now.rows) place plan.now) values.now) }
 {
@@ -194,6 +254,9 @@ fn agree(inputs: &InputData, rows: &Rows, place: usize, plan: &Plan, values: &[S
         return false;
     }
     for i in 0..keys.len() {
+        if kept.is_same_at(present, i) {
+            continue;
+        }
         match look_at(inputs, rows, place, &keys[i]) {
             SharedLook::Settled(value) => {
                 if !value.get().equals(values[i].get()) {
@@ -215,61 +278,49 @@ fn is_present(inputs: &InputData, rows: &Rows, place: usize, order: &Order) -> b
     ensures plan { (e : Entry) → slice_get rows.now.rows place ≡ Some e → result ≡ true → e.1.plan ≡ order.now.plan }
 {
     let (_, row) = rows.at(place);
-    row.plan().equals(order.plan()) && agree(inputs, rows, place, row.plan(), order.inputs())
+    let unknown = Sources::none();
+    row.plan().equals(order.plan())
+        && agree(
+            inputs,
+            rows,
+            place,
+            row.plan(),
+            order.inputs(),
+            &unknown,
+            &unknown,
+        )
 }
 
-/// Whether the row at a place is unsettled, and the result that was last kept of it is of its plan and of the present values. Values
-/// are compared where no key that the row reads waits, and else none is.
-pub(crate) fn is_cut(inputs: &InputData, rows: &Rows, place: usize) -> bool
+/// The present sources of what the row at a place reads, where it is unsettled, and the result that was last kept of it is of its plan
+/// and of the present values. Values are compared where no key that the row reads waits, and else none is.
+pub(crate) fn sources_if_cut(inputs: &InputData, rows: &Rows, place: usize) -> Option<Sources>
     requires within { place < length rows.now.rows }
     requires sound { Sound (start_world (inputs_of inputs.now)) (λ _. true) rows.now.rows }
     requires fitted { AllFitted (inputs_of inputs.now) rows.now.rows }
-    ensures value { (e : Entry) → slice_get rows.now.rows place ≡ Some e → result ≡ is_row_cut (seen (inputs_of inputs.now) rows.now.rows) place (machine_row e) }
-    ensures plan { (e : Entry) (d : Task) → slice_get rows.now.rows place ≡ Some e → result ≡ true → e.1.done ≡ Some d → e.1.plan ≡ d.plan }
-    ensures unsettled { (e : Entry) → slice_get rows.now.rows place ≡ Some e → result ≡ true → is_settled e.1.status ≡ false }
+    requires named { AreNamed (inputs_of inputs.now) rows.now.rows }
+    ensures value { (e : Entry) → slice_get rows.now.rows place ≡ Some e → is_some result ≡ is_row_cut (seen (inputs_of inputs.now) rows.now.rows) place (machine_row e) }
+    ensures plan { (e : Entry) (d : Task) → slice_get rows.now.rows place ≡ Some e → is_some result ≡ true → e.1.done ≡ Some d → e.1.plan ≡ d.plan }
+    ensures unsettled { (e : Entry) → slice_get rows.now.rows place ≡ Some e → is_some result ≡ true → is_settled e.1.status ≡ false }
+    ensures sources { (e : Entry) → slice_get rows.now.rows place ≡ Some e → IfSome result (λ s. AreSources (inputs_of inputs.now) rows.now.rows place (reads e.1.plan) s.keys) }
 {
     let (_, row) = rows.at(place);
     if row.status().is_settled() {
-        return false;
+        return None;
     }
     match row.result_of_plan() {
-        None => false,
-        Some(done) => {
-            are_firm(rows, place, row.plan().reads())
-                && agree(inputs, rows, place, row.plan(), done.order().inputs())
-        }
-    }
-}
-
-/// Whether values are the same, one by one.
-fn are_equal(values: &[SharedValue], others: &[SharedValue]) -> bool
-    ensures { result ≡ pointwise field_eq values.now others.now }
-{
-    if values.len() != others.len() {
-        return false;
-    }
-    for i in 0..values.len() {
-        if !values[i].get().equals(others[i].get()) {
-            return false;
-        }
-    }
-    true
-}
-
-/// Whether the row at a place is unsettled, and the result that was last kept of it is of its plan and of these values.
-pub(crate) fn is_cut_by(rows: &Rows, place: usize, values: &[SharedValue]) -> bool
-    requires within { place < length rows.now.rows }
-    ensures value { (e : Entry) → slice_get rows.now.rows place ≡ Some e → result ≡ cut_by values.now e }
-    ensures plan { (e : Entry) (d : Task) → slice_get rows.now.rows place ≡ Some e → result ≡ true → e.1.done ≡ Some d → e.1.plan ≡ d.plan }
-    ensures unsettled { (e : Entry) → slice_get rows.now.rows place ≡ Some e → result ≡ true → is_settled e.1.status ≡ false }
-{
-    let (_, row) = rows.at(place);
-    if row.status().is_settled() {
-        return false;
-    }
-    match row.result_of_plan() {
-        None => false,
-        Some(done) => are_equal(values, done.order().inputs()),
+        None => None,
+        Some(done) => match sources_at(inputs, rows, place, row.plan().reads()) {
+            None => None,
+            Some(present) => {
+                let own = row.plan();
+                let values = done.order().inputs();
+                if agree(inputs, rows, place, own, values, row.sources(), &present) {
+                    Some(present)
+                } else {
+                    None
+                }
+            }
+        },
     }
 }
 

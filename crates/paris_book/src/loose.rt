@@ -17,7 +17,7 @@ ghost use Rattle.paris_names.specs.declared.limits.TheConstants.{MAX_EDITS};
 
 use crate::inputs::InputData;
 use crate::look::SharedLook;
-use crate::looks::{first_ready, judge, look_at, order_at};
+use crate::looks::{first_ready, judge, look_at, order_at, present_sources};
 use crate::program_rows::Rows;
 use paris_board::Board;
 use paris_events::Verdict;
@@ -115,7 +115,8 @@ impl Loose {
                 if !verdict.is_kept() {
                     return verdict;
                 }
-                self.rows.keep(place, done);
+                let sources = present_sources(&self.inputs, &self.rows, place);
+                self.rows.keep(place, done, sources);
                 self.cut_behind(place);
                 verdict
             }

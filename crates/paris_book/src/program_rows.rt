@@ -17,6 +17,7 @@ ghost use Rattle.paris_book.specs.Statuses.{next_unsettled};
 
 use crate::rows::RowData;
 use crate::shared_index::SharedIndex;
+use crate::sources::Sources;
 use crate::statuses::Statuses;
 use paris_depends::{Looks, affected, origin};
 use paris_exec::Done;
@@ -187,48 +188,49 @@ impl Rows {
         self.statuses.set(place, row.status());
     }
 
-    /// Settles the row at a place, which is unsettled, by a result of its plan. Where no row is unsettled then, copies share all.
-    pub(crate) fn keep(&mut self, place: usize, done: Done)
+    /// Settles the row at a place, which is unsettled, by a result of its plan, which was computed by values of these sources. Where no
+    /// row is unsettled then, copies share all.
+    pub(crate) fn keep(&mut self, place: usize, done: Done, sources: Sources)
         requires unsettled { IsUnsettledAt self.old.rows place }
         requires plan { (e : Entry) → slice_get self.old.rows place ≡ Some e → e.1.plan ≡ done.plan }
-        ensures rows { ChangedAt (kept_data done) self.old.rows place self.new.rows }
+        ensures rows { ChangedAt (kept_data done sources.keys) self.old.rows place self.new.rows }
         ensures next_id { self.new.next_id ≡ self.old.next_id }
     {
-        self.put_result(place, done);
+        self.put_result(place, done, sources);
         self.share_all_settled();
     }
 
     /// Settles the row at a place, which is unsettled, by a result of its plan.
-    fn put_result(&mut self, place: usize, done: Done)
+    fn put_result(&mut self, place: usize, done: Done, sources: Sources)
         requires unsettled { IsUnsettledAt self.old.rows place }
         requires plan { (e : Entry) → slice_get self.old.rows place ≡ Some e → e.1.plan ≡ done.plan }
-        ensures rows { ChangedAt (kept_data done) self.old.rows place self.new.rows }
+        ensures rows { ChangedAt (kept_data done sources.keys) self.old.rows place self.new.rows }
         ensures next_id { self.new.next_id ≡ self.old.next_id }
     {
         let row = self.program.at_mut(place);
-        row.keep(done);
+        row.keep(done, sources);
         self.statuses.set(place, row.status());
     }
 
-    /// Settles the row at a place, which is unsettled, by the result that was last kept of it. Where no row is unsettled then, copies
-    /// share all.
-    pub(crate) fn settle_again(&mut self, place: usize)
+    /// Settles the row at a place, which is unsettled, by the result that was last kept of it, which would be computed by values of
+    /// these sources now. Where no row is unsettled then, copies share all.
+    pub(crate) fn settle_again(&mut self, place: usize, sources: Sources)
         requires { IsUnsettledAt self.old.rows place }
-        ensures rows { ChangedAt again_data self.old.rows place self.new.rows }
+        ensures rows { ChangedAt (again_data sources.keys) self.old.rows place self.new.rows }
         ensures next_id { self.new.next_id ≡ self.old.next_id }
     {
-        self.put_last(place);
+        self.put_last(place, sources);
         self.share_all_settled();
     }
 
     /// Settles the row at a place, which is unsettled, by the result that was last kept of it.
-    fn put_last(&mut self, place: usize)
+    fn put_last(&mut self, place: usize, sources: Sources)
         requires { IsUnsettledAt self.old.rows place }
-        ensures rows { ChangedAt again_data self.old.rows place self.new.rows }
+        ensures rows { ChangedAt (again_data sources.keys) self.old.rows place self.new.rows }
         ensures next_id { self.new.next_id ≡ self.old.next_id }
     {
         let row = self.program.at_mut(place);
-        row.settle_again();
+        row.settle_again(sources);
         self.statuses.set(place, row.status());
     }
 

@@ -5,6 +5,7 @@ ghost use Rattle.std.specs.Option.{option_copied};
 ghost use Rattle.paris_book.specs.RowsInside.{plan_held, done_held, of_plan};
 ghost use Rattle.paris_book.specs.Marks.{fresh_data, replaced_data, out_data, kept_data, again_data, recalled_data, stale_data};
 
+use crate::sources::Sources;
 use paris_events::Status;
 use paris_exec::Done;
 use paris_instr::{Plan, SharedPlan};
@@ -88,14 +89,15 @@ fn shared(alloc: Global, plan: Plan) -> Result<SharedPlan, AllocError>
     }
 }
 
-/// What the book keeps of a row, whose id is the program's, with the result that was last kept. Copies of a row share its plan and
-/// its result. A clause sees the plan, and the result beside it.
+/// What the book keeps of a row, whose id is the program's, with the result that was last kept and the sources of the values by
+/// which that was computed. Copies of a row share its plan and its result. A clause sees the plan, and the result beside it.
 #[derive(Debug, Drop)]
 pub struct RowData {
     held: RowContent,
     set_by: u64,
     edition: Edition,
     status: Status,
+    sources: Sources,
 }
 
 impl Model for RowData {
@@ -118,10 +120,11 @@ impl RowData {
             set_by: number,
             edition: Edition(number),
             status: Status::Waiting,
+            sources: Sources::none(),
         })
     }
 
-    /// The row once the edit of this number has given it another plan. It keeps the result.
+    /// The row once the edit of this number has given it another plan. It keeps the result with its sources.
     pub(crate) fn replaced(
         &self,
         alloc: Global,
@@ -137,6 +140,7 @@ impl RowData {
             set_by: number,
             edition: Edition(number),
             status: Status::Waiting,
+            sources: self.sources,
         })
     }
 
@@ -189,6 +193,13 @@ impl RowData {
         self.held.result_of_plan()
     }
 
+    /// The sources of the values by which the row was settled last.
+    pub(crate) fn sources(&self) -> &Sources
+        ensures { result.now.keys ≡ self.now.sources }
+    {
+        &self.sources
+    }
+
     /// Marks the row as one of which an order is out.
     pub(crate) fn hand_out(&mut self)
         ensures { self.new ≡ out_data self.old }
@@ -196,20 +207,22 @@ impl RowData {
         self.status = Status::Out;
     }
 
-    /// Settles the row by a result of its plan.
-    pub(crate) fn keep(&mut self, done: Done)
+    /// Settles the row by a result of its plan, which was computed by values of these sources.
+    pub(crate) fn keep(&mut self, done: Done, sources: Sources)
         requires { self.old.plan ≡ done.plan }
-        ensures { self.new ≡ kept_data done self.old }
+        ensures { self.new ≡ kept_data done sources.keys self.old }
     {
         self.status = Status::Settled;
+        self.sources = sources;
         self.held = RowContent::Done(done);
     }
 
-    /// Settles the row by the result that was last kept.
-    pub(crate) fn settle_again(&mut self)
-        ensures { self.new ≡ again_data self.old }
+    /// Settles the row by the result that was last kept, which would be computed by values of these sources now.
+    pub(crate) fn settle_again(&mut self, sources: Sources)
+        ensures { self.new ≡ again_data sources.keys self.old }
     {
         self.status = Status::Settled;
+        self.sources = sources;
     }
 
     /// Makes the row wait if an order of it is out.
@@ -241,6 +254,7 @@ impl Clone for RowData {
             set_by: self.set_by,
             edition: self.edition,
             status: self.status,
+            sources: self.sources,
         })
     }
 }

@@ -12,7 +12,7 @@ ghost use Rattle.paris_book.specs.Statuses.{next_unsettled};
 ghost use Rattle.paris_book.specs.Steps.{own_order, settled_on, run_at, left_at, runs_at, turned_at};
 
 use crate::book::Book;
-use crate::looks::order_at;
+use crate::looks::{order_at, present_sources};
 use crate::loose::Loose;
 use crate::program_rows::Rows;
 use paris_exec::{Done, Gate, OpenGate, Order, execute};
@@ -86,7 +86,8 @@ impl Loose {
         requires unsettled { settled_on (slice_get self.old.rows place) ≡ false }
         ensures { self.new ≡ run_at self.old place }
     {
-        self.rows.keep(place, done);
+        let sources = present_sources(&self.inputs, &self.rows, place);
+        self.rows.keep(place, done, sources);
     }
 
     /// Gives the row at a place its turn. An unsettled row that would compute again what it computed last is settled with that. Any

@@ -61,6 +61,27 @@ fn a_plan_that_is_turned_back_settles_its_row(rt: HostRuntime) -> Result<(), All
 }
 
 #[test]
+fn a_row_that_was_cut_off_is_cut_off_by_its_new_sources(rt: HostRuntime) -> Result<(), AllocError> {
+    const OTHER: Text = b"u-subtract-3-1L c b a 8";
+    const STEPS: &[Step] = &[
+        Settles(1),
+        Accepts(Input(b"a", 0, &[11])),
+        Accepts(Input(b"a", 0, &[1])),
+        Lists(&[(1, 9, Settled, SUM, None)]),
+        Accepts(Replace(1, OTHER)),
+        Accepts(Replace(1, SUM)),
+        Lists(&[(1, 11, Settled, SUM, None)]),
+        Shows(b"c", End, &[11, 22, 33, 4]),
+        // Other input data has another source, and other numbers.
+        Accepts(Input(b"a", 0, &[11])),
+        Lists(&[(1, 12, Waiting, SUM, None)]),
+        Settles(1),
+        Shows(b"c", End, &[21, 22, 33, 4]),
+    ];
+    plays_after(&rt, rt.alloc(), BOOK_OF_SUM, STEPS)
+}
+
+#[test]
 fn a_deleted_row_leaves_no_result_to_its_successor(rt: HostRuntime) -> Result<(), AllocError> {
     const STEPS: &[Step] = &[
         Settles(1),

@@ -19,7 +19,7 @@ invariant_of-self c =
     let put = c.keep.ensures.rows found.0 found.2 in
     let kept : c.judge-verdict.result ≡ Kept = kept_verdict c.judge-verdict.result (sym c.is_kept.ensures ∙ c.if-not-is_kept.false) in
     let plan : found.0.1.plan ≡ c.args.done.plan = c.judge-verdict.ensures.plan found.0 found.2 kept in
-    rw (c.keep.ensures.next_id, put) (bring_whole c.self.inside.board c.self.inside.edits c.self.inside.rows.next_id (inputs_of c.self.inside.inputs) c.self.inside.rows.rows c.in-Some.place found.0 c.args.done found.2 (sym by ∙ kept) plan c.self.invariant)
+    rw (c.keep.ensures.next_id, put) (bring_whole c.self.inside.board c.self.inside.edits c.self.inside.rows.next_id (inputs_of c.self.inside.inputs) c.self.inside.rows.rows c.in-Some.place found.0 c.args.done c.present_sources-sources.result.keys found.2 (sym by ∙ kept) plan (c.present_sources-sources.ensures found.0 found.2) c.self.invariant)
 
 pub returns-in-None-clause-answer : goal.returns-in-None-clause-answer
 returns-in-None-clause-answer c =
@@ -55,7 +55,7 @@ pub cut_behind-requires : goal.cut_behind-requires
 cut_behind-requires c =
     let found = found_entry c.args.done.id.0 c.id.result.0 c.self.inside.rows.rows c.in-Some.place (ap (λ (r : RowId). r.0) c.id.ensures ∙ ap (λ (t : Task). t.id.0) c.order.ensures) c.in-Some.ensures.value in
     let put = c.keep.ensures.rows found.0 found.2 in
-    rw (c.keep.ensures.next_id, put) (was_settled c.self.inside.board c.self.inside.edits c.self.inside.rows.next_id (inputs_of c.self.inside.inputs) c.self.inside.rows.rows c.args.self.now c.in-Some.place found.0 c.args.done c.self.view_is found.2 c.requires)
+    rw (c.keep.ensures.next_id, put) (was_settled c.self.inside.board c.self.inside.edits c.self.inside.rows.next_id (inputs_of c.self.inside.inputs) c.self.inside.rows.rows c.args.self.now c.in-Some.place found.0 c.args.done c.present_sources-sources.result.keys c.self.view_is found.2 c.requires)
 
 pub returns-else-not-is_kept-clause-state : goal.returns-else-not-is_kept-clause-state
 returns-else-not-is_kept-clause-state c =
@@ -64,5 +64,5 @@ returns-else-not-is_kept-clause-state c =
     let put = c.keep.ensures.rows found.0 found.2 in
     c.cut_behind.ensures
     ∙ ap₂ (λ next (es : List Entry). cut_off (state_of c.self.inside.board c.self.inside.edits next (inputs_of c.self.inside.inputs) es)) c.keep.ensures.next_id put
-    ∙ ap cut_off (state_kept c.self.inside.board c.self.inside.edits c.self.inside.rows.next_id (inputs_of c.self.inside.inputs) c.self.inside.rows.rows c.args.self.now c.in-Some.place found.0 c.args.done c.judge-verdict.result c.self.view_is found.1 by (sym c.is_kept.ensures ∙ c.if-not-is_kept.false))
+    ∙ ap cut_off (state_kept c.self.inside.board c.self.inside.edits c.self.inside.rows.next_id (inputs_of c.self.inside.inputs) c.self.inside.rows.rows c.args.self.now c.in-Some.place found.0 c.args.done c.present_sources-sources.result.keys c.judge-verdict.result c.self.view_is found.1 by (sym c.is_kept.ensures ∙ c.if-not-is_kept.false))
     ∙ bring_kept c.self.inside.board c.self.inside.edits c.self.inside.rows.next_id (inputs_of c.self.inside.inputs) c.self.inside.rows.rows c.args.self.now c.in-Some.place found.0 c.args.done c.judge-verdict.result c.self.view_is found.1 by (sym c.is_kept.ensures ∙ c.if-not-is_kept.false)

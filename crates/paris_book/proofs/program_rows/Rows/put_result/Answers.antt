@@ -24,7 +24,7 @@ invariant_of-self c =
     }
 
 pub returns-clause-rows : goal.returns-clause-rows
-returns-clause-rows c = rw (← c.self.view_is) (λ e at. data_changed (kept_data c.args.done) c.self.inside.program.rows c.args.place c.at_mut-row.result.now c.keep.new.self e c.at_mut-row.ensures.value at c.keep.ensures)
+returns-clause-rows c = rw (← c.self.view_is) (λ e at. data_changed (kept_data c.args.done c.args.sources.keys) c.self.inside.program.rows c.args.place c.at_mut-row.result.now c.keep.new.self e c.at_mut-row.ensures.value at c.keep.ensures)
 
 pub keep-requires : goal.keep-requires
 keep-requires c = c.requires.plan (id_at c.self.inside.program.rows c.args.place, c.at_mut-row.result.now) (rw (← c.self.view_is) c.at_mut-row.ensures.value)
