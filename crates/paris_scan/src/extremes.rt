@@ -10,9 +10,10 @@ ghost use Rattle.paris_scan.specs.Lines.{combined_field, scanned};
 ghost use Rattle.paris_scan.specs.Running.{AreRunning, GoOn, HeldBefore, first_place, processors_of, shown_value, taken};
 
 use crate::adjacent::power;
+use crate::back::step_back;
 use crate::lines::Along;
 use crate::near::{has_bit, word_where};
-use crate::running::{Steps, line_steps, step_back, walked, word_before};
+use crate::running::{Steps, line_steps, walked, word_before};
 use paris_field::FieldValue;
 use paris_layer::Layer;
 use paris_model::Inclusion;

@@ -3,6 +3,7 @@
 #![tactic(auto)]
 
 mod adjacent;
+mod back;
 mod bitwise;
 mod butterfly;
 mod columns;

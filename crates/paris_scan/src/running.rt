@@ -10,6 +10,7 @@ ghost use Rattle.paris_scan.specs.Running.{AreRunning, HasBefore, added, low_sum
 ghost use Rattle.paris_scan.specs.Runs.{before, begins_run};
 
 use crate::adjacent::power;
+use crate::back::step_back;
 use crate::lines::{Along, begin_plane};
 use crate::moves::move_cut;
 use crate::near::near_sums;
@@ -149,19 +150,6 @@ fn make_sums(steps: &Steps, selected: &Plane, bits: u64, words: &mut [u64], over
         near_sums(steps, selected, bits, words, overflow);
     } else {
         far_sums(steps, selected, bits, words, overflow);
-    }
-}
-
-/// Writes over each word that of the one before it, or `none` where there is none.
-pub(crate) fn step_back(steps: &Steps, words: &mut [u64], none: u64)
-    requires count { length steps.now.begins ≡ length words.old }
-    ensures long { length words.new ≡ length words.old }
-    ensures words { (v : ℕ) → v < length words.old → slice_index words.new v ≡ value_before none steps.now.direction steps.now.by (has steps.now.begins) (slice_index words.old) v }
-{
-    let count = words.len();
-    for place in 0..count {
-        let v = walked(steps.direction, count, count - 1 - place);
-        words[v] = word_before(steps, words, none, v);
     }
 }
 

@@ -2,7 +2,7 @@ use Rattle.std.proofs.Common.{◌≡◌, length, get_or}
 use Rattle.paris_field.specs.Numbers.{has}
 use Rattle.paris_scan.specs.Running.{value_before}
 use Rattle.paris_scan.proofs.OneByOne.{Walked, returned}
-use Rattle.paris_scan.proofs.running.step_back.Given as goal
+use Rattle.paris_scan.proofs.back.far_back.Given as goal
 
 abbrev pub invariant-loop-place : goal.invariant-loop-place
 invariant-loop-place l = record {

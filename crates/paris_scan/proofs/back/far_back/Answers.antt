@@ -4,7 +4,7 @@ use Rattle.paris_geometry.specs.declared.direction.Direction.{Direction}
 use Rattle.paris_field.specs.Numbers.{has}
 use Rattle.paris_scan.specs.Running.{HasBefore, value_before}
 use Rattle.paris_scan.proofs.OneByOne.{Walked, backward, old_before, returned, walked_all, walked_set}
-use Rattle.paris_scan.proofs.running.step_back.Goals as goal
+use Rattle.paris_scan.proofs.back.far_back.Goals as goal
 
 pub loop-place-preserved : goal.loop-place-preserved
 loop-place-preserved c =
