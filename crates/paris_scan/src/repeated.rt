@@ -1,26 +1,27 @@
 //! Values and planes that are alike in all processors of a line, where these follow one another.
 
-ghost use Rattle.std.specs.Prelude.{◌≡◌, ◌<◌, ◌≤◌, ◌+◌, ◌*◌, ◌/◌, ◌%◌, ◌^◌, ◌==◌, ℕ, IfOk, true, length, slice_index};
+ghost use Rattle.std.specs.Prelude.{◌≡◌, ◌<◌, ◌≤◌, ◌+◌, ◌*◌, ◌/◌, ◌%◌, ◌^◌, ◌==◌, ℕ, IfOk, length, slice_index};
 ghost use Rattle.paris_field.specs.Numbers.{AllOf, bits_everywhere, has, number_at};
 ghost use Rattle.paris_scan.specs.Adjacent.{lines_field};
 
 use paris_field::FieldValue;
-use paris_plane::Plane;
+use paris_plane::{Plane, word_of};
 use std::alloc::{AllocError, Global};
 
-/// Sets the bits of the `count` processors from `start` on to 1.
-fn raise(plane: &mut Plane, start: usize, count: usize)
+/// Writes one bit for each of the `count` processors from `start` on.
+fn put_span(plane: &mut Plane, start: usize, count: usize, bit: bool)
     requires start { start % 64 ≡ 0 }
     requires whole { count % 64 ≡ 0 }
     requires within { start + count ≤ length plane.old }
     ensures long { length plane.new ≡ length plane.old }
-    ensures raised { (v : ℕ) → start ≤ v → v < start + count → has plane.new v ≡ true }
+    ensures put { (v : ℕ) → start ≤ v → v < start + count → has plane.new v ≡ bit }
     ensures before { (v : ℕ) → v < start → has plane.new v ≡ has plane.old v }
     ensures behind { (v : ℕ) → start + count ≤ v → v < length plane.old → has plane.new v ≡ has plane.old v }
 {
     let first = start / 64;
+    let word = word_of(bit);
     for i in 0..count / 64 {
-        plane.set_word(first + i, u64::MAX);
+        plane.set_word(first + i, word);
     }
 }
 
@@ -38,9 +39,7 @@ pub(crate) fn line_plane(
 {
     let mut plane = Plane::zeros(alloc, vps)?;
     for line in 0..bits.len() {
-        if bits[line] {
-            raise(&mut plane, line * count, count);
-        }
+        put_span(&mut plane, line * count, count, bits[line]);
     }
     Ok(plane)
 }

@@ -33,11 +33,11 @@ struct FewTurns {
 }
 
 const FEW_TURNS: FewTurns = FewTurns {
-    near: 160,
+    near: 256,
     far: 760,
 };
 
-const FEW_TURNS_OF_MAXIMA: FewTurns = FewTurns { near: 70, far: 200 };
+const FEW_TURNS_OF_MAXIMA: FewTurns = FewTurns { near: 140, far: 200 };
 
 /// What the values that a scan combines come to, by an operator that has no plane of its own.
 fn scan_field<C: Commute>(
