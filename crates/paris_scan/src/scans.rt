@@ -37,7 +37,10 @@ const FEW_TURNS: FewTurns = FewTurns {
     far: 760,
 };
 
-const FEW_TURNS_OF_MAXIMA: FewTurns = FewTurns { near: 140, far: 200 };
+const FEW_TURNS_OF_MAXIMA: FewTurns = FewTurns {
+    near: 140,
+    far: 200,
+};
 
 /// What the values that a scan combines come to, by an operator that has no plane of its own.
 fn scan_field<C: Commute>(
