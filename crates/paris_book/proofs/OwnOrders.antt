@@ -16,7 +16,7 @@ use Rattle.paris_machine.specs.Show.{now}
 use Rattle.paris_machine.specs.Settling.{work_in}
 use Rattle.paris_book.specs.Marks.{kept_data}
 use Rattle.paris_book.specs.Entries.{Entry, machine_row, with_data, seen}
-use Rattle.paris_book.proofs.Among.{firm_among, inputs_among, order_among}
+use Rattle.paris_book.proofs.Among.{firm_among, order_among}
 use Rattle.paris_book.specs.Sources.{AreSources}
 use Rattle.paris_book.specs.declared.sources.Source.{Source}
 use Rattle.paris_book.specs.Steps.{order_on, own_order, run_on, run_at}

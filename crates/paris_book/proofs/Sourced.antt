@@ -1,9 +1,7 @@
 -- What rows name stays what it was: where rows come from rows of before, and where one is settled.
-use Rattle.std.proofs.Common.{◌≡◌, ℕ, ◌+◌, ◌<◌, ◌≤◌, ◌⊎◌, inl, inr, List, [], ◌∷◌, ◌++◌, Bool, true, false, cond, Option, Some, None, refl, sym, ap, ◌∙◌, subst, arith, map, take, drop, zero, suc, set, slice_get}
+use Rattle.std.proofs.Common.{◌≡◌, ℕ, ◌+◌, ◌<◌, ◌≤◌, ◌⊎◌, inl, inr, List, [], ◌∷◌, ◌++◌, Bool, true, false, cond, Option, Some, None, refl, sym, ap, ◌∙◌, subst, arith, take, drop, zero, suc, set, slice_get}
 use Rattle.std.proofs.Math.Path.{ap₂}
 use Rattle.std.specs.Prelude.{replicate}
-use Rattle.std.specs.Option.{option_map}
-use Rattle.std.proofs.lemmas.Option.{slice_get-map}
 use Rattle.paris_names.specs.declared.keys.Key.{Key}
 use Rattle.paris_names.specs.declared.ids.Edition.{Edition}
 use Rattle.paris_exec.specs.Tasks.{Task}
@@ -14,7 +12,7 @@ use Rattle.paris_depends.specs.Sweeps.{touches, spread}
 use Rattle.paris_book.specs.Entries.{Entry, id_of, with_data}
 use Rattle.paris_book.specs.Marks.{stale_data}
 use Rattle.paris_book.specs.SourceLists.{no_sources}
-use Rattle.paris_book.specs.Sources.{number_told, IsNumbered, LeavesFree, NamesInput, NamesResult, AreNamed, IsSourced}
+use Rattle.paris_book.specs.Sources.{number_told, IsNumbered, LeavesFree, NamesInput, NamesResult, IsSourced}
 use Rattle.paris_book.specs.declared.sources.Source.{Source}
 use Rattle.paris_book.specs.declared.sources.Source.TheVariants.{Unknown, Input as FromInput, Row as FromRow}
 use Rattle.paris_book.proofs.Swept.{swept_entries}

@@ -1,5 +1,5 @@
 -- What a row's sources name, and that it is never another value than the one by which the row's last result was computed.
-use Rattle.std.specs.Prelude.{◌≡◌, ℕ, ◌≤◌, List, Bool, true, false, Option, Some, None, take, slice_get}
+use Rattle.std.specs.Prelude.{◌≡◌, ℕ, ◌≤◌, List, true, false, Option, Some, None, take, slice_get}
 use Rattle.paris_names.specs.declared.keys.Key.{Key}
 use Rattle.paris_model.specs.Instructions.{Plan, reads}
 use Rattle.paris_model.specs.Recipe.{origin}

@@ -1,6 +1,5 @@
-use Rattle.std.proofs.Common.{Some, ap, ◌∙◌, sym, subst}
+use Rattle.std.proofs.Common.{ap, ◌∙◌, sym}
 use Rattle.std.specs.Option.{option_map}
-use Rattle.std.specs.Prelude.{IfSome}
 use Rattle.paris_machine.specs.Orders.{is_firm as is_firm_origin}
 use Rattle.paris_book.specs.Among.{inputs_of}
 use Rattle.paris_book.specs.Entries.{machine_row}
