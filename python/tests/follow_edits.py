@@ -1,6 +1,7 @@
 """Random functions of arrays that are edited at random, each look beside Python's whole numbers.
 
-`play(seed, calls)` plays one function. `python follow_edits.py FIRST COUNT CALLS` plays many, and says how many looks.
+`play(seed, calls)` plays one function. `python follow_edits.py FIRST COUNT CALLS` plays many, each with its last text by
+the program, and says how many calls and looks there were, and what was wrong.
 """
 
 from __future__ import annotations
@@ -10,7 +11,7 @@ import random
 import subprocess
 import sys
 from collections.abc import Callable
-from dataclasses import dataclass, field
+from dataclasses import dataclass
 from typing import Any
 
 import numpy
@@ -20,7 +21,7 @@ from pevudlo import find
 from pevudlo.follow import layout
 from pevudlo.follow.arrays import Array
 from pevudlo.follow.followed import Followed
-from pevudlo.follow.numbers import typed
+from pevudlo.follow.numbers import laid, typed
 from pevudlo.follow.refusals import NotTraced, TooMuch
 from pevudlo.follow.session import keys_of
 
@@ -103,7 +104,16 @@ class Count:
     refused: int = 0
     runs: int = 0
     rows: int = 0
-    causes: dict[str, int] = field(default_factory=dict)
+
+
+TOLD = {
+    "calls": "calls",
+    "looks": "looks",
+    "rows": "rows ran",
+    "runs": "texts run by the program",
+    "refused": "calls refused for a limit",
+}
+"""What is counted, and how it is told."""
 
 
 class Play:
@@ -202,10 +212,8 @@ class Play:
         assert state is not None and len(shown) == len(state.results), (self.seed, ran.stdout[-300:])
         for (name, array), numbers in zip(state.results.items(), shown):
             raw = numpy.array([int(number) for number in numbers], dtype=object)
-            whole = typed(raw, array.node.kind).reshape(self.shape)
-            got = self.held[name]
-            if got.shape == self.shape:
-                assert got.tolist() == whole.tolist(), (self.seed, name)
+            shown_there = laid(typed(raw, array.node.kind), self.shape, array.axes)
+            assert self.held[name].tolist() == shown_there.tolist(), (self.seed, name)
         self.count.runs += 1
 
 
@@ -239,13 +247,23 @@ def play(seed: int, calls: int, with_run: bool = False) -> Count:
     return one.count
 
 
-def main() -> None:
-    """Plays many."""
+def main() -> int:
+    """Plays many. The exit status is 1 where one is wrong."""
     first, count, calls = map(int, sys.argv[1:4])
-    played = [play(seed, calls, seed % 10 == 0) for seed in range(first, first + count)]
-    for name in ("calls", "looks", "refused", "runs", "rows"):
-        print(name, sum(getattr(each, name) for each in played))
+    total, wrong = Count(), 0
+    for played, seed in enumerate(range(first, first + count), 1):
+        try:
+            one = play(seed, calls, True)
+            for name in TOLD:
+                setattr(total, name, getattr(total, name) + getattr(one, name))
+        except AssertionError as error:
+            wrong += 1
+            print(f"seed {seed}: {error!r} {error.__cause__ or ''}", flush=True)
+        if played % 500 == 0 or played == count:
+            told = ", ".join(f"{getattr(total, name):,} {words}" for name, words in TOLD.items())
+            print(f"{played:,} functions, {told}, {wrong} wrong", flush=True)
+    return int(wrong > 0)
 
 
 if __name__ == "__main__":
-    main()
+    sys.exit(main())

@@ -46,9 +46,9 @@ def sent(monkeypatch: pytest.MonkeyPatch) -> Iterator[list[Any]]:
     told: list[Any] = []
     tell, give = Session.tell, Session.give
 
-    def tell_and_note(self: Session, lines: Any, next_row: int) -> None:
+    def tell_and_note(self: Session, lines: Any) -> None:
         told.extend(lines)
-        tell(self, lines, next_row)
+        tell(self, lines)
 
     def give_and_note(self: Session, field: str, first: int, words: Any) -> None:
         told.append((field, first, len(words)))
@@ -73,6 +73,31 @@ def test_other_numbers_send_the_part_that_differs_and_trace_nothing(sent: list[A
     other[0] = 2
     p(PRICE, other)
     assert sent == [("count", 0, 1)]
+
+
+def test_the_last_call_again_with_some_arguments_others(sent: list[Any]) -> None:
+    p = follow(lambda *arrays, **named: numpy.maximum(*arrays) * named["by"] + named["c"])
+    with pytest.raises(IndexError, match="was not called yet"):
+        p.again(c=COUNT)
+    p(PRICE, COUNT, by=2, c=COUNT)
+    high = numpy.maximum(PRICE, COUNT)
+    assert p.result.tolist() == (high * 2 + COUNT).tolist()
+    sent.clear()
+    other = changed(COUNT, 2, 9)
+    assert p.again(c=other).result.tolist() == (high * 2 + other).tolist() and sent == [("c", 2, 1)]
+    assert p.again(by=3).result.tolist() == (high * 3 + other).tolist() and p.traces == 2
+    assert p.again(arrays1=PRICE).result.tolist() == (PRICE * 3 + other).tolist()
+    with pytest.raises(TypeError, match="the last call has arrays0, arrays1, by, c, and no d"):
+        p.again(d=1)
+    p.undo().undo()
+    assert p.again(c=COUNT).result.tolist() == (high * 2 + COUNT).tolist()
+    # An array that isn't named is as it was, and one that is named is compared.
+    sent.clear()
+    assert (
+        p.again(arrays0=PRICE[::-1].copy(), arrays1=COUNT).result.tolist()
+        == (numpy.maximum(PRICE[::-1], COUNT) * 2 + COUNT).tolist()
+    )
+    assert len(sent) == 1
 
 
 def test_another_constant_replaces_a_row(sent: list[Any]) -> None:

@@ -49,8 +49,8 @@ MUTANTS = {
     ),
     "input data that is given again isn't compared": (
         "numbers",
-        "changed = numpy.flatnonzero(before != now)",
-        "changed = numpy.flatnonzero(before != before)",
+        "is_other = before != now",
+        "is_other = before != before",
     ),
     "nothing is traced again": ("state", "self.function is other.function", "True or self.function is other.function"),
     "the old value isn't kept to be looked at": (

@@ -21,7 +21,7 @@ from pevudlo.follow.looks import Traffic, Why, refused_words, script, told_opera
 from pevudlo.follow.numbers import Numbers, laid, typed
 from pevudlo.follow.refusals import Overflow, OverflowWarning, RowRefused
 from pevudlo.follow.session import OVERFLOW, Run, keys_of
-from pevudlo.follow.state import Data, State, changed_data, made_of, traced
+from pevudlo.follow.state import NO_EDITS, Data, Edits, State, changed_data, made_of, traced
 from pevudlo.interrupts import undisturbed
 from pevudlo.wire.library import Held
 from pevudlo.wire.library_calls import START_NUMBER
@@ -66,30 +66,46 @@ class Followed:
         if any(isinstance(value, Array) for value in (*args, *named.values())):
             return self.followed_function(*args, **named)
         with self._lock:
-            call = Call(self.followed_function, args, named)
-            made, state = made_of(self.followed_function, call, self._shape), self._state
-            edits = list[str]()
-            if state is None or not state.made.is_same(made):
-                self.traces += 1
-                state, edits = traced(made, call, state)
-            self._bring(state, edits, changed_data(state, call))
+            self._follow(Call(self.followed_function, args, named), lambda _: False)
         return self
 
-    def _bring(self, state: State, edits: Sequence[str], data: Sequence[Data]) -> None:
+    def again(self, **named: Any) -> Followed:
+        """The last call again, with some others of its arguments, by name.
+
+        Arrays that aren't named are taken as they were: one that was written into is named too.
+        """
+        with self._lock:
+            call = self._present().call.again(self.followed_function, named)
+            self._follow(call, lambda name: name not in named)
+        return self
+
+    def _follow(self, call: Call, is_kept: Callable[[str], bool]) -> None:
+        """Brings the rows in step with a call, of which some arrays are as they were."""
+        made, state = made_of(self.followed_function, call, self._shape), self._state
+        edits = NO_EDITS
+        if state is None or not state.made.is_same(made):
+            self.traces += 1
+            state, edits = traced(made, call, state)
+        self._bring(replace(state, call=call), edits, changed_data(state, call, is_kept))
+
+    def _bring(self, state: State, edits: Edits, data: Sequence[Data]) -> None:
         """Makes a state the present one, with its edits and its input data told, as one step."""
         before, session = self._state, state.session
-        if before is not None and not edits and not data:
+        if before is not None and not any(edits) and not data:
             self._state = state
             return
         is_same = before is not None and before.session is session
-        held = session.book.snapshot() if is_same else None
+        # (one edit alone is its own way back: it is made, or nothing is)
+        is_one = self._steps.maxlen == 0 and sum(map(len, (*edits, data))) == 1
+        held = session.book.snapshot() if is_same and not is_one else None
         given = dict(state.given)
         try:
             with undisturbed():
-                session.tell(edits, before.next_row if is_same and before else 1)
+                session.tell(edits.fields)
                 for each in data:
                     session.give(each.field, each.first, each.words)
                     given[each.field] = each.array
+                session.tell(edits.rows)
                 self._state = replace(state, given=given)
         except BaseException:
             if held is not None:
@@ -152,10 +168,11 @@ class Followed:
             state, array = self._named(name)
             at, rows = state.place(array.node)
             self._run, raw = self._settled(at, rows, state.layout.widths[at])
+            numbers = laid(typed(raw, array.node.kind), state.made.shape, array.axes)
             self._check_refused(state, array.node)
             if self._overflow is not None:
                 self._tell_overflows(self._overflows(state, [array.node]))
-            return laid(typed(raw, array.node.kind), state.made.shape, array.axes)
+            return numbers
 
     def _present(self) -> State:
         """The present state. Raises IndexError before the first call."""
@@ -177,9 +194,10 @@ class Followed:
         raw = session.numbers(key, row, width)
         if raw is not None:
             return Run(None, [], 0), raw
-        run = session.settle(key, rows)
-        for each, _ in run.rows:
+        waiting = session.waiting(key, rows)
+        for each, _ in waiting:
             self._counts.pop(each, None)
+        run = session.settle(key, row, waiting)
         raw = session.numbers(key, row, width)
         assert raw is not None
         return run, raw

@@ -4,7 +4,7 @@ from __future__ import annotations
 
 from collections.abc import Callable, Iterator, Mapping
 from dataclasses import dataclass, field, replace
-from typing import Any
+from typing import Any, NamedTuple
 
 import numpy
 
@@ -52,6 +52,7 @@ class State:
     layout: Layout
     rows: list[Row]
     next_row: int
+    call: Call
     results: Mapping[str, Array]
     numbers: Mapping[Key, int]
     next_number: int
@@ -93,7 +94,20 @@ def made_of(function: Callable[..., Any], call: Call, shape: tuple[int, ...] | N
     return Made(function, call.shape(shape), call.known, call.constants, outside(function))
 
 
-def traced(made: Made, call: Call, before: State | None) -> tuple[State, list[str]]:
+class Edits(NamedTuple):
+    """Lines that lead from a state to another: those that declare fields, and those of rows.
+
+    Input data goes in between them: where no row stands yet, no row is touched by it.
+    """
+
+    fields: list[str]
+    rows: list[str]
+
+
+NO_EDITS = Edits([], [])
+
+
+def traced(made: Made, call: Call, before: State | None) -> tuple[State, Edits]:
     """The state behind a trace, and the edits that lead there. Nothing is told yet: what is refused changes nothing."""
     is_same_set = before is not None and before.made.shape == made.shape
     trace = Trace(made.shape, before.numbers if before else None, before.next_number if before else 0)
@@ -110,11 +124,11 @@ def traced(made: Made, call: Call, before: State | None) -> tuple[State, list[st
     else:
         session, declared, rows, next_row = before.session, before.layout.widths, before.rows, before.next_row
         told = dict(before.given)
-    edits = [f"field {name} S {width}" for name, width in layout.widths.items() if name not in declared]
+    fields = [f"field {name} S {width}" for name, width in layout.widths.items() if name not in declared]
     row_lines, rows, next_row = row_edits(rows, layout.texts, next_row)
     made = replace(made, constants=dict(made.constants))
-    state = State(made, session, layout, rows, next_row, results, trace.numbers, trace.next, told)
-    return state, edits + row_lines
+    state = State(made, session, layout, rows, next_row, call, results, trace.numbers, trace.next, told)
+    return state, Edits(fields, row_lines)
 
 
 @dataclass(frozen=True)
@@ -127,13 +141,16 @@ class Data:
     array: Numbers
 
 
-def changed_data(state: State, call: Call) -> list[Data]:
-    """The parts of the arrays of a call that are other numbers than the session has, of those that rows read."""
+def changed_data(state: State, call: Call, is_kept: Callable[[str], bool]) -> list[Data]:
+    """The parts of the arrays of a call that are other numbers than the session has, of those that rows read.
+
+    Those that are kept are the same as before, and are compared with nothing.
+    """
     found = list[Data]()
     for name, array in call.arrays.items():
         kind = state.made.arguments[name].kind
         at = state.layout.arguments.get((name, room(kind.bits)))
-        if at is None:
+        if at is None or (at in state.given and is_kept(name)):
             continue
         part = difference(state.given.get(at), array)
         if part is None:
