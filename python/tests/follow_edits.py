@@ -1,7 +1,7 @@
 """Random functions of arrays that are edited at random, each look beside Python's whole numbers.
 
-`play(seed, calls)` plays one function. `python follow_edits.py FIRST COUNT CALLS` plays many, each with its last text by
-the program, and says how many calls and looks there were, and what was wrong.
+`play(seed, calls)` plays one function. `python follow_edits.py FIRST COUNT CALLS` plays many, runs the last text of
+each by the program, and says how many calls and looks there were, and how many functions were wrong.
 """
 
 from __future__ import annotations
@@ -16,6 +16,7 @@ from typing import Any
 
 import numpy
 from exact_arrays import Exact, Refused, World
+from follow_model import Model
 
 from pevudlo import find
 from pevudlo.follow import layout
@@ -23,7 +24,6 @@ from pevudlo.follow.arrays import Array
 from pevudlo.follow.followed import Followed
 from pevudlo.follow.numbers import laid, typed
 from pevudlo.follow.refusals import NotTraced, TooMuch
-from pevudlo.follow.session import keys_of
 
 NAMES = "abcd"
 SHAPES = [(8,), (16,), (4, 8), (2, 2, 4), (64,), (4, 4, 2, 2), (1, 8)]
@@ -128,6 +128,7 @@ class Play:
         self.outputs = [0, 7, 11]
         self.held = Followed(function_of(self.recipe, self.outputs), self.shape, None, 16)
         self.told: dict[str, Any] = {}
+        self.model = Model()
 
     def numbers(self, kind: str) -> Any:
         """Random numbers of a type."""
@@ -166,6 +167,7 @@ class Play:
         self.edit()
         function = self.held.followed_function = function_of(list(self.recipe), list(self.outputs))
         before = self.held._state
+        self.model.call(before)
         try:
             self.held(**self.given)
         except TooMuch:
@@ -184,7 +186,8 @@ class Play:
         """The last call is taken back, and made again."""
         state = self.held._state
         self.held.undo()
-        assert self.held._state is not state
+        assert self.held._state is not state and self.held._state is not None
+        self.model.undo(self.held._state)
         for name in self.held.names[:1]:
             self.held[name]
         self.held(**self.given)
@@ -195,13 +198,13 @@ class Play:
         for name in self.dice.sample(list(wanted), self.dice.randint(min(1, len(wanted)), len(wanted))):
             state, array = self.held._named(name)
             at, rows = state.place(array.node)
-            unsettled = set(state.session.book.unsettled())
+            touched = self.model.look(state, at, len(rows))
             got, exact = self.held[name], wanted[name]
             self.count.looks += 1
             assert got.shape == exact.shape, (self.seed, name, got.shape, exact.shape)
             assert got.tolist() == exact.numbers.tolist(), (self.seed, name, got, exact.numbers)
             self.count.rows += len(self.held.ran)
-            assert set(self.held.ran) <= reached(rows, at) & unsettled, (self.seed, name)
+            assert set(self.held.ran) <= touched, (self.seed, name)
 
     def run_afresh(self) -> None:
         """Runs the text by the program, and compares what it shows."""
@@ -215,17 +218,6 @@ class Play:
             shown_there = laid(typed(raw, array.node.kind), self.shape, array.axes)
             assert self.held[name].tolist() == shown_there.tolist(), (self.seed, name)
         self.count.runs += 1
-
-
-def reached(rows: Any, key: str) -> set[int]:
-    """The rows that a key's value behind rows is made of, as docs/MACHINE.md says what rows read."""
-    origins: dict[str, int] = {}
-    made_of: list[set[int]] = []
-    for place, (_, text) in enumerate(rows):
-        keys = keys_of(text)
-        made_of.append({place}.union(*(made_of[origins[read]] for read in keys.reads if read in origins)))
-        origins.update(dict.fromkeys(keys.writes, place))
-    return {rows[place][0] for place in (made_of[origins[key]] if key in origins else set())}
 
 
 def play(seed: int, calls: int, with_run: bool = False) -> Count:
@@ -259,7 +251,7 @@ def main() -> int:
         except AssertionError as error:
             wrong += 1
             print(f"seed {seed}: {error!r} {error.__cause__ or ''}", flush=True)
-        if played % 500 == 0 or played == count:
+        if played % 250 == 0 or played == count:
             told = ", ".join(f"{getattr(total, name):,} {words}" for name, words in TOLD.items())
             print(f"{played:,} functions, {told}, {wrong} wrong", flush=True)
     return int(wrong > 0)

@@ -88,6 +88,16 @@ class Call:
                 arguments[name] = others.get(name, value)
         return inspect.BoundArguments(self.signature, arguments)  # type: ignore[arg-type]
 
+    def constant(self, name: str) -> int:
+        """The whole number that an argument is. Raises TypeError where there is no such argument, or it is another."""
+        value = self.constants.get(name)
+        if not isinstance(value, (int, numpy.integer)) or isinstance(value, bool):
+            numbers = [each for each, number in self.constants.items() if isinstance(number, int)]
+            raise TypeError(
+                f"whole numbers of the last call are {', '.join(numbers) or 'none'}, and {name} is none of them"
+            )
+        return int(value)
+
     def again(self, function: Callable[..., Any], others: Mapping[str, Any]) -> Call:
         """The same call with some others of its arguments. Raises TypeError where it has none of such a name."""
         names = [name for name, _ in self.named_values()]

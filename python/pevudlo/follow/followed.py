@@ -17,11 +17,13 @@ from pevudlo.follow.calls import Call, check_shape
 from pevudlo.follow.edits import Row
 from pevudlo.follow.expressions import Node
 from pevudlo.follow.layout import in_order
-from pevudlo.follow.looks import Traffic, Why, refused_words, script, told_operation, traffic_of, why
+from pevudlo.follow.looks import Why, refused_words, script, told_operation, why
 from pevudlo.follow.numbers import Numbers, laid, typed
 from pevudlo.follow.refusals import Overflow, OverflowWarning, RowRefused
 from pevudlo.follow.session import OVERFLOW, Run, keys_of
+from pevudlo.follow.shown import Refusals, Shown, Untold, Value, Watch, slider_of
 from pevudlo.follow.state import NO_EDITS, Data, Edits, State, changed_data, made_of, traced
+from pevudlo.follow.traffic import Traffics, traffic_of
 from pevudlo.interrupts import undisturbed
 from pevudlo.wire.library import Held
 from pevudlo.wire.library_calls import START_NUMBER
@@ -47,6 +49,7 @@ class Followed:
         self._state: State | None = None
         self._steps = deque[tuple[State, Held | None]](maxlen=steps)
         self._counts = dict[int, int]()
+        self._watched = dict[str, Watch]()
         self._lock = RLock()
 
     def __repr__(self) -> str:
@@ -87,6 +90,7 @@ class Followed:
             self.traces += 1
             state, edits = traced(made, call, state)
         self._bring(replace(state, call=call), edits, changed_data(state, call, is_kept))
+        self._renew()
 
     def _bring(self, state: State, edits: Edits, data: Sequence[Data]) -> None:
         """Makes a state the present one, with its edits and its input data told, as one step."""
@@ -129,6 +133,7 @@ class Followed:
                 before.session.book.exchange(held)
             self._state, self._run = before, Run(None, [], 0)
             self._counts.clear()
+            self._renew()
         return self
 
     def close(self) -> None:
@@ -138,6 +143,7 @@ class Followed:
                 state.session.close()
             self._steps.clear()
             self._counts.clear()
+            self._watched.clear()
             self._state, self._run = None, Run(None, [], 0)
 
     # Looks.
@@ -249,14 +255,54 @@ class Followed:
         with self._lock:
             return script(self._present())
 
-    def traffic(self) -> list[Traffic]:
-        """What goes between processors, by lines of Python: what has most messages first. All rows run for it."""
+    def traffic(self) -> Traffics:
+        """What goes between processors, by lines of Python: what has most messages first. All rows run for it.
+
+        A notebook shows it with a picture for each line by address, and `p.traffic().page()` is that as a page of HTML.
+        """
         with self._lock:
             state = self._present()
             for node in in_order(array.node for array in state.results.values()):
                 at, rows = state.place(node)
                 self._settled(at, rows, state.layout.widths[at])
             return traffic_of(state)
+
+    # Notebooks.
+
+    def watch(self, name: str | int) -> None:
+        """Shows a result in a notebook, and draws it anew there whenever a call makes it another one.
+
+        Raises KeyError, and ImportError without IPython.
+        """
+        with self._lock:
+            self._named(name)
+            found = self._watched.get(str(name))
+            if found is not None:
+                found.display()
+            else:
+                self._watched[str(name)] = Watch(lambda before: self._shown(str(name), before))
+
+    def slider(self, name: str, least: int, most: int, step: int = 1) -> Any:
+        """A slider of ipywidgets that calls again with another number for an argument, as `again` does.
+
+        Raises TypeError where the last call has no such argument, and ImportError without ipywidgets.
+        """
+        with self._lock:
+            value = self._present().call.constant(name)
+        return slider_of(name, value, least, most, step, lambda number: self.again(**{name: number}))
+
+    def _shown(self, name: str, before: Numbers | None) -> Shown:
+        """A result as a notebook shows it."""
+        try:
+            array = self[name]
+            return Value(name, self._named(name)[1].kind, array, len(self.ran), before)
+        except Refusals as error:
+            return Untold(name, error)
+
+    def _renew(self) -> None:
+        """Draws anew what is watched and is another one."""
+        for watch in self._watched.values():
+            watch.renew()
 
 
 NAMED = weakref.WeakValueDictionary[str, Followed]()
