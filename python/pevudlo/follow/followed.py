@@ -154,6 +154,11 @@ class Followed:
         return tuple(self._present().results)
 
     @property
+    def rows(self) -> tuple[int, ...]:
+        """The ids of the rows, in the order of the program."""
+        return tuple(row for row, _ in self._present().rows)
+
+    @property
     def result(self) -> Numbers:
         """What a function returns that returns one array."""
         return self["result"]
