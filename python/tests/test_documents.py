@@ -96,7 +96,7 @@ def test_bench_measures_functions(libparis: Path) -> None:
     lines = ran.stdout.splitlines()
     assert (ran.returncode, ran.stderr, len(lines)) == (0, "", 6) and lines[0].startswith("| operations |")
     assert lines[-1] == "life from 4 to 5 generations: 15 of 77 rows ran, and one has 15"
-    assert all(re.fullmatch(r"\| [a-z ]+, 64 \| \d+ µs (\|[ \d.()]+){8}\|", line) for line in lines[2:-1])
+    assert all(re.fullmatch(r"\| [a-z ]+, 64 \| \d+ µs (\|[ \d.()]+){11}\|", line) for line in lines[2:-1])
 
 
 def test_the_first_program_over_the_library_writes_what_the_document_says(libparis: Path, tmp_path: Path) -> None:
