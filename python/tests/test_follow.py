@@ -149,6 +149,20 @@ def test_what_a_function_reads_beside_its_arguments_is_seen(monkeypatch: pytest.
     assert p(PRICE).result.tolist() == (PRICE + 10).tolist() and p.traces == 5
 
 
+def test_what_an_argument_holds_is_seen_where_it_is_changed() -> None:
+    def scaled(a: Any, numbers: Any, **named: Any) -> Any:
+        return a * len(numbers) + numbers[0] + named["more"]["by"]
+
+    numbers, more = [1], {"by": 2}
+    p = follow(scaled)(PRICE, numbers, more=more)
+    assert p.result.tolist() == (PRICE + 3).tolist()
+    numbers[:] = [7, 5]
+    assert p(PRICE, numbers, more=more).result.tolist() == (PRICE * 2 + 9).tolist()
+    more["by"] = 4
+    assert p.again(numbers=numbers).result.tolist() == (PRICE * 2 + 11).tolist() and p.traces == 3
+    assert p(PRICE, numbers, more=more).traces == 3
+
+
 def helper(a: Any) -> Any:
     """What another function calls."""
     return a * FACTOR

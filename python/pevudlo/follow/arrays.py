@@ -336,11 +336,8 @@ def refuse_name(name: str) -> NoReturn:
     """Raises NotTraced for a function of numpy's that isn't here."""
     if name in OTHER_SHAPE:
         refuse(f"numpy.{name} gives another shape, and a program has one: `take` and `scatter` move numbers within it")
-    method = name[name.find(".") :]
-    refuse(
-        SERVES.get(name)
-        or SERVES.get(method, f"numpy.{name} isn't among what becomes rows: docs/ARRAYS.md lists what is")
-    )
+    serves = SERVES.get(name) or SERVES.get(name[name.find(".") :])
+    refuse(serves or f"numpy.{name} isn't among what becomes rows: docs/ARRAYS.md lists what is")
 
 
 def dtype_of(kind: Kind) -> numpy.dtype[Any]:

@@ -15,7 +15,7 @@ from pevudlo.follow.edits import Row, row_edits
 from pevudlo.follow.expressions import Key, Node, Trace, room
 from pevudlo.follow.layout import Layout, laid_out
 from pevudlo.follow.numbers import Numbers, difference, whole, words
-from pevudlo.follow.outside import Outside, are_same, outside
+from pevudlo.follow.outside import Outside, are_same, kept, outside
 from pevudlo.follow.refusals import NotTraced
 from pevudlo.follow.session import Session
 
@@ -41,6 +41,11 @@ class Made:
             and are_same(self.constants, other.constants)
             and are_same(self.outside, other.outside)
         )
+
+    def kept(self) -> Made:
+        """The same, as it is now: what holds others is copied, so that a later change of it is seen."""
+        constants = {name: kept(value) for name, value in self.constants.items()}
+        return replace(self, constants=constants, outside={name: kept(value) for name, value in self.outside.items()})
 
 
 @dataclass(frozen=True)
@@ -115,6 +120,7 @@ def traced(made: Made, call: Call, before: State | None) -> tuple[State, Edits]:
     for place, (name, argument) in enumerate(made.arguments.items()):
         axes = axes_of(argument.shape, made.shape)
         given[name] = Array(trace, trace.argument(name, argument.kind, axes, place), axes)
+    made = made.kept()
     results = results_of(call.traced(made.function, given))
     layout, goes_on = laid_out(
         before.layout if before and is_same_set else Layout(), [a.node for a in results.values()]
@@ -126,7 +132,6 @@ def traced(made: Made, call: Call, before: State | None) -> tuple[State, Edits]:
         told = dict(before.given)
     fields = [f"field {name} S {width}" for name, width in layout.widths.items() if name not in declared]
     row_lines, rows, next_row = row_edits(rows, layout.texts, next_row)
-    made = replace(made, constants=dict(made.constants))
     state = State(made, session, layout, rows, next_row, call, results, trace.numbers, trace.next, told)
     return state, Edits(fields, row_lines)
 
