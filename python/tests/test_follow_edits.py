@@ -2,6 +2,7 @@
 
 from __future__ import annotations
 
+import os
 import sys
 from collections.abc import Iterator
 from contextlib import contextmanager
@@ -13,7 +14,7 @@ import pytest
 pytest.importorskip("numpy")
 import follow_edits  # noqa: E402
 
-FUNCTIONS, CALLS = 240, 20
+FUNCTIONS, CALLS = int(os.environ.get("PEVUDLO_FUNCTIONS", "240")), 20
 MOST_TRIED = 150
 
 MUTANTS = {
