@@ -176,6 +176,7 @@ class Play:
             self.look(self.told)
             return
         self.count.calls += 1
+        self.model.called(self.held._state)
         world = World(self.shape)
         self.told = function(**{name: Exact.of(world, array) for name, array in self.given.items()})
         self.look(self.told)
@@ -191,6 +192,7 @@ class Play:
         for name in self.held.names[:1]:
             self.held[name]
         self.held(**self.given)
+        self.model.called(self.held._state)
         self.look(self.told)
 
     def look(self, wanted: dict[str, Any]) -> None:

@@ -1,7 +1,7 @@
 """Which rows a look at a followed function may run, by the model of docs/MACHINE.md of what rows read and write.
 
-A row runs again where it stands on something else than when it was last settled: on another text of its own, other rows
-or other input data.
+A row runs again where it stands on something else than when it was last settled, or was replaced since: other rows, other
+input data, or another text of its own, also one that was taken back.
 """
 
 from __future__ import annotations
@@ -28,16 +28,26 @@ class Model:
 
     def __init__(self) -> None:
         self.settled: Recipes = {}
+        self.texts: dict[tuple[object, int], str] = {}
         self._numbers: dict[tuple[Any, ...], int] = {}
-        self._before: list[tuple[object, Recipes]] = []
+        self._before: list[tuple[object, Recipes, dict[tuple[object, int], str]]] = []
 
     def call(self, state: object) -> None:
         """A call follows on a state, which it may be taken back to."""
-        self._before = [*self._before[-40:], (state, dict(self.settled))]
+        self._before = [*self._before[-40:], (state, dict(self.settled), self.texts)]
+
+    def called(self, state: Any) -> None:
+        """A call has led to a state: rows that it replaced aren't settled."""
+        texts = {(state.session, row): text for row, text in state.rows}
+        for row, text in texts.items():
+            if self.texts.get(row, text) != text:
+                self.settled.pop(row, None)
+        self.texts = texts
 
     def undo(self, state: object) -> None:
         """The last call is taken back, to a state."""
-        self.settled = dict(next(settled for each, settled in reversed(self._before) if each is state))
+        _, settled, self.texts = next(each for each in reversed(self._before) if each[0] is state)
+        self.settled = dict(settled)
 
     def look(self, state: Any, key: str, count: int) -> set[int]:
         """The rows that may run for a key's value behind so many rows. They are settled then."""
