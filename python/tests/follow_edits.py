@@ -1,6 +1,7 @@
 """Random functions of arrays that are edited at random, each look beside Python's whole numbers.
 
-`play(seed, calls)` plays one function. `python follow_edits.py FIRST COUNT CALLS` plays many, and says how many looks.
+`play(seed, calls)` plays one function. `python follow_edits.py FIRST COUNT CALLS` plays many, runs the last text of
+each by the program, and says how many calls and looks there were, and how many functions were wrong.
 """
 
 from __future__ import annotations
@@ -10,19 +11,19 @@ import random
 import subprocess
 import sys
 from collections.abc import Callable
-from dataclasses import dataclass, field
+from dataclasses import dataclass
 from typing import Any
 
 import numpy
 from exact_arrays import Exact, Refused, World
+from follow_model import Model
 
 from pevudlo import find
 from pevudlo.follow import layout
 from pevudlo.follow.arrays import Array
 from pevudlo.follow.followed import Followed
-from pevudlo.follow.numbers import typed
+from pevudlo.follow.numbers import laid, typed
 from pevudlo.follow.refusals import NotTraced, TooMuch
-from pevudlo.follow.session import keys_of
 
 NAMES = "abcd"
 SHAPES = [(8,), (16,), (4, 8), (2, 2, 4), (64,), (4, 4, 2, 2), (1, 8)]
@@ -103,7 +104,16 @@ class Count:
     refused: int = 0
     runs: int = 0
     rows: int = 0
-    causes: dict[str, int] = field(default_factory=dict)
+
+
+TOLD = {
+    "calls": "calls",
+    "looks": "looks",
+    "rows": "rows ran",
+    "runs": "texts run by the program",
+    "refused": "calls refused for a limit",
+}
+"""What is counted, and how it is told."""
 
 
 class Play:
@@ -118,6 +128,7 @@ class Play:
         self.outputs = [0, 7, 11]
         self.held = Followed(function_of(self.recipe, self.outputs), self.shape, None, 16)
         self.told: dict[str, Any] = {}
+        self.model = Model()
 
     def numbers(self, kind: str) -> Any:
         """Random numbers of a type."""
@@ -156,6 +167,7 @@ class Play:
         self.edit()
         function = self.held.followed_function = function_of(list(self.recipe), list(self.outputs))
         before = self.held._state
+        self.model.call(before)
         try:
             self.held(**self.given)
         except TooMuch:
@@ -164,6 +176,7 @@ class Play:
             self.look(self.told)
             return
         self.count.calls += 1
+        self.model.called(self.held._state)
         world = World(self.shape)
         self.told = function(**{name: Exact.of(world, array) for name, array in self.given.items()})
         self.look(self.told)
@@ -174,10 +187,12 @@ class Play:
         """The last call is taken back, and made again."""
         state = self.held._state
         self.held.undo()
-        assert self.held._state is not state
+        assert self.held._state is not state and self.held._state is not None
+        self.model.undo(self.held._state)
         for name in self.held.names[:1]:
             self.held[name]
         self.held(**self.given)
+        self.model.called(self.held._state)
         self.look(self.told)
 
     def look(self, wanted: dict[str, Any]) -> None:
@@ -185,13 +200,13 @@ class Play:
         for name in self.dice.sample(list(wanted), self.dice.randint(min(1, len(wanted)), len(wanted))):
             state, array = self.held._named(name)
             at, rows = state.place(array.node)
-            unsettled = set(state.session.book.unsettled())
+            touched = self.model.look(state, at, len(rows))
             got, exact = self.held[name], wanted[name]
             self.count.looks += 1
             assert got.shape == exact.shape, (self.seed, name, got.shape, exact.shape)
             assert got.tolist() == exact.numbers.tolist(), (self.seed, name, got, exact.numbers)
             self.count.rows += len(self.held.ran)
-            assert set(self.held.ran) <= reached(rows, at) & unsettled, (self.seed, name)
+            assert set(self.held.ran) <= touched, (self.seed, name)
 
     def run_afresh(self) -> None:
         """Runs the text by the program, and compares what it shows."""
@@ -202,22 +217,9 @@ class Play:
         assert state is not None and len(shown) == len(state.results), (self.seed, ran.stdout[-300:])
         for (name, array), numbers in zip(state.results.items(), shown):
             raw = numpy.array([int(number) for number in numbers], dtype=object)
-            whole = typed(raw, array.node.kind).reshape(self.shape)
-            got = self.held[name]
-            if got.shape == self.shape:
-                assert got.tolist() == whole.tolist(), (self.seed, name)
+            shown_there = laid(typed(raw, array.node.kind), self.shape, array.axes)
+            assert self.held[name].tolist() == shown_there.tolist(), (self.seed, name)
         self.count.runs += 1
-
-
-def reached(rows: Any, key: str) -> set[int]:
-    """The rows that a key's value behind rows is made of, as docs/MACHINE.md says what rows read."""
-    origins: dict[str, int] = {}
-    made_of: list[set[int]] = []
-    for place, (_, text) in enumerate(rows):
-        keys = keys_of(text)
-        made_of.append({place}.union(*(made_of[origins[read]] for read in keys.reads if read in origins)))
-        origins.update(dict.fromkeys(keys.writes, place))
-    return {rows[place][0] for place in (made_of[origins[key]] if key in origins else set())}
 
 
 def play(seed: int, calls: int, with_run: bool = False) -> Count:
@@ -239,13 +241,23 @@ def play(seed: int, calls: int, with_run: bool = False) -> Count:
     return one.count
 
 
-def main() -> None:
-    """Plays many."""
+def main() -> int:
+    """Plays many. The exit status is 1 where one is wrong."""
     first, count, calls = map(int, sys.argv[1:4])
-    played = [play(seed, calls, seed % 10 == 0) for seed in range(first, first + count)]
-    for name in ("calls", "looks", "refused", "runs", "rows"):
-        print(name, sum(getattr(each, name) for each in played))
+    total, wrong = Count(), 0
+    for played, seed in enumerate(range(first, first + count), 1):
+        try:
+            one = play(seed, calls, True)
+            for name in TOLD:
+                setattr(total, name, getattr(total, name) + getattr(one, name))
+        except AssertionError as error:
+            wrong += 1
+            print(f"seed {seed}: {error!r} {error.__cause__ or ''}", flush=True)
+        if played % 250 == 0 or played == count:
+            told = ", ".join(f"{getattr(total, name):,} {words}" for name, words in TOLD.items())
+            print(f"{played:,} functions, {told}, {wrong} wrong", flush=True)
+    return int(wrong > 0)
 
 
 if __name__ == "__main__":
-    main()
+    sys.exit(main())

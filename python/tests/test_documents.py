@@ -1,4 +1,4 @@
-"""The examples of docs/PYTHON.md and docs/ARRAYS.md, run as they stand there, and the programs that measure."""
+"""The examples of docs/PYTHON.md, ARRAYS.md and GALLERY.md, run as they stand there, and the programs that measure."""
 
 from __future__ import annotations
 
@@ -30,13 +30,37 @@ def test_the_examples_give_what_the_document_says(library: bool) -> None:
             value.close()
 
 
-def test_the_examples_of_functions_give_what_the_document_says(libparis: Path) -> None:
-    path = REPOSITORY / "docs/ARRAYS.md"
+@pytest.mark.parametrize("name", ["ARRAYS", "GALLERY"])
+def test_the_examples_of_functions_give_what_the_document_says(libparis: Path, name: str) -> None:
+    path = REPOSITORY / f"docs/{name}.md"
     text = path.read_text(encoding="utf-8")
     blocks = re.findall(r"```python\n(.*?)```", text, re.S)
-    test = doctest.DocTestParser().get_doctest("\n".join(blocks), {}, "docs/ARRAYS.md", str(path), 0)
+    test = doctest.DocTestParser().get_doctest("\n".join(blocks), {}, f"docs/{name}.md", str(path), 0)
     assert len(test.examples) == text.count("\n>>> ") > 30
     assert doctest.DocTestRunner().run(test).failed == 0
+
+
+def lists_in(text: str) -> list[list[int]]:
+    """The lists of whole numbers in a text."""
+    return [[int(word) for word in found.split(", ")] for found in re.findall(r"\[((?:\d+, )+\d+)\]", text)]
+
+
+def test_the_gallery_gives_what_the_scripts_of_examples_give() -> None:
+    """Its lists stand at the front of what the scripts show, where numbers that no processor has are left out."""
+    text = (REPOSITORY / "docs/GALLERY.md").read_text(encoding="utf-8")
+    blocks = re.findall(r"\*\*([^*]*)[.,]\*\*.*?```python\n(.*?)```", text.split("## The programs of")[1], re.S)
+    assert len(blocks) == 8
+    for name, block in blocks:
+        script = name.lower().replace(" by vector", " vector").replace(" ", "-")
+        expected = (REPOSITORY / "examples" / f"{script}.expected").read_text(encoding="utf-8")
+        shown = [line.split()[1:] for line in expected.splitlines() if line.startswith("values")]
+        numbers = [[int(word) for word in line] for line in shown]
+        got = lists_in("".join(line for line in block.splitlines(True) if not line.startswith((">>>", "..."))))
+        for each in got if name != "Life" else ():
+            assert any(line[: len(each)] == each or [number for number in line if number] == each for line in numbers)
+        if name == "Life":
+            assert any([[at // 8, at % 8] for at, cell in enumerate(line) if cell] == got for line in numbers)
+        assert got or name == "Dot product"
 
 
 def test_the_document_names_each_call() -> None:
@@ -63,15 +87,16 @@ def test_bench_measures_arrays(libparis: Path) -> None:
     rounds, lines = (table.splitlines() for table in ran.stdout.split("\n\n"))
     assert rounds[0].startswith("| one round |") and len(rounds) == 5
     assert all(re.fullmatch(r"\| (8|32|64) bits (\|[ \d./]+ms ){5}\| \*\*\d+\.\d\*\* \|", line) for line in rounds[2:])
-    assert all(re.fullmatch(r"\|[^|]+\| \d+(\.\d+ µs each| ns) \|", line) for line in lines[2:])
+    assert all(re.fullmatch(r"\|[^|]+\| \d+(\.\d+ µs each| ns) \|", line) for line in lines[2:-1])
 
 
 def test_bench_measures_functions(libparis: Path) -> None:
     words = [sys.executable, str(REPOSITORY / "bench/functions"), "1", "64"]
     ran = subprocess.run(words, capture_output=True, text=True, timeout=60)
     lines = ran.stdout.splitlines()
-    assert (ran.returncode, ran.stderr, len(lines)) == (0, "", 5) and lines[0].startswith("| operations |")
-    assert all(re.fullmatch(r"\| [a-z ]+, 64 \| \d+ µs (\|[ \d.()]+){8}\|", line) for line in lines[2:])
+    assert (ran.returncode, ran.stderr, len(lines)) == (0, "", 6) and lines[0].startswith("| operations |")
+    assert lines[-1] == "life from 4 to 5 generations: 15 of 77 rows ran, and one has 15"
+    assert all(re.fullmatch(r"\| [a-z ]+, 64 \| \d+ µs (\|[ \d.()]+){11}\|", line) for line in lines[2:-1])
 
 
 def test_the_first_program_over_the_library_writes_what_the_document_says(libparis: Path, tmp_path: Path) -> None:

@@ -46,9 +46,9 @@ def sent(monkeypatch: pytest.MonkeyPatch) -> Iterator[list[Any]]:
     told: list[Any] = []
     tell, give = Session.tell, Session.give
 
-    def tell_and_note(self: Session, lines: Any, next_row: int) -> None:
+    def tell_and_note(self: Session, lines: Any) -> None:
         told.extend(lines)
-        tell(self, lines, next_row)
+        tell(self, lines)
 
     def give_and_note(self: Session, field: str, first: int, words: Any) -> None:
         told.append((field, first, len(words)))
@@ -73,6 +73,31 @@ def test_other_numbers_send_the_part_that_differs_and_trace_nothing(sent: list[A
     other[0] = 2
     p(PRICE, other)
     assert sent == [("count", 0, 1)]
+
+
+def test_the_last_call_again_with_some_arguments_others(sent: list[Any]) -> None:
+    p = follow(lambda *arrays, **named: numpy.maximum(*arrays) * named["by"] + named["c"])
+    with pytest.raises(IndexError, match="was not called yet"):
+        p.again(c=COUNT)
+    p(PRICE, COUNT, by=2, c=COUNT)
+    high = numpy.maximum(PRICE, COUNT)
+    assert p.result.tolist() == (high * 2 + COUNT).tolist()
+    sent.clear()
+    other = changed(COUNT, 2, 9)
+    assert p.again(c=other).result.tolist() == (high * 2 + other).tolist() and sent == [("c", 2, 1)]
+    assert p.again(by=3).result.tolist() == (high * 3 + other).tolist() and p.traces == 2
+    assert p.again(arrays1=PRICE).result.tolist() == (PRICE * 3 + other).tolist()
+    with pytest.raises(TypeError, match="the last call has arrays0, arrays1, by, c, and no d"):
+        p.again(d=1)
+    p.undo().undo()
+    assert p.again(c=COUNT).result.tolist() == (high * 2 + COUNT).tolist()
+    # An array that isn't named is as it was, and one that is named is compared.
+    sent.clear()
+    assert (
+        p.again(arrays0=PRICE[::-1].copy(), arrays1=COUNT).result.tolist()
+        == (numpy.maximum(PRICE[::-1], COUNT) * 2 + COUNT).tolist()
+    )
+    assert len(sent) == 1
 
 
 def test_another_constant_replaces_a_row(sent: list[Any]) -> None:
@@ -122,6 +147,20 @@ def test_what_a_function_reads_beside_its_arguments_is_seen(monkeypatch: pytest.
     assert p(PRICE).result.tolist() == (PRICE * 2 + 10).tolist()
     monkeypatch.setattr(sys.modules[__name__], "helper", lambda a: a)
     assert p(PRICE).result.tolist() == (PRICE + 10).tolist() and p.traces == 5
+
+
+def test_what_an_argument_holds_is_seen_where_it_is_changed() -> None:
+    def scaled(a: Any, numbers: Any, **named: Any) -> Any:
+        return a * len(numbers) + numbers[0] + named["more"]["by"]
+
+    numbers, more = [1], {"by": 2}
+    p = follow(scaled)(PRICE, numbers, more=more)
+    assert p.result.tolist() == (PRICE + 3).tolist()
+    numbers[:] = [7, 5]
+    assert p(PRICE, numbers, more=more).result.tolist() == (PRICE * 2 + 9).tolist()
+    more["by"] = 4
+    assert p.again(numbers=numbers).result.tolist() == (PRICE * 2 + 11).tolist() and p.traces == 3
+    assert p(PRICE, numbers, more=more).traces == 3
 
 
 def helper(a: Any) -> Any:
@@ -323,13 +362,25 @@ BAD: dict[str, tuple[Callable[..., Any], type[Exception], str]] = {
     "division": (lambda a: a / 2, NotTraced, "`//` gives whole numbers"),
     "mean": (lambda a: numpy.mean(a), NotTraced, r"`a\.sum\(\) // a\.size` is a whole number"),
     "power": (lambda a: a**2, NotTraced, r"`a \* a` is a square"),
+    "compress": (lambda a: numpy.compress(a > 3, a), NotTraced, "`algorithms.pack` puts them at the front"),
+    "extract": (lambda a: numpy.extract(a > 3, a), NotTraced, "`algorithms.pack` puts them at the front"),
+    "diff": (lambda a: numpy.diff(a), NotTraced, r"`a - numpy\.roll\(a, 1\)` has the differences"),
+    "at": (lambda a: numpy.add.at(a, a, a), NotTraced, r"`a\.scatter\(places, values, how\)` gives an array"),
+    "reduceat": (lambda a: numpy.add.reduceat(a, a), NotTraced, r"`a\.scan\(how, segments=begins\)` combines within"),
+    "outer method": (lambda a: numpy.add.outer(a, a), NotTraced, "an outer product wants arrays of one more axis"),
+    "format": (lambda a: f"{a.sum():d}", NotTraced, "a number of an array is known once the program has run"),
     "unique": (lambda a: numpy.unique(a), NotTraced, "`algorithms.distinct` puts them at the front"),
     "nonzero": (lambda a: a.nonzero(), NotTraced, "`algorithms.pack` puts them at the front"),
     "reshape": (lambda a: a.reshape(2, 4), NotTraced, "another shape, and a program has one"),
     "slice": (lambda a: a[1:], NotTraced, "a part of an array has another shape, `numpy.where` masks"),
     "mask": (lambda a: a[a > 3], NotTraced, "booleans are no places: `algorithms.pack`"),
     "sine": (lambda a: numpy.sin(a), NotTraced, r"numpy\.sin isn't among what becomes rows: docs/ARRAYS\.md lists"),
-    "other array": (lambda a: a + PRICE, NotTraced, "give it as an argument of the function"),
+    "other array": (
+        lambda a: a + PRICE,
+        NotTraced,
+        "as an array of numpy's that is an argument of the function they are input data",
+    ),
+    "range": (lambda a: a + list(range(8)), NotTraced, r"`a\.addresses\(\)` are the numbers from 0 on"),
     "no room": (
         lambda a: a + 70_000,
         NotTraced,

@@ -2,6 +2,7 @@
 
 from __future__ import annotations
 
+import os
 import sys
 from collections.abc import Iterator
 from contextlib import contextmanager
@@ -13,7 +14,7 @@ import pytest
 pytest.importorskip("numpy")
 import follow_edits  # noqa: E402
 
-FUNCTIONS, CALLS = 240, 20
+FUNCTIONS, CALLS = int(os.environ.get("PEVUDLO_FUNCTIONS", "240")), 20
 MOST_TRIED = 150
 
 MUTANTS = {
@@ -49,8 +50,8 @@ MUTANTS = {
     ),
     "input data that is given again isn't compared": (
         "numbers",
-        "changed = numpy.flatnonzero(before != now)",
-        "changed = numpy.flatnonzero(before != before)",
+        "is_other = before != now",
+        "is_other = before != before",
     ),
     "nothing is traced again": ("state", "self.function is other.function", "True or self.function is other.function"),
     "the old value isn't kept to be looked at": (

@@ -15,7 +15,6 @@ follow = pytest.importorskip("pevudlo").follow
 
 SIZE = 16
 ALL = range(1, 129)
-SOME = (1, 2, 3, 5, 8, 9, 13, 16, 17, 31, 32, 33, 47, 63, 64, 65, 80, 101, 127, 128)
 
 
 def wide(high: Any, low: Any, bits: int, signed: bool) -> Any:
@@ -87,7 +86,7 @@ def numbers(dice: random.Random, bits: int, signed: bool) -> tuple[Any, Any]:
     return numpy.array(high, dtype=numpy.uint64), numpy.array(low, dtype=numpy.uint64)
 
 
-@pytest.mark.parametrize(("function", "widths"), [(arithmetic, ALL), (between, SOME)])
+@pytest.mark.parametrize(("function", "widths"), [(arithmetic, ALL), (between, ALL)])
 def test_operations_are_those_of_whole_numbers(libparis: Path, function: Any, widths: Any) -> None:
     dice, held = random.Random(63), follow(function)
     for bits, signed in product(widths, (False, True)):

@@ -234,6 +234,35 @@ def test_what_the_pieces_give_to_python(notebook: Notebook) -> None:
     notebook.run("%paris script")
 
 
+def test_an_array_is_taken_into_cells(notebook: Notebook) -> None:
+    """It is the input data of a key, a piece of its own, and an edit where it is given again."""
+    notebook.run(f"%%paris data\n{DATA}")
+    notebook.run(f"%%paris rows\n{ROWS}")
+    notebook.run("import numpy\ngiven = numpy.array([-1, 2, 3, 200], dtype=numpy.int16)")
+    shown = notebook.run("%paris input a = given")
+    assert [head.split(":")[0] for _, head in shown] == ["rows, drawn anew", "input a"]
+    text = DATA + ROWS + "input a 0 255 2 3 200\n"
+    notebook.run("values = %paris values b\nvalues.tolist()")
+    assert notebook.result == look(text, "show b end") == [254, 4, 6, 144]
+    notebook.run("%paris input a = 7")
+    notebook.run("values = %paris values b\nvalues.tolist()")
+    assert notebook.result == [14] * 4 and notebook.magic.pieces.names == ["data", "rows", "input a"]
+    for cell, words in (
+        ("%paris input c2 = given", "there is no key c2: a cell declares it before it has input data"),
+        ("%paris input a = given[:2]", r"a wants values of shape \(4,\), and these are of \(2,\)"),
+        ("%paris input a = given * 100", "has no two's complement of 8 bits"),
+        ("%paris input a = given / 2", "values are whole numbers"),
+        ("%paris input a", "%paris input KEY = ARRAY"),
+    ):
+        with pytest.raises(Exception, match=words):
+            notebook.run(cell)
+    notebook.run("values = %paris values b\nvalues.tolist()")
+    assert notebook.result == [14] * 4
+    notebook.run("%paris drop input a")
+    notebook.run("values = %paris values b\nvalues.tolist()")
+    assert notebook.result == look(DATA + ROWS, "show b end")
+
+
 def test_words_that_mean_nothing(notebook: Notebook) -> None:
     for cell, words in (
         ("%%paris\nset S 4", CELL),

@@ -46,7 +46,7 @@ STANDS_ON = {
     "document": TALKING,
     "lsp": TALKING + " document version",
     "notebook": TALKING + " document",
-    "follow": "document interrupts lang values wire",
+    "follow": "document draw interrupts lang values wire",
     "algorithms": "",
     "help": "draw hints prompt reference wire",
     "cli": "draw hints script version",

@@ -40,11 +40,17 @@ SERVES = {
     "mean": "a mean is a float: `a.sum() // a.size` is a whole number",
     "average": "a mean is a float: `a.sum() // a.size` is a whole number",
     "nonzero": "how many there are is known once the program has run: `algorithms.pack` puts them at the front",
+    "compress": "how many there are is known once the program has run: `algorithms.pack` puts them at the front",
+    "extract": "how many there are is known once the program has run: `algorithms.pack` puts them at the front",
+    "diff": "`a - numpy.roll(a, 1)` has the differences, and as many numbers as the array",
+    ".at": "`a.scatter(places, values, how)` gives an array in which values are combined at places",
+    ".reduceat": "`a.scan(how, segments=begins)` combines within segments: the last number of each has all of it",
+    ".outer": "an outer product wants arrays of one more axis: `a[:, None]` and `a[None, :]` of a set of two",
     "unique": "how many there are is known once the program has run: `algorithms.distinct` puts them at the front",
     "prod": "no row multiplies along lines: multiply arrays, or scan logarithms",
     "cumprod": "no row multiplies along lines: multiply arrays, or scan logarithms",
 }
-"""What serves in the place of functions that aren't here."""
+"""What serves in the place of functions that aren't here, and in that of methods of numpy's elementwise functions."""
 
 OTHER_SHAPE = {
     "reshape",
@@ -124,6 +130,11 @@ class Array(NDArrayOperatorsMixin):
 
     def __float__(self) -> float:
         unknown("a number of an array")
+
+    def __format__(self, words: str) -> str:
+        if words:
+            unknown("a number of an array")
+        return repr(self)
 
     def __index__(self) -> int:
         unknown("a number of an array")
@@ -325,7 +336,8 @@ def refuse_name(name: str) -> NoReturn:
     """Raises NotTraced for a function of numpy's that isn't here."""
     if name in OTHER_SHAPE:
         refuse(f"numpy.{name} gives another shape, and a program has one: `take` and `scatter` move numbers within it")
-    refuse(SERVES.get(name, f"numpy.{name} isn't among what becomes rows: docs/ARRAYS.md lists what is"))
+    serves = SERVES.get(name) or SERVES.get(name[name.find(".") :])
+    refuse(serves or f"numpy.{name} isn't among what becomes rows: docs/ARRAYS.md lists what is")
 
 
 def dtype_of(kind: Kind) -> numpy.dtype[Any]:
@@ -351,7 +363,10 @@ def as_array(value: Any, like: Array, weak: bool = True) -> Array:
     try:
         number = operator.index(value)
     except TypeError:
-        refuse("numbers of another array: give it as an argument of the function, so that it is input data")
+        refuse(
+            "numbers of another array, or of a list: as an array of numpy's that is an argument of the function they "
+            "are input data, and `a.addresses()` are the numbers from 0 on"
+        )
     kind = like.kind if weak and not like.kind.boolean else Kind(64, True)
     least, most = kind.limits
     if not least <= number <= most:

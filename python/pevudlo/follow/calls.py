@@ -4,9 +4,8 @@ from __future__ import annotations
 
 import inspect
 from collections.abc import Callable, Iterator, Mapping
-from dataclasses import dataclass
 from functools import lru_cache
-from typing import Any
+from typing import Any, NamedTuple
 
 import numpy
 
@@ -18,8 +17,7 @@ Numbers = numpy.ndarray[Any, numpy.dtype[Any]]
 MOST_PROCESSORS, MOST_AXES = 65_536, 4
 
 
-@dataclass(frozen=True)
-class Argument:
+class Argument(NamedTuple):
     """What is known of an array that is given: its kind and its shape."""
 
     kind: Kind
@@ -74,17 +72,40 @@ class Call:
 
     def traced(self, function: Callable[..., Any], given: Mapping[str, Any]) -> Any:
         """What the function gives where arrays are these others."""
+        bound = self.bound(given)
+        return function(*bound.args, **bound.kwargs)
+
+    def bound(self, others: Mapping[str, Any]) -> inspect.BoundArguments:
+        """The arguments, with others in the place of those of these names."""
         arguments = dict(self.arguments)
         for name, value in self.arguments.items():
             kind = self.signature.parameters[name].kind
             if kind is inspect.Parameter.VAR_POSITIONAL:
-                arguments[name] = tuple(given.get(f"{name}{at}", each) for at, each in enumerate(value))
+                arguments[name] = tuple(others.get(f"{name}{at}", each) for at, each in enumerate(value))
             elif kind is inspect.Parameter.VAR_KEYWORD:
-                arguments[name] = {key: given.get(key, each) for key, each in value.items()}
+                arguments[name] = {key: others.get(key, each) for key, each in value.items()}
             else:
-                arguments[name] = given.get(name, value)
-        bound = inspect.BoundArguments(self.signature, arguments)  # type: ignore[arg-type]
-        return function(*bound.args, **bound.kwargs)
+                arguments[name] = others.get(name, value)
+        return inspect.BoundArguments(self.signature, arguments)  # type: ignore[arg-type]
+
+    def constant(self, name: str) -> int:
+        """The whole number that an argument is. Raises TypeError where there is no such argument, or it is another."""
+        value = self.constants.get(name)
+        if not isinstance(value, (int, numpy.integer)) or isinstance(value, bool):
+            numbers = [each for each, number in self.constants.items() if isinstance(number, int)]
+            raise TypeError(
+                f"whole numbers of the last call are {', '.join(numbers) or 'none'}, and {name} is none of them"
+            )
+        return int(value)
+
+    def again(self, function: Callable[..., Any], others: Mapping[str, Any]) -> Call:
+        """The same call with some others of its arguments. Raises TypeError where it has none of such a name."""
+        names = [name for name, _ in self.named_values()]
+        for name in others:
+            if name not in names:
+                raise TypeError(f"the last call has {', '.join(names) or 'no arguments'}, and no {name}")
+        bound = self.bound(others)
+        return Call(function, bound.args, bound.kwargs)
 
     def shape(self, wanted: tuple[int, ...] | None) -> tuple[int, ...]:
         """The shape of the set. Raises TooMuch and NotTraced."""

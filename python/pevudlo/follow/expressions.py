@@ -39,9 +39,12 @@ class Kind(NamedTuple):
 BOOLEAN = Kind(1, False, True)
 
 
+ROOMS = tuple(next(width for width in WIDTHS if bits <= width) for bits in range(WIDEST + 1))
+
+
 def room(bits: int) -> int:
     """The width of the field for numbers of so many bits."""
-    return next(width for width in WIDTHS if bits <= width)
+    return ROOMS[bits]
 
 
 class Node:
@@ -57,7 +60,7 @@ class Node:
     ) -> None:
         self.number, self.operation, self.detail, self.operands = number, operation, detail, operands
         self.kind, self.quiet, self.line = kind, quiet, present_line()
-        self.inputs = 0
+        self.inputs: int = 0
         for operand in operands:
             self.inputs |= operand.inputs
 

@@ -17,11 +17,13 @@ from pevudlo.follow.calls import Call, check_shape
 from pevudlo.follow.edits import Row
 from pevudlo.follow.expressions import Node
 from pevudlo.follow.layout import in_order
-from pevudlo.follow.looks import Traffic, Why, refused_words, script, told_operation, traffic_of, why
+from pevudlo.follow.looks import Why, refused_words, script, told_operation, why
 from pevudlo.follow.numbers import Numbers, laid, typed
 from pevudlo.follow.refusals import Overflow, OverflowWarning, RowRefused
 from pevudlo.follow.session import OVERFLOW, Run, keys_of
-from pevudlo.follow.state import Data, State, changed_data, made_of, traced
+from pevudlo.follow.shown import Refusals, Shown, Untold, Value, Watch, slider_of
+from pevudlo.follow.state import NO_EDITS, Data, Edits, State, changed_data, made_of, traced
+from pevudlo.follow.traffic import Traffics, traffic_of
 from pevudlo.interrupts import undisturbed
 from pevudlo.wire.library import Held
 from pevudlo.wire.library_calls import START_NUMBER
@@ -47,6 +49,7 @@ class Followed:
         self._state: State | None = None
         self._steps = deque[tuple[State, Held | None]](maxlen=steps)
         self._counts = dict[int, int]()
+        self._watched = dict[str, Watch]()
         self._lock = RLock()
 
     def __repr__(self) -> str:
@@ -66,30 +69,47 @@ class Followed:
         if any(isinstance(value, Array) for value in (*args, *named.values())):
             return self.followed_function(*args, **named)
         with self._lock:
-            call = Call(self.followed_function, args, named)
-            made, state = made_of(self.followed_function, call, self._shape), self._state
-            edits = list[str]()
-            if state is None or not state.made.is_same(made):
-                self.traces += 1
-                state, edits = traced(made, call, state)
-            self._bring(state, edits, changed_data(state, call))
+            self._follow(Call(self.followed_function, args, named), lambda _: False)
         return self
 
-    def _bring(self, state: State, edits: Sequence[str], data: Sequence[Data]) -> None:
+    def again(self, **named: Any) -> Followed:
+        """The last call again, with some others of its arguments, by name.
+
+        Arrays that aren't named are taken as they were: one that was written into is named too.
+        """
+        with self._lock:
+            call = self._present().call.again(self.followed_function, named)
+            self._follow(call, lambda name: name not in named)
+        return self
+
+    def _follow(self, call: Call, is_kept: Callable[[str], bool]) -> None:
+        """Brings the rows in step with a call, of which some arrays are as they were."""
+        made, state = made_of(self.followed_function, call, self._shape), self._state
+        edits = NO_EDITS
+        if state is None or not state.made.is_same(made):
+            self.traces += 1
+            state, edits = traced(made, call, state)
+        self._bring(replace(state, call=call), edits, changed_data(state, call, is_kept))
+        self._renew()
+
+    def _bring(self, state: State, edits: Edits, data: Sequence[Data]) -> None:
         """Makes a state the present one, with its edits and its input data told, as one step."""
         before, session = self._state, state.session
-        if before is not None and not edits and not data:
+        if before is not None and not any(edits) and not data:
             self._state = state
             return
         is_same = before is not None and before.session is session
-        held = session.book.snapshot() if is_same else None
+        # (one edit alone is its own way back: it is made, or nothing is)
+        is_one = self._steps.maxlen == 0 and sum(map(len, (*edits, data))) == 1
+        held = session.book.snapshot() if is_same and not is_one else None
         given = dict(state.given)
         try:
             with undisturbed():
-                session.tell(edits, before.next_row if is_same and before else 1)
+                session.tell(edits.fields)
                 for each in data:
                     session.give(each.field, each.first, each.words)
                     given[each.field] = each.array
+                session.tell(edits.rows)
                 self._state = replace(state, given=given)
         except BaseException:
             if held is not None:
@@ -113,6 +133,7 @@ class Followed:
                 before.session.book.exchange(held)
             self._state, self._run = before, Run(None, [], 0)
             self._counts.clear()
+            self._renew()
         return self
 
     def close(self) -> None:
@@ -122,6 +143,7 @@ class Followed:
                 state.session.close()
             self._steps.clear()
             self._counts.clear()
+            self._watched.clear()
             self._state, self._run = None, Run(None, [], 0)
 
     # Looks.
@@ -130,6 +152,11 @@ class Followed:
     def names(self) -> tuple[str, ...]:
         """The names of what the function returns."""
         return tuple(self._present().results)
+
+    @property
+    def rows(self) -> tuple[int, ...]:
+        """The ids of the rows, in the order of the program."""
+        return tuple(row for row, _ in self._present().rows)
 
     @property
     def result(self) -> Numbers:
@@ -152,10 +179,11 @@ class Followed:
             state, array = self._named(name)
             at, rows = state.place(array.node)
             self._run, raw = self._settled(at, rows, state.layout.widths[at])
+            numbers = laid(typed(raw, array.node.kind), state.made.shape, array.axes)
             self._check_refused(state, array.node)
             if self._overflow is not None:
                 self._tell_overflows(self._overflows(state, [array.node]))
-            return laid(typed(raw, array.node.kind), state.made.shape, array.axes)
+            return numbers
 
     def _present(self) -> State:
         """The present state. Raises IndexError before the first call."""
@@ -177,9 +205,10 @@ class Followed:
         raw = session.numbers(key, row, width)
         if raw is not None:
             return Run(None, [], 0), raw
-        run = session.settle(key, rows)
-        for each, _ in run.rows:
+        waiting = session.waiting(key, rows)
+        for each, _ in waiting:
             self._counts.pop(each, None)
+        run = session.settle(key, row, waiting)
         raw = session.numbers(key, row, width)
         assert raw is not None
         return run, raw
@@ -231,14 +260,54 @@ class Followed:
         with self._lock:
             return script(self._present())
 
-    def traffic(self) -> list[Traffic]:
-        """What goes between processors, by lines of Python: what has most messages first. All rows run for it."""
+    def traffic(self) -> Traffics:
+        """What goes between processors, by lines of Python: what has most messages first. All rows run for it.
+
+        A notebook shows it with a picture for each line by address, and `p.traffic().page()` is that as a page of HTML.
+        """
         with self._lock:
             state = self._present()
             for node in in_order(array.node for array in state.results.values()):
                 at, rows = state.place(node)
                 self._settled(at, rows, state.layout.widths[at])
             return traffic_of(state)
+
+    # Notebooks.
+
+    def watch(self, name: str | int) -> None:
+        """Shows a result in a notebook, and draws it anew there whenever a call makes it another one.
+
+        Raises KeyError, and ImportError without IPython.
+        """
+        with self._lock:
+            self._named(name)
+            found = self._watched.get(str(name))
+            if found is not None:
+                found.display()
+            else:
+                self._watched[str(name)] = Watch(lambda before: self._shown(str(name), before))
+
+    def slider(self, name: str, least: int, most: int, step: int = 1) -> Any:
+        """A slider of ipywidgets that calls again with another number for an argument, as `again` does.
+
+        Raises TypeError where the last call has no such argument, and ImportError without ipywidgets.
+        """
+        with self._lock:
+            value = self._present().call.constant(name)
+        return slider_of(name, value, least, most, step, lambda number: self.again(**{name: number}))
+
+    def _shown(self, name: str, before: Numbers | None) -> Shown:
+        """A result as a notebook shows it."""
+        try:
+            array = self[name]
+            return Value(name, self._named(name)[1].kind, array, len(self.ran), before)
+        except Refusals as error:
+            return Untold(name, error)
+
+    def _renew(self) -> None:
+        """Draws anew what is watched and is another one."""
+        for watch in self._watched.values():
+            watch.renew()
 
 
 NAMED = weakref.WeakValueDictionary[str, Followed]()

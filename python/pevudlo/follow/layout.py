@@ -5,7 +5,7 @@ from __future__ import annotations
 import re
 from collections.abc import Iterable, Sequence
 from dataclasses import dataclass, field
-from itertools import chain
+from itertools import chain, islice
 
 from pevudlo.follow.expressions import WIDTHS, Node, room
 from pevudlo.follow.refusals import Line, TooMuch, most_of
@@ -15,6 +15,9 @@ from pevudlo.lang.instructions import spell
 MOST_FIELDS, MOST_ROWS = 64, 4_096
 SPARE = 4
 """So many fields are left undeclared while others are free."""
+
+NEAR = 8
+"""Among so many fields that are free one is looked for whose old value needs no end."""
 
 FIELD_NAME = re.compile(r"(?!none$|v[0-9]+$)[A-Za-z][A-Za-z0-9_]{0,15}")
 
@@ -134,20 +137,27 @@ class Placing:
         width = room(node.kind.bits)
         for name in self.ending.pop(at - 1, ()):
             self.used[self.layout.widths[name]][name] = None
-        frees = self.clean[width], self.used[width], self.kept[width]
-        kept, count = self.before.kept.get(node.number, ""), len(self.layout.widths)
-        if any(kept in free for free in frees):
-            name = kept
-        elif frees[0]:
-            name = next(iter(frees[0]))
-        elif any(frees) and (self.is_tight or count >= MOST_FIELDS - SPARE):
-            name = next(chain(*frees))
-        else:
-            name = self.declared(width, f"v{count}", node)
-        for free in frees:
+        clean, used, kept = self.clean[width], self.used[width], self.kept[width]
+        name = self.before.kept.get(node.number, "")
+        if name not in clean and name not in used and name not in kept:
+            name = self.another(width, node)
+        for free in (clean, used, kept):
             free.pop(name, None)
         self.ending.setdefault(max(at, self.last.get(node.number, -1)), []).append(name)
         return name
+
+    def another(self, width: int, node: Node) -> str:
+        """A field that the expression didn't have in the trace before: a clean one, a new one, or a used one."""
+        clean, used, kept = self.clean[width], self.used[width], self.kept[width]
+        if clean:
+            return next(iter(clean))
+        if not (used or kept) or not (self.is_tight or len(self.layout.widths) >= MOST_FIELDS - SPARE):
+            return self.declared(width, f"v{len(self.layout.widths)}", node)
+        # One whose old value stands on no other argument wants no row that ends it. It is among the last ones.
+        for name in islice(reversed(used), NEAR):
+            if not self.held[name].inputs & ~node.inputs:
+                return name
+        return next(chain(used, kept))
 
     def declared(self, width: int, name: str, node: Node) -> str:
         """A new field. Raises TooMuch where there are as many as a program may have."""

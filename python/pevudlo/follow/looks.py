@@ -4,10 +4,7 @@ from __future__ import annotations
 
 import linecache
 from collections.abc import Iterable
-from dataclasses import dataclass, field
-from typing import Any
-
-import numpy
+from dataclasses import dataclass
 
 from pevudlo.follow.expressions import Node
 from pevudlo.follow.layout import in_order
@@ -125,58 +122,3 @@ def script(state: State) -> str:
         at, count = state.layout.places[array.node.number]
         lines += [f"# {name}, {array.kind}", f"show {at} {f'after {count}' if count else 'start'}"]
     return "\n".join(lines) + "\n"
-
-
-# Messages.
-
-
-@dataclass
-class Traffic:
-    """What the rows of a line send between processors: how many messages, the most to or from one, and how far.
-
-    `distance` is the mean of how many bits of the two addresses differ, as on a cube. Scans and spreads have none.
-    """
-
-    line: Line
-    instruction: str
-    rows: int = 0
-    messages: int = 0
-    most: int = 0
-    distance: float = 0.0
-    processor: int | None = None
-    _bits: int = field(default=0, repr=False)
-
-    def __str__(self) -> str:
-        hot = "" if self.processor is None else f", the most {self.most:,} at processor {self.processor}"
-        return f"{self.line}: {self.instruction}, {self.rows} rows, {self.messages:,} messages{hot}"
-
-
-def traffic_of(state: State) -> list[Traffic]:
-    """What goes between processors, by lines and instructions."""
-    found = dict[tuple[Line, str], Traffic]()
-    before = 0
-    for (row, text), node in state.pairs():
-        instruction, named = read(text)
-        name = instruction.name
-        if instruction.is_by_address or name.startswith(("get-from-news", "scan", "spread")):
-            entry = found.setdefault((node.line, name), Traffic(node.line, name))
-            entry.rows += 1
-            entry.messages += state.session.size
-            if instruction.is_by_address:
-                add_addresses(entry, state, named, before)
-        before = row
-    return sorted(found.values(), key=lambda entry: -entry.messages)
-
-
-def add_addresses(entry: Traffic, state: State, named: Any, before: int) -> None:
-    """Adds what a row sends by address."""
-    at = named[Operand.B]
-    places = settled(state, at, before).astype(numpy.int64)
-    size = state.session.size
-    inside = (places >= 0) & (places < size)
-    counts = numpy.bincount(places[inside], minlength=size)
-    if int(counts.max()) > entry.most:
-        entry.most, entry.processor = int(counts.max()), int(counts.argmax())
-    differing = (numpy.arange(size)[inside] ^ places[inside]).astype(numpy.uint64)
-    entry._bits += int(sum(numpy.count_nonzero(differing >> numpy.uint64(bit) & numpy.uint64(1)) for bit in range(16)))
-    entry.distance = entry._bits / (entry.rows * size)

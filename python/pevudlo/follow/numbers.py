@@ -30,8 +30,11 @@ def difference(before: Optional[Numbers], now: Numbers) -> Optional[range]:
     """The places from the first to the last number that is another one, or None. Without numbers before it is all."""
     if before is None or before.shape != now.shape or before.dtype != now.dtype:
         return range(now.size)
-    changed = numpy.flatnonzero(before != now)
-    return range(int(changed[0]), int(changed[-1]) + 1) if len(changed) else None
+    is_other = before != now
+    if not is_other.any():
+        return None
+    changed = numpy.flatnonzero(is_other)
+    return range(int(changed[0]), int(changed[-1]) + 1)
 
 
 def typed(raw: Numbers, kind: Kind) -> Numbers:

@@ -41,8 +41,12 @@ def made(*names: str, table: dict[str, Callable[..., Any]] = FUNCTIONS) -> Calla
 def joined(arrays: Sequence[Array]) -> Axes:
     """The axes of an elementwise result, by numpy's rule: from the last axis on."""
     first = arrays[0].axes
-    if None not in first and all(array.axes == first for array in arrays):
-        return first
+    if None not in first:
+        for array in arrays:
+            if array.axes != first:
+                break
+        else:
+            return first
     axes = list[Optional[int]]()
     for at in range(1, max(array.ndim for array in arrays) + 1):
         here = {array.axes[-at] for array in arrays if array.ndim >= at} - {None}
@@ -57,8 +61,20 @@ def joined(arrays: Sequence[Array]) -> Axes:
     return tuple(reversed(axes))
 
 
+def is_fitted(values: Sequence[Any]) -> bool:
+    """Whether two values are arrays of one trace and one kind, as most are."""
+    if len(values) != 2:
+        return False
+    one, other = values
+    if not (isinstance(one, Array) and isinstance(other, Array)) or one.trace is not other.trace:
+        return False
+    return one.node.kind == other.node.kind
+
+
 def fitted(values: Sequence[Any]) -> list[Array]:
     """Arrays of one kind: of the greater width, and signed where one of them is."""
+    if is_fitted(values):
+        return list(values)
     like = next(value for value in values if isinstance(value, Array))
     arrays = [as_array(value, like) for value in values]
     kinds = {array.kind for array in arrays}

@@ -19,7 +19,10 @@ HOLDING = (list, dict, set, tuple, frozenset)
 
 
 def outside(function: Callable[..., Any]) -> Outside:
-    """The values of the names that a function reads, and of those that the functions read which it calls by name."""
+    """The values of the names that a function reads, and of those that the functions read which it calls by name.
+
+    These are the objects themselves: `kept` copies what holds others.
+    """
     found: Outside = {}
     stack, seen = [function], set[int]()
     while stack:
@@ -28,7 +31,7 @@ def outside(function: Callable[..., Any]) -> Outside:
             continue
         seen.add(id(each))
         place = len(seen)
-        told: Any = each.__code__, kept(each.__defaults__), kept(each.__kwdefaults__)
+        told: Any = each.__code__, each.__defaults__, each.__kwdefaults__
         found[place, ""] = told
         for name, value in values_read(each):
             inner: Any = getattr(value, "followed_function", value)
@@ -37,7 +40,7 @@ def outside(function: Callable[..., Any]) -> Outside:
                     stack.append(inner)
                 found[place, name] = inner.__code__
             else:
-                found[place, name] = kept(value)
+                found[place, name] = value
     return found
 
 

@@ -6,6 +6,7 @@ import os
 import sys
 from collections import Counter
 from collections.abc import Iterable, Sequence
+from functools import lru_cache
 from typing import NamedTuple, NoReturn
 
 import numpy
@@ -61,10 +62,16 @@ class OverflowWarning(UserWarning):
         super().__init__("\n    ".join(map(str, overflows)))
 
 
+@lru_cache(maxsize=1_024)
+def is_inside(file: str) -> bool:
+    """Whether a file is one of this package or of numpy."""
+    return file.startswith(INSIDE)
+
+
 def present_line() -> Line:
     """The line of Python that is run now: that of the first frame outside of this package and of numpy."""
     frame = sys._getframe(1)
-    while frame.f_back is not None and frame.f_code.co_filename.startswith(INSIDE):
+    while is_inside(frame.f_code.co_filename) and frame.f_back is not None:
         frame = frame.f_back
     return Line(frame.f_code.co_filename, frame.f_lineno)
 

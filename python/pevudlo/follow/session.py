@@ -95,43 +95,45 @@ class Session:
     def __init__(self, shape: tuple[int, ...]) -> None:
         self.shape, self.size = shape, prod(shape)
         self.book = Book(find_library(), PROFILE)
-        self.tell([set_line(shape)], 1)
+        self._numbers = numpy.empty(self.size, dtype=numpy.uint64)
+        self._room = Words(self._numbers.ctypes.data, self._numbers.data)
+        self.tell([set_line(shape)])
 
-    def tell(self, lines: Sequence[str], next_row: int) -> None:
-        """Tells edits, of which each must be accepted. Rows that are put in have the ids from `next_row` on."""
-        # (that of Book tells who waits for news of each line, and nobody does)
-        for line, reply in zip(lines, Library.ask_all(self.book, lines)):
-            wanted = "ok"
-            if line.startswith("insert "):
-                wanted, next_row = f"row {next_row}", next_row + 1
-            if reply != [wanted]:
-                raise RuntimeError(f"{line!r} is answered {reply[0]!r}, and not {wanted!r}")
+    def tell(self, lines: Sequence[str]) -> None:
+        """Tells edits, of which each must be accepted. So rows that are put in have the ids that follow one another."""
+        accepted = self.book.edit_all(lines) if lines else 0
+        if accepted != len(lines):
+            raise RuntimeError(f"{len(lines) - accepted} of {len(lines)} edits are refused")
 
     def give(self, field: str, first: int, words: Numbers) -> None:
         """Gives a field numbers from a processor on."""
         if not self.book.set(field, first, Words(words.ctypes.data, words.data)):
             raise RuntimeError(f"{field} takes no {len(words)} numbers from {first} on")
 
-    def settle(self, key: str, rows: Sequence[Row]) -> Run:
-        """Runs the rows that the value of a key behind these rows stands on."""
+    def waiting(self, key: str, rows: Sequence[Row]) -> list[Row]:
+        """The rows that have to run for the value of a key behind these rows."""
         unsettled = set(self.book.unsettled())
-        wanted = needed(rows, key, unsettled) if unsettled else []
-        if not wanted:
+        return needed(rows, key, unsettled) if unsettled else []
+
+    def settle(self, key: str, place: int, waiting: Sequence[Row]) -> Run:
+        """Runs the rows that the value of a key at a place waits for."""
+        if not waiting:
             return Run(None, [], 0)
         held = self.book.snapshot()
-        count = self.book.settle_for(key, rows[-1][0])
-        if count is None or count > len(wanted):
+        count = self.book.settle_for(key, place)
+        if count is None or count > len(waiting):
             raise RuntimeError(f"the value of {key} stands on other rows than those that ran")
-        return Run(None if count == len(wanted) else self.book.beside(held), wanted, count)
+        return Run(None if count == len(waiting) else self.book.beside(held), waiting, count)
 
     def numbers(self, key: str, row: int, width: int) -> Numbers | None:
-        """The numbers of a key behind a row, or at the start. None where it is unsettled."""
-        told = self.book.look(key, row, self.size, width > WORD)
+        """The numbers of a key behind a row, or at the start, until the next look. None where it is unsettled."""
+        is_wide = width > WORD
+        told = self.book.get_wide(key, row, self.size) if is_wide else self.book.get_into(self._room, key, row)
         if isinstance(told, int):
             return None
         if told is None:
             raise RuntimeError(f"there are no numbers of {key} behind row {row}")
-        return numpy.asarray(told, dtype=object if width > WORD else numpy.uint64)
+        return self._numbers if isinstance(told, Words) else numpy.asarray(told, dtype=object)
 
     def faults(self) -> Iterator[tuple[int, str, int]]:
         """The rows that are refused for their data: each with its cause and a processor."""

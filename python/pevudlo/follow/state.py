@@ -4,7 +4,7 @@ from __future__ import annotations
 
 from collections.abc import Callable, Iterator, Mapping
 from dataclasses import dataclass, field, replace
-from typing import Any
+from typing import Any, NamedTuple
 
 import numpy
 
@@ -15,7 +15,7 @@ from pevudlo.follow.edits import Row, row_edits
 from pevudlo.follow.expressions import Key, Node, Trace, room
 from pevudlo.follow.layout import Layout, laid_out
 from pevudlo.follow.numbers import Numbers, difference, whole, words
-from pevudlo.follow.outside import Outside, are_same, outside
+from pevudlo.follow.outside import Outside, are_same, kept, outside
 from pevudlo.follow.refusals import NotTraced
 from pevudlo.follow.session import Session
 
@@ -42,6 +42,11 @@ class Made:
             and are_same(self.outside, other.outside)
         )
 
+    def kept(self) -> Made:
+        """The same, as it is now: what holds others is copied, so that a later change of it is seen."""
+        constants = {name: kept(value) for name, value in self.constants.items()}
+        return replace(self, constants=constants, outside={name: kept(value) for name, value in self.outside.items()})
+
 
 @dataclass(frozen=True)
 class State:
@@ -52,6 +57,7 @@ class State:
     layout: Layout
     rows: list[Row]
     next_row: int
+    call: Call
     results: Mapping[str, Array]
     numbers: Mapping[Key, int]
     next_number: int
@@ -93,7 +99,20 @@ def made_of(function: Callable[..., Any], call: Call, shape: tuple[int, ...] | N
     return Made(function, call.shape(shape), call.known, call.constants, outside(function))
 
 
-def traced(made: Made, call: Call, before: State | None) -> tuple[State, list[str]]:
+class Edits(NamedTuple):
+    """Lines that lead from a state to another: those that declare fields, and those of rows.
+
+    Input data goes in between them: where no row stands yet, no row is touched by it.
+    """
+
+    fields: list[str]
+    rows: list[str]
+
+
+NO_EDITS = Edits([], [])
+
+
+def traced(made: Made, call: Call, before: State | None) -> tuple[State, Edits]:
     """The state behind a trace, and the edits that lead there. Nothing is told yet: what is refused changes nothing."""
     is_same_set = before is not None and before.made.shape == made.shape
     trace = Trace(made.shape, before.numbers if before else None, before.next_number if before else 0)
@@ -101,6 +120,7 @@ def traced(made: Made, call: Call, before: State | None) -> tuple[State, list[st
     for place, (name, argument) in enumerate(made.arguments.items()):
         axes = axes_of(argument.shape, made.shape)
         given[name] = Array(trace, trace.argument(name, argument.kind, axes, place), axes)
+    made = made.kept()
     results = results_of(call.traced(made.function, given))
     layout, goes_on = laid_out(
         before.layout if before and is_same_set else Layout(), [a.node for a in results.values()]
@@ -110,11 +130,10 @@ def traced(made: Made, call: Call, before: State | None) -> tuple[State, list[st
     else:
         session, declared, rows, next_row = before.session, before.layout.widths, before.rows, before.next_row
         told = dict(before.given)
-    edits = [f"field {name} S {width}" for name, width in layout.widths.items() if name not in declared]
+    fields = [f"field {name} S {width}" for name, width in layout.widths.items() if name not in declared]
     row_lines, rows, next_row = row_edits(rows, layout.texts, next_row)
-    made = replace(made, constants=dict(made.constants))
-    state = State(made, session, layout, rows, next_row, results, trace.numbers, trace.next, told)
-    return state, edits + row_lines
+    state = State(made, session, layout, rows, next_row, call, results, trace.numbers, trace.next, told)
+    return state, Edits(fields, row_lines)
 
 
 @dataclass(frozen=True)
@@ -127,13 +146,16 @@ class Data:
     array: Numbers
 
 
-def changed_data(state: State, call: Call) -> list[Data]:
-    """The parts of the arrays of a call that are other numbers than the session has, of those that rows read."""
+def changed_data(state: State, call: Call, is_kept: Callable[[str], bool]) -> list[Data]:
+    """The parts of the arrays of a call that are other numbers than the session has, of those that rows read.
+
+    Those that are kept are the same as before, and are compared with nothing.
+    """
     found = list[Data]()
     for name, array in call.arrays.items():
         kind = state.made.arguments[name].kind
         at = state.layout.arguments.get((name, room(kind.bits)))
-        if at is None:
+        if at is None or (at in state.given and is_kept(name)):
             continue
         part = difference(state.given.get(at), array)
         if part is None:

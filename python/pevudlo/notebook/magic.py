@@ -4,6 +4,7 @@ from __future__ import annotations
 
 import importlib
 from collections.abc import Mapping
+from math import prod
 from typing import Any
 
 from pevudlo.draw.grids import Grid
@@ -11,12 +12,26 @@ from pevudlo.lang.keys import axes_of, width_of
 from pevudlo.lang.replies import NoReply
 from pevudlo.notebook.drawn import Drawn
 from pevudlo.notebook.pieces import NoPiece, Pieces
-from pevudlo.values.shaped import shaped
+from pevudlo.values.shaped import check_shape, flat, input_lines, is_array, is_number, shaped, unsigned, whole
 from pevudlo.wire.pipe import PipeError
 from pevudlo.wire.program import NotFound
 
 CELL = "%%paris NAME, %%paris NAME after OTHER, or %%paris NAME before OTHER: the cell is the piece of this name"
-LINE = "%paris, %paris drop NAME, %paris script, or %paris values KEY"
+LINE = "%paris, %paris drop NAME, %paris script, %paris values KEY, or %paris input KEY = ARRAY"
+
+
+def lines_of_input(key: str, axes: tuple[int, ...], width: int, values: Any) -> list[str]:
+    """The lines that give a key of these axes numbers: one for each processor, signed ones too, or one for all.
+
+    Raises TypeError for what is no whole number, WrongShape, and ValueError for a number that has no room.
+    """
+    if is_number(values):
+        return input_lines(key, 0, [unsigned(whole(values), width)] * prod(axes))
+    if is_array(values) and values.dtype.kind not in "iubO":
+        raise TypeError(f"values are whole numbers, and not {values.dtype}")
+    numbers, shape = flat(unsigned(values, width))
+    check_shape(shape, key, axes)
+    return input_lines(key, 0, numbers)
 
 
 class Magic:
@@ -46,11 +61,12 @@ class Magic:
                 raise self._wrong(CELL)
 
     def line(self, words: str) -> Any:
-        """%paris says which pieces there are; also %paris drop NAME, %paris script and %paris values KEY."""
+        """%paris says which pieces there are; %paris drop, script, values and input do what their words say."""
         match words.split():
             case []:
                 return self.pieces.names
-            case ["drop", name]:
+            case ["drop", *parts] if parts:
+                name = " ".join(parts)
                 self._draw("", lambda: self.pieces.drop(name))
                 self._shown.pop(name, None)
                 return None
@@ -59,7 +75,24 @@ class Magic:
                 return None
             case ["values", key]:
                 return self._values(key)
+            case ["input", key, "=", *_]:
+                self._input(key, words.partition("=")[2])
+                return None
         raise self._wrong(LINE)
+
+    def _input(self, key: str, text: str) -> None:
+        """The piece of the name `input KEY` gives a key the numbers of an array: what an expression of Python's is."""
+        board = self.pieces.document.book.board if self.pieces.document.is_in_step else None
+        axes = board.axes_of(key) if board is not None else None
+        if board is None or axes is None:
+            raise self._wrong(f"there is no key {key}: a cell declares it before it has input data")
+        value = self._shell.ev(text)
+        try:
+            lines = lines_of_input(key, axes, width_of(board, key), value)
+        except (TypeError, ValueError) as error:
+            raise self._wrong(str(error)) from error
+        name = f"input {key}"
+        self._draw(name, lambda: self.pieces.put(name, "\n".join(lines)))
 
     def _draw(self, name: str, renew: Any) -> None:
         """Shows the piece of a name here, and others that give something else anew where they stand."""

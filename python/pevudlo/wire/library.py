@@ -18,7 +18,7 @@ from threading import get_ident
 from types import TracebackType
 
 from pevudlo.values.words import WIDE, Words, room_of, wide_numbers
-from pevudlo.wire.library_calls import Handle, Outcome, loaded, trouble
+from pevudlo.wire.library_calls import END_NUMBER, Handle, Outcome, loaded, trouble
 from pevudlo.wire.pipe import Ended
 
 Calls = dict[str, Callable[..., int]]
@@ -175,6 +175,33 @@ class Library:
         finally:
             self.waiting.discard(get_ident())
 
+    def edit_all(self, lines: Sequence[str]) -> int:
+        """Makes edits one after another, of which nobody reads the replies, and gives how many were accepted.
+
+        Nobody who waits for news is told. Raises what a call raises: edits before it are made then.
+        """
+        try:
+            self.waiting.add(get_ident())
+            with self.lock:
+                before = self._edit_count()
+                try:
+                    self._is_in_call = True
+                    for line in lines:
+                        data = line.encode("ascii")
+                        outcome = self._answer(self._at, data, len(data), self._length_at)
+                        if outcome != Outcome.OK:
+                            raise trouble(outcome)
+                finally:
+                    self._is_in_call = False
+                return self._edit_count() - before
+        finally:
+            self.waiting.discard(get_ident())
+
+    def _edit_count(self) -> int:
+        """How many edits were accepted."""
+        self._list_touched(END_NUMBER)
+        return self._edits.value
+
     def set(self, key: str, first: int, words: Words) -> bool:
         """Gives a key these numbers from a processor on, as one edit. False where that is refused, and nothing done."""
         return self._given("paris_set", key, first, words, len(words))
@@ -188,7 +215,11 @@ class Library:
 
         None where the look is refused. Places are START_NUMBER, END_NUMBER and just after the row of another id.
         """
-        return self._looked("paris_get", key, place, room_of(count), count)
+        return self.get_into(room_of(count), key, place)
+
+    def get_into(self, room: Words, key: str, place: int) -> Words | int | None:
+        """The same, put into a room for the numbers."""
+        return self._looked("paris_get", key, place, room, len(room))
 
     def get_wide(self, key: str, place: int, count: int) -> tuple[int, ...] | int | None:
         """The same of a key whose numbers have two words each."""

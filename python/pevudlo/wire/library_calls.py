@@ -10,6 +10,7 @@ import os
 from collections.abc import Callable
 from ctypes import c_bool, c_char_p, c_size_t, c_uint32, c_uint64, c_void_p
 from enum import IntEnum
+from functools import lru_cache
 from pathlib import Path
 from typing import Any
 
@@ -73,10 +74,18 @@ def loaded(path: Path) -> dict[str, Callable[..., int]]:
     """The calls of the library at a path. Raises NotFound where it is none."""
     try:
         # A name without a folder is looked for elsewhere.
-        library = ctypes.CDLL(os.fspath(path.absolute()))
-        calls = {name: getattr(library, name) for name in CALLS}
+        file = os.fspath(path.absolute())
+        told = os.stat(file)
+        return dict(calls_of(file, told.st_ino, told.st_mtime_ns))
     except (OSError, AttributeError) as error:
         raise NotFound([f"{path} can't be loaded: {error}"], LIBRARY) from error
+
+
+@lru_cache(maxsize=16)
+def calls_of(file: str, inode: int, time: int) -> dict[str, Callable[..., int]]:
+    """The calls of a file, as it is now. Raises OSError and AttributeError."""
+    library = ctypes.CDLL(file)
+    calls = {name: getattr(library, name) for name in CALLS}
     for name, call in calls.items():
         call.argtypes, call.restype = CALLS[name], c_uint32
     return calls
