@@ -20,7 +20,7 @@ from pevudlo.follow.layout import in_order
 from pevudlo.follow.looks import Why, refused_words, script, told_operation, why
 from pevudlo.follow.numbers import Numbers, laid, typed
 from pevudlo.follow.refusals import Overflow, OverflowWarning, RowRefused
-from pevudlo.follow.session import OVERFLOW, Run, keys_of
+from pevudlo.follow.session import OVERFLOW, keys_written
 from pevudlo.follow.shown import Refusals, Shown, Untold, Value, Watch, slider_of
 from pevudlo.follow.state import NO_EDITS, Data, Edits, State, changed_data, made_of, traced
 from pevudlo.follow.traffic import Traffics, traffic_of
@@ -44,7 +44,7 @@ class Followed:
         self.followed_function = function
         self.__doc__ = function.__doc__ or self.__doc__
         self.traces = 0
-        self._run = Run(None, [], 0)
+        self._ran: tuple[int, ...] = ()
         self._shape, self._overflow = shape, overflow
         self._state: State | None = None
         self._steps = deque[tuple[State, Held | None]](maxlen=steps)
@@ -131,7 +131,7 @@ class Followed:
             before, held = self._steps.pop()
             if held is not None:
                 before.session.book.exchange(held)
-            self._state, self._run = before, Run(None, [], 0)
+            self._state, self._ran = before, ()
             self._counts.clear()
             self._renew()
         return self
@@ -144,7 +144,7 @@ class Followed:
             self._steps.clear()
             self._counts.clear()
             self._watched.clear()
-            self._state, self._run = None, Run(None, [], 0)
+            self._state, self._ran = None, ()
 
     # Looks.
 
@@ -167,7 +167,7 @@ class Followed:
     def ran(self) -> tuple[int, ...]:
         """The ids of the rows that ran for the last look."""
         with self._lock:
-            return self._run.ids()
+            return self._ran
 
     def __getitem__(self, name: str | int) -> Numbers:
         """What the function returned under a name, as an array of numpy's. Unsettled rows that it stands on run.
@@ -178,7 +178,7 @@ class Followed:
         with self._lock:
             state, array = self._named(name)
             at, rows = state.place(array.node)
-            self._run, raw = self._settled(at, rows, state.layout.widths[at])
+            self._ran, raw = self._settled(at, rows, state.layout.widths[at])
             numbers = laid(typed(raw, array.node.kind), state.made.shape, array.axes)
             self._check_refused(state, array.node)
             if self._overflow is not None:
@@ -199,19 +199,18 @@ class Followed:
             raise KeyError(f"the function returns {', '.join(state.results)}, and no {name}")
         return state, array
 
-    def _settled(self, key: str, rows: Sequence[Row], width: int) -> tuple[Run, Numbers]:
-        """The numbers of a key behind these rows, and what ran for it."""
+    def _settled(self, key: str, rows: Sequence[Row], width: int) -> tuple[tuple[int, ...], Numbers]:
+        """The ids of the rows that ran for the numbers of a key behind these rows, and the numbers."""
         session, row = self._present().session, rows[-1][0] if rows else START_NUMBER
         raw = session.numbers(key, row, width)
         if raw is not None:
-            return Run(None, [], 0), raw
-        waiting = session.waiting(key, rows)
-        for each, _ in waiting:
+            return (), raw
+        ran = session.settle(key, row)
+        for each in ran:
             self._counts.pop(each, None)
-        run = session.settle(key, row, waiting)
         raw = session.numbers(key, row, width)
         assert raw is not None
-        return run, raw
+        return ran, raw
 
     def _check_refused(self, state: State, node: Node) -> None:
         """Raises RowRefused where a row that an expression stands on is refused for its data."""
@@ -233,7 +232,7 @@ class Followed:
         """Where numbers had no room in what expressions stand on."""
         wanted, counts = {node.number for node in in_order(roots)}, dict[int, tuple[Node, int]]()
         for place, ((row, text), node) in enumerate(state.pairs(), 1):
-            if node.quiet or node.number not in wanted or OVERFLOW not in keys_of(text).writes:
+            if node.quiet or node.number not in wanted or OVERFLOW not in keys_written(text):
                 continue
             if row not in self._counts:
                 _, raw = self._settled(OVERFLOW, state.rows[:place], 1)

@@ -3,17 +3,15 @@
 from __future__ import annotations
 
 from collections.abc import Iterator, Sequence
-from dataclasses import dataclass
 from functools import lru_cache
 from math import prod
-from typing import Any, NamedTuple
+from typing import Any
 
 import numpy
 
-from pevudlo.follow.edits import Row
 from pevudlo.follow.expressions import WORD
 from pevudlo.follow.rows import SET
-from pevudlo.lang.instructions import FLAGS_READ, NONE, Operand, read
+from pevudlo.lang.instructions import read
 from pevudlo.values.words import Words
 from pevudlo.wire.book import Book
 from pevudlo.wire.library import Library
@@ -23,70 +21,15 @@ PROFILE = 2
 """The profile of all sessions: fields have up to 128 bits."""
 
 OVERFLOW = f"{SET}.overflow"
-CONTEXT = f"{SET}.context"
-STORING_ALL = {"u-move-always-1L", "set-context", "clear-context", "load-context"}
-"""Instructions that don't read the context, nor what they write."""
-
-SOURCES = (Operand.A, Operand.B, Operand.SEGMENTS)
 
 Numbers = numpy.ndarray[Any, numpy.dtype[Any]]
 
 
-class Keys(NamedTuple):
-    """The keys that a row reads and that it writes."""
-
-    reads: frozenset[str]
-    writes: tuple[str, ...]
-
-
 @lru_cache(maxsize=16_384)
-def keys_of(text: str) -> Keys:
-    """The keys of an instruction. What is written is read too, since processors that don't store keep it."""
-    instruction, named = read(text)
-    writes = (*instruction.fields_written(text.split(" ")), *(f"{SET}.{flag}" for flag in instruction.flags))
-    reads = {named[operand] for operand in SOURCES if operand in named}
-    if Operand.BIT in named and not instruction.stores_bit:
-        reads.add(named[Operand.BIT])
-    if instruction.name in FLAGS_READ:
-        reads.add(f"{SET}.{FLAGS_READ[instruction.name]}")
-    if instruction.name not in STORING_ALL:
-        reads |= {CONTEXT, *writes}
-    return Keys(frozenset(reads - {NONE}), writes)
-
-
-def needed(rows: Sequence[Row], key: str, unsettled: set[int]) -> list[Row]:
-    """The unsettled rows that a key's value behind these rows stands on, the first one first."""
-    wanted, found = {key}, list[Row]()
-    for row in reversed(rows):
-        keys = keys_of(row[1])
-        if wanted.isdisjoint(keys.writes):
-            continue
-        wanted.difference_update(keys.writes)
-        if row[0] in unsettled:
-            wanted |= keys.reads
-            found.append(row)
-    return found[::-1]
-
-
-@dataclass
-class Run:
-    """What ran for a look: so many of the rows that its value stands on.
-
-    The others would have computed the same again. Which they are is found out in the session as it was before the
-    look, once it is asked for.
-    """
-
-    before: Book | None
-    rows: Sequence[Row]
-    count: int
-
-    def ids(self) -> tuple[int, ...]:
-        """The ids of the rows that ran."""
-        book = self.before
-        if book is not None:
-            self.rows = [(row, text) for row, text in self.rows if book.settle_for(keys_of(text).writes[0], row)]
-            self.before = None
-        return tuple(row for row, _ in self.rows)
+def keys_written(text: str) -> tuple[str, ...]:
+    """The keys that a row writes."""
+    instruction, _ = read(text)
+    return (*instruction.fields_written(text.split(" ")), *(f"{SET}.{flag}" for flag in instruction.flags))
 
 
 class Session:
@@ -110,20 +53,12 @@ class Session:
         if not self.book.set(field, first, Words(words.ctypes.data, words.data)):
             raise RuntimeError(f"{field} takes no {len(words)} numbers from {first} on")
 
-    def waiting(self, key: str, rows: Sequence[Row]) -> list[Row]:
-        """The rows that have to run for the value of a key behind these rows."""
-        unsettled = set(self.book.unsettled())
-        return needed(rows, key, unsettled) if unsettled else []
-
-    def settle(self, key: str, place: int, waiting: Sequence[Row]) -> Run:
-        """Runs the rows that the value of a key at a place waits for."""
-        if not waiting:
-            return Run(None, [], 0)
-        held = self.book.snapshot()
-        count = self.book.settle_for(key, place)
-        if count is None or count > len(waiting):
-            raise RuntimeError(f"the value of {key} stands on other rows than those that ran")
-        return Run(None if count == len(waiting) else self.book.beside(held), waiting, count)
+    def settle(self, key: str, place: int) -> tuple[int, ...]:
+        """Runs the rows that the value of a key at a place waits for, and gives the ids of those that ran."""
+        ran = self.book.settle_for(key, place)
+        if ran is None:
+            raise RuntimeError(f"there is no value of {key} at place {place}")
+        return tuple(ran)
 
     def numbers(self, key: str, row: int, width: int) -> Numbers | None:
         """The numbers of a key behind a row, or at the start, until the next look. None where it is unsettled."""
