@@ -1,7 +1,7 @@
 """Which rows a look at a followed function may run, by the model of docs/MACHINE.md of what rows read and write.
 
-A row runs again where it stands on something else than when it was last settled, or was replaced since: other rows, other
-input data, or another text of its own, also one that was taken back.
+A row runs again where it stands on something else than when it was last settled, or was replaced since: other rows,
+other input data, or another text of its own, also one that was taken back.
 """
 
 from __future__ import annotations
