@@ -99,7 +99,7 @@ class RunningSession(Session):
         if line == "settle":
             self.go_on()
             return Step(line, ("ok",), Ok())
-        with self.lock:
+        with self.book.first(), self.lock:
             self._check_row(line, was)
             with self.book.lock:
                 step = self._tell(line)
@@ -184,17 +184,17 @@ class RunningSession(Session):
 
     def undo(self) -> None:
         """Takes the last edit back. Raises ValueError where there is none."""
-        with self.lock, self.book.lock:
+        with self.book.first(), self.lock, self.book.lock:
             self._moved("undo", self._go(True))
 
     def redo(self) -> None:
         """Makes the edit again that was taken back last. Raises ValueError where there is none."""
-        with self.lock, self.book.lock:
+        with self.book.first(), self.lock, self.book.lock:
             self._moved("redo", self._go(False))
 
     def go_to(self, place: int) -> None:
         """Takes back or makes again as many edits as lead to a place of the history: so many edits from its start."""
-        with self.lock, self.book.lock:
+        with self.book.first(), self.lock, self.book.lock:
             # (no step is dropped meanwhile)
             history = self.background.history
             if place > len(history.done) + len(history.undone):
@@ -260,9 +260,9 @@ class RunningSession(Session):
         return is_other
 
     def wait_for_small(self) -> None:
-        until = time.monotonic() + AT_ONCE
+        until, crew = time.monotonic() + AT_ONCE, self.background.crew
         with self.book.lock:
-            while self.book.is_open and self.background.crew.is_on and self.book.unsettled_count():
+            while self.book.is_open and crew.is_on and 0 < self.book.unsettled_count() <= crew.most_at_once:
                 left = until - time.monotonic()
                 if left <= 0:
                     break

@@ -2,15 +2,27 @@
 import { unrolled } from "./model.js";
 
 /** @typedef {[string, number, number, number]} Look a key, the row that wrote it, 1 for a strip, and which (NOW ..) */
+/** @typedef {import("./model.js").News} News */
+/** @typedef {import("./model.js").Refused} Refused */
+/**
+ * A value, or why there is none.
+ * @typedef {Partial<import("./model.js").Value> & {isMissing?: boolean, isPending?: boolean, isOther?: boolean}} Piece
+ */
+/**
+ * What is answered to what was asked: why nothing was done, else what is new. `text` is what a row is now that another
+ * tab has changed.
+ * @typedef {{refused: Refused|null, reply?: string[], text?: string|null, state?: News}} Said
+ */
 export const NOW = 0, BEFORE = 1, COMPARED = 2;
 const HEAD = 16, ENDS = 40;
 
 /**
  * The values of a binary answer: of each a head, and behind it numbers in as many bytes as the key's width needs.
  * @param {ArrayBuffer} buffer @param {number} from @param {number} count
+ * @returns {Piece[]}
  */
 export function unpack(buffer, from, count) {
-  const view = new DataView(buffer), found = [];
+  const view = new DataView(buffer), found = /** @type {Piece[]} */ ([]);
   let at = from;
   for (let i = 0; i < count; i++) {
     const kind = view.getUint8(at), size = view.getUint8(at + 1), length = view.getUint32(at + 4, true);
@@ -49,7 +61,7 @@ function stripAt(buffer, view, at, length, all) {
 
 /** A server: news by one stream of events, all else by requests. What is new is asked for once at a time. */
 export class Served {
-  /** @param {(news: any) => void} heard is told what is new @param {() => void} lost is called where nobody answers */
+  /** @param {(news: News) => void} heard is told what is new @param {() => void} lost is called where nobody answers */
   constructor(heard, lost) {
     this.heard = heard;
     this.lost = lost;
@@ -87,7 +99,10 @@ export class Served {
     this.ended();
   }
 
-  /** An answer behind another version than the one that is shown is dropped: what is new is asked for again. */
+  /**
+   * An answer behind another version than the one that is shown is dropped: what is new is asked for again.
+   * @param {News} news
+   */
   hear(news) {
     if (news.since !== this.seen) { this.told = Math.max(this.told, news.version); return; }
     this.seen = news.version;
@@ -102,7 +117,10 @@ export class Served {
 
   count(kind, length) { this.bytes[kind] += length; this.bytes.messages++; }
 
-  /** Asks for something to be done. The answer brings what is new behind it. */
+  /**
+   * Asks for something to be done. The answer brings what is new behind it.
+   * @param {string} name @param {Object<string, string>} [body] @returns {Promise<Said>}
+   */
   async ask(name, body = {}) {
     this.out++;
     try {
@@ -124,7 +142,7 @@ export class Served {
   /** @param {string} line @param {string} [was] the instruction that its row has for who wrote the command */
   edit(line, was) { return this.ask("command", was === undefined ? { line } : { line, was }); }
 
-  /** @param {Look[]} looks */
+  /** @param {Look[]} looks @returns {Promise<Piece[]|null>} */
   async look(looks) {
     const wanted = looks.map(each => each.join(" ")).join("\n");
     const body = { seen: String(this.seen), edits: String(this.edits), looks: wanted };
@@ -151,7 +169,7 @@ export class Served {
  * moment has the values that are other than in those before it.
  */
 export class Embedded {
-  /** @param {(news: any) => void} heard @param {any} data */
+  /** @param {(news: News) => void} heard @param {any} data */
   constructor(heard, data) {
     this.heard = heard;
     this.data = data;
@@ -190,7 +208,7 @@ export class Embedded {
     });
   }
 
-  /** Where a value stands in a moment, or undefined. */
+  /** Where a value stands in a moment, or undefined. @param {number} to @param {string} key @param {number} row */
   place(to, key, row) {
     const name = `${key}@${row}`;
     for (let i = to; i >= 0; i--) {
@@ -200,14 +218,14 @@ export class Embedded {
     return undefined;
   }
 
-  /** What a row left in the moment before, where it was settled then. */
+  /** What a row left in the moment before, where it was settled then. @param {string} key @param {number} row */
   before(key, row) {
     const to = this.moment - 1;
     if (to < 0 || unrolled(this.data.moments[to].un).includes(row)) return undefined;
     return this.place(to, key, row);
   }
 
-  /** @param {Look[]} looks */
+  /** @param {Look[]} looks @returns {Promise<Piece[]>} */
   async look(looks) {
     return looks.map(([key, row, , which]) => {
       const at = which === BEFORE ? this.before(key, row) : this.place(this.moment, key, row);
@@ -217,7 +235,10 @@ export class Embedded {
     });
   }
 
-  /** A strip with the stretches in which it is other than in the moment before. How many numbers are isn't known. */
+  /**
+   * A strip with the stretches in which it is other than in the moment before. How many numbers are isn't known.
+   * @param {Piece} value @param {string} key @param {number} row @returns {Piece}
+   */
   compared(value, key, row) {
     const at = this.before(key, row), was = at === undefined ? null : unpack(this.block, at, 1)[0];
     if (!was?.isStrip) return value;
@@ -230,6 +251,7 @@ export class Embedded {
     return { ...value, changed: changed.size ? changed : null, count: changed.size ? -1 : 0 };
   }
 
+  /** @returns {Promise<Said>} */
   async edit() { return { refused: { text: "This page is a record: nothing is edited here.", hint: "", at: null } }; }
   async ask() { return this.edit(); }
 }

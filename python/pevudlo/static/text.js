@@ -148,7 +148,7 @@ export async function watchText() {
     isSaved = true;
     settle();
   });
-  document.addEventListener("pevudlo-text", (event) => { heard = event.detail; settle(); });
+  document.addEventListener("pevudlo-text", event => { heard = /** @type {CustomEvent} */ (event).detail; settle(); });
 
   try {
     heard = (await get("lines?first=0&last=0")).number;
