@@ -9,7 +9,7 @@ const WORDS = ["none", "upward", "downward", "inclusive", "exclusive"];
 const FIELDS = "DABFGN";
 
 /** Shows a line again: the one that a function of the keys selects. */
-const after = { select: (/** @type {number} */ _place) => {} };
+const after = { select: /** @type {(place: number) => void} */ (() => {}) };
 /** @param {(place: number) => void} select */
 export function selectsBy(select) { after.select = select; }
 

@@ -122,8 +122,6 @@ function mapped(found, axes, count) {
   return { ...found, isStrip: true, isMap: true, pixels, across: axes[0], lines };
 }
 
-const list = () => $("list");
-
 /** How many lines of the list an item takes. */
 function linesOf(item) {
   const { editing, isNarrow } = view;
@@ -131,7 +129,7 @@ function linesOf(item) {
     const { refused, note } = editing;
     return refused || note ? Math.max(4.6, toldLines(refused ?? { hint: "", text: note })) : 2;
   }
-  if (item.t === "note") return textLines(item.text, list().clientWidth - (isNarrow ? 20 : 10 * view.ch), LETTER);
+  if (item.t === "note") return textLines(item.text, $("list").clientWidth - (isNarrow ? 20 : 10 * view.ch), LETTER);
   if (item.t === "wrong") return Math.max(3.8, toldLines(item.refused));
   if (item.t !== "in" && item.t !== "row" && item.t !== "look") return 1;
   const key = keyOf(item);
@@ -144,7 +142,7 @@ const LETTER = 0.86, BOLD_LETTER = 0.94;
 
 /** How many lines a line of the program takes that is refused: itself, its caret, the hint and the fault's text. */
 function toldLines({ hint, text }) {
-  const wide = list().clientWidth - 10 * view.ch, bold = textLines(hint || text, wide, BOLD_LETTER);
+  const wide = $("list").clientWidth - 10 * view.ch, bold = textLines(hint || text, wide, BOLD_LETTER);
   return 1.9 + bold + (hint ? textLines(text, wide, LETTER) : 0);
 }
 

@@ -8,7 +8,7 @@ import { drawMap, watchMap } from "./map.js";
 import { Program } from "./model.js";
 import { drawPanel, isPanelOpen } from "./panel.js";
 import { drawRows, faultWords } from "./rows.js";
-import { ensure, ensureAll, isIdle, isWhole, needs } from "./values.js";
+import { ensure, ensureAll, hasAll, isIdle, needs } from "./values.js";
 import { $, code, draw, drawNow, drawsBy, fill, isSaying, isValue, keyOf, safe, view } from "./view.js";
 
 const RESTS = 120, SMALL = 1024, MOST_PRINTED = 2000;
@@ -230,7 +230,7 @@ async function start() {
 Object.assign(window, {
   pevudlo: {
     view, act, goTo, isDrawn: () => Boolean(view.program) && drawnVersion === view.program.version,
-    isAtRest: () => Boolean(view.program) && isIdle() && drawn.every(isWhole) &&
+    isAtRest: () => Boolean(view.program) && isIdle() && drawn.every(hasAll) &&
       (view.isRecord || !view.program.unsettled.size),
   },
 });

@@ -93,7 +93,7 @@ export class Program {
     this.take({ ...news, since: 0 });
   }
 
-  /** @param {{sets: Object<string, number[]>, fields: [string, string, number][]}} news */
+  /** @param {Partial<News>} news */
   declare({ sets, fields }) {
     const before = JSON.stringify([...this.sets, ...this.fields]);
     this.sets = new Map(Object.entries(sets));
@@ -190,7 +190,10 @@ export class Program {
   value(key, row) { return this.values.get(row)?.get(key); }
   /** @param {number} row */
   isSettled(row) { return row <= 0 || (this.at.has(row) && !this.unsettled.has(row)); }
-  /** What a value is asked for with: another one where an edit touched its row. @param {string} key @param {number} row */
+  /**
+   * What a value is asked for with: another one where an edit touched its row.
+   * @param {string} key @param {number} row
+   */
   stamp(key, row) { return `${this.era} ${this.touches.get(row || `in ${key}`) || 0}`; }
   /** @param {string} key @param {number} row */
   isTouched(key, row) { return row ? this.touched.has(row) : this.touched.has(`in ${key}`); }
@@ -221,7 +224,10 @@ export class Program {
     return moved;
   }
 
-  /** Marks are of the last edit alone. What values were before it is known where one edit came. @param {boolean} isOne */
+  /**
+   * Marks are of the last edit alone. What values were before it is known where one edit came.
+   * @param {boolean} isOne
+   */
   beginEdit(isOne) {
     this.changedRows.clear();
     this.touched.clear();

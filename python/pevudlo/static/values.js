@@ -113,7 +113,7 @@ export async function ensureAll() {
 }
 
 /** Whether all that a line shows is there. */
-export function isWhole(item) {
+export function hasAll(item) {
   return !isValue(item) || !view.program.isSettled(rowOf(item)) || view.isRecord ||
     needs(item, false).every(([key, row, whole]) => have(key, row, whole));
 }
