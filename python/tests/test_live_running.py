@@ -62,7 +62,7 @@ def test_edits_go_on_while_slow_rows_run(server: Server) -> None:
     open_rows, took, running = list[int](), list[float](), set[int]()
     assert tab.command("input a 5 99")["reply"] == ["ok"]
     until = time.monotonic() + PATIENCE
-    while not (open_rows and not open_rows[-1] and len(open_rows) > 20):
+    while not (running & {1, 2} and not open_rows[-1] and len(open_rows) > 20):
         begun = time.perf_counter()
         if len(open_rows) < 20 or not running & {1, 2}:
             # The rows run anew, however fast they are.

@@ -59,7 +59,112 @@ function stripAt(buffer, view, at, length, all) {
   };
 }
 
-/** A server: news by one stream of events, all else by requests. What is new is asked for once at a time. */
+const AGAIN = 2000, MOST_OPENING = 1000, BEHIND_MARK = 8, MOST_BYTES = 65_536 + 1_024;
+
+/** Requests, and news by a stream of events. */
+class Requests {
+  /** @param {(version: number) => void} told @param {(isOver: boolean) => void} broken is told whether it is over */
+  constructor(told, broken) {
+    this.told = told;
+    this.broken = broken;
+  }
+
+  begin() {
+    const news = new EventSource("news");
+    news.addEventListener("message", event => this.told(Number(event.data)));
+    news.addEventListener("error", () => this.broken(news.readyState === EventSource.CLOSED));
+  }
+
+  /** What is asked for, by a name and numbers. @param {string} name @param {Object<string, number>} numbers */
+  async get(name, numbers) {
+    const query = Object.entries(numbers).map(each => each.join("=")).join("&");
+    return (await fetch(`${name}?${query}`, { cache: "no-store" })).text();
+  }
+
+  /** The answer to a post: a text, or bytes, or null where it is too long. @param {string} name @param {any} body */
+  async post(name, body) {
+    const headers = { "Content-Type": "application/json" };
+    const answer = await fetch(name, { method: "POST", headers, body: JSON.stringify(body) });
+    if (answer.status === 413) return null;
+    return answer.headers.get("Content-Type") === "application/json" ? answer.text() : answer.arrayBuffer();
+  }
+}
+
+/** One socket for all of it: what is asked has a mark, and so has its answer. News come between them. */
+class Wire {
+  /** @param {WebSocket} socket @param {(version: number) => void} told @param {(isOver: boolean) => void} broken */
+  constructor(socket, told, broken) {
+    this.told = told;
+    this.broken = broken;
+    this.marks = 0;
+    /** @type {Map<number, {answer: (data: any) => void, fail: (why: any) => void}>} */
+    this.asked = new Map();
+    this.use(socket);
+  }
+
+  /** An open socket, or null where none can be had soon. @returns {Promise<WebSocket|null>} */
+  static open() {
+    if (!window.WebSocket) return Promise.resolve(null);
+    return new Promise(go => {
+      const socket = new WebSocket(new URL("socket", location.href.replace(/^http/, "ws")).href);
+      const late = setTimeout(() => { socket.onopen = () => socket.close(); go(null); }, MOST_OPENING);
+      socket.binaryType = "arraybuffer";
+      socket.onopen = () => { clearTimeout(late); go(socket); };
+      socket.onerror = socket.onclose = () => { clearTimeout(late); go(null); };
+    });
+  }
+
+  /** @param {WebSocket} socket */
+  use(socket) {
+    this.socket = socket;
+    socket.onmessage = event => this.hear(event.data);
+    socket.onclose = () => this.close();
+    socket.onerror = null;
+  }
+
+  begin() { /* (news come by themselves) */ }
+
+  /** @param {string|ArrayBuffer} data */
+  hear(data) {
+    const isText = typeof data === "string", said = isText ? JSON.parse(data) : null;
+    const mark = isText ? said.mark : new DataView(data).getUint32(0, true);
+    if (mark === undefined) { this.told(said.version); return; }
+    const asked = this.asked.get(mark);
+    this.asked.delete(mark);
+    asked?.answer(data);
+  }
+
+  /** Nobody answers what was asked. Another socket is tried for again and again. */
+  async close() {
+    for (const { fail } of this.asked.values()) fail(new Error("the socket is closed"));
+    this.asked.clear();
+    this.broken(true);
+    for (let socket = null; !socket;) {
+      await new Promise(go => { setTimeout(go, AGAIN); });
+      socket = await Wire.open();
+      if (socket) this.use(socket);
+    }
+    this.broken(false);
+  }
+
+  /** @param {string} name @param {Object<string, number>} numbers @returns {Promise<string>} */
+  get(name, numbers) {
+    return this.post(name, Object.fromEntries(Object.entries(numbers).map(([key, number]) => [key, String(number)])));
+  }
+
+  /** @param {string} name @param {any} body @returns {Promise<any>} */
+  async post(name, body) {
+    const mark = ++this.marks, text = JSON.stringify({ ...body, do: name, mark: String(mark) });
+    if (new TextEncoder().encode(text).length > MOST_BYTES) return null;
+    if (this.socket.readyState !== WebSocket.OPEN) throw new Error("the socket is closed");
+    return new Promise((answer, fail) => {
+      this.asked.set(mark, { answer, fail });
+      this.socket.send(text);
+    });
+  }
+}
+
+/** A server. What is new is asked for once at a time. */
 export class Served {
   /** @param {(news: News) => void} heard is told what is new @param {() => void} lost is called where nobody answers */
   constructor(heard, lost) {
@@ -68,6 +173,7 @@ export class Served {
     this.seen = 0;
     this.told = 0;
     this.out = 0;
+    this.asks = 0;
     this.edits = 0;
     this.bytes = { text: 0, binary: 0, messages: 0 };
     // By its name a session knows which tab edits.
@@ -75,28 +181,29 @@ export class Served {
   }
   get canEdit() { return true; }
 
-  start() {
-    const news = new EventSource("news");
-    news.addEventListener("message", event => {
-      this.told = Number(event.data);
-      if (this.told > this.seen) this.refresh();
-    });
+  /** Begins with a socket, or with requests where there is none. */
+  async start() {
+    const told = version => { this.told = version; if (version > this.seen) this.refresh(); };
     // Where nobody answers what is asked then, the server has ended.
-    news.addEventListener("error", () => {
-      if (news.readyState === EventSource.CLOSED) this.lost(); else this.refresh();
-    });
-    return this.refresh();
+    const broken = isOver => { if (isOver) this.lost(); else this.refresh(); };
+    const socket = await Wire.open();
+    /** @type {Requests|Wire} */
+    this.wire = socket ? new Wire(socket, told, broken) : new Requests(told, broken);
+    this.wire.begin();
+    await this.refresh();
   }
 
+  /** Asks what is new. Where something is done meanwhile, its answer brings that, and this one isn't heard. */
   async refresh() {
     if (this.out) return;
     this.out++;
+    const { asks } = this;
     try {
-      const text = await (await fetch(`state?seen=${this.seen}`, { cache: "no-store" })).text();
+      const text = await this.wire.get("state", { seen: this.seen });
       this.count("text", text.length);
-      this.hear(JSON.parse(text));
-    } catch { this.lost(); }
-    this.ended();
+      if (asks === this.asks) this.hear(JSON.parse(text));
+      this.ended(true);
+    } catch { this.lost(); this.ended(false); }
   }
 
   /**
@@ -110,9 +217,13 @@ export class Served {
     this.heard(news);
   }
 
-  ended() {
+  /**
+   * An answer is there, or nobody answers: then nothing more is asked until there is news again.
+   * @param {boolean} isThere
+   */
+  ended(isThere) {
     this.out--;
-    if (!this.out && this.told > this.seen) this.refresh();
+    if (isThere && !this.out && this.told > this.seen) this.refresh();
   }
 
   count(kind, length) { this.bytes[kind] += length; this.bytes.messages++; }
@@ -123,20 +234,19 @@ export class Served {
    */
   async ask(name, body = {}) {
     this.out++;
+    this.asks++;
+    let isThere = false;
     try {
-      const answer = await this.post(name, { tab: this.tab, seen: String(this.seen), ...body });
-      if (answer.status === 413) return { refused: { text: "The line is too long.", hint: "", at: null } };
-      const text = await answer.text(), said = JSON.parse(text);
+      const text = await this.wire.post(name, { tab: this.tab, seen: String(this.seen), ...body });
+      isThere = true;
+      if (text === null) return { refused: { text: "The line is too long.", hint: "", at: null } };
+      const said = JSON.parse(text);
       this.count("text", text.length);
       if (said.state) this.hear(said.state);
       const wrong = said.wrong || said.stopped;
       return wrong ? { refused: { text: wrong, hint: "", at: null } } : said;
     } catch { this.lost(); return { refused: { text: "Nobody answers.", hint: "", at: null } }; }
-    finally { this.ended(); }
-  }
-
-  post(name, body) {
-    return fetch(name, { method: "POST", headers: { "Content-Type": "application/json" }, body: JSON.stringify(body) });
+    finally { this.ended(isThere); }
   }
 
   /** @param {string} line @param {string} [was] the instruction that its row has for who wrote the command */
@@ -147,19 +257,17 @@ export class Served {
     const wanted = looks.map(each => each.join(" ")).join("\n");
     const body = { seen: String(this.seen), edits: String(this.edits), looks: wanted };
     try {
-      const answer = await this.post("looks", body);
-      if (!answer.ok) return null;
-      const data = await answer.arrayBuffer();
+      const data = await this.wire.post("looks", body);
+      if (!(data instanceof ArrayBuffer)) return null;
       this.count("binary", data.byteLength);
-      return unpack(data, 0, looks.length);
+      return unpack(data, this.wire instanceof Wire ? BEHIND_MARK : 0, looks.length);
     } catch { this.lost(); return null; }
   }
 
   /** The edit that touched a row last. @param {number} row */
   async since(row) {
     try {
-      const answer = await fetch(`since?row=${row}`, { cache: "no-store" });
-      return (await answer.json()).line || "";
+      return JSON.parse(await this.wire.get("since", { row })).line || "";
     } catch { return ""; }
   }
 }
