@@ -196,6 +196,7 @@ def test_news_come_by_themselves_and_parts_of_a_message_are_one(server: Server) 
         wire.send(TEXT, text[:9], first=0)
         wire.send(PING, b"there?")
         wire.send(0, text[9:11], first=0)
+        wire.socket.sendall(frame(0, b"", first=0) * 20_000)
         wire.send(0, text[11:])
         found = list[tuple[int, bytes]]()
         while not found or found[-1][0] != TEXT or b'"mark":1' not in found[-1][1]:

@@ -57,20 +57,21 @@ class Socket:
 
     def read(self) -> bytes | None:
         """The next text in UTF-8, or None at the end. Raises Wrong, and OSError where it doesn't come in its time."""
-        parts = list[bytes]()
+        text, has_begun = bytearray(), False
         while True:
             self._reader.wait_for_request()
-            kind, is_last, data = self._frame(self._most - sum(map(len, parts)))
+            kind, is_last, data = self._frame(self._most - len(text))
             if kind == CLOSE:
                 return None
             if kind == PING:
                 self.send(PONG, data)
             elif kind in (0, TEXT):
-                if (kind == TEXT) == bool(parts):
+                if (kind == TEXT) == has_begun:
                     raise Wrong(WRONG)
-                parts.append(data)
+                has_begun = True
+                text += data
                 if is_last:
-                    return b"".join(parts)
+                    return bytes(text)
             elif kind != PONG:
                 raise Wrong(WRONG)
 
