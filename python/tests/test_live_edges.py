@@ -302,6 +302,34 @@ def test_carets_of_refusals_stand_below_their_letters(browser: WebDriver, served
         until(browser, lambda: not browser.find_elements(By.CSS_SELECTOR, ".edit"))
 
 
+EDITED = """const line = document.querySelector("#r-3"), box = part => line.querySelector(part).getBoundingClientRect();
+const number = box(".no"), field = box("input"), told = box(".told");
+const cover = Math.min(number.bottom, field.bottom) - Math.max(number.top, field.top);
+return [line.querySelector(".no").textContent, cover > 0 && field.left < number.right,
+  line.getBoundingClientRect().bottom - told.bottom, innerWidth - field.right];"""
+
+
+@pytest.mark.parametrize("served", [MANY], indirect=True)
+def test_a_line_that_is_edited_has_its_number_its_caret_and_the_whole_reason_in_each_window(
+    sized: WebDriver, served: Server
+) -> None:
+    opened(sized, served)
+    for width in (1440, 1024, 768, 520, 390):
+        resize(sized, width, 900)
+        until(sized, lambda: is_at_rest(sized))
+        editor = edit(sized, 3)
+        evaluated(sized, "arguments[0].value = ''", editor)
+        editor.send_keys("u-add-3-1L one other third 8", Keys.ENTER)
+        until(sized, lambda: bool(evaluated(sized, CARET)))
+        found, off = evaluated(sized, CARET)
+        assert (found, abs(off) < 0.5) == ("one other third 8", True), (width, found, off)
+        number, is_hidden, below, right = evaluated(sized, EDITED)
+        assert (number, is_hidden) == ("3", False) and below >= 0 and right >= 0, width
+        assert evaluated(sized, SIDEWAYS) <= 0, width
+        editor.send_keys(Keys.ESCAPE)
+        until(sized, lambda: not sized.find_elements(By.CSS_SELECTOR, ".edit"))
+
+
 @pytest.mark.parametrize("served", [LARGE], indirect=True)
 def test_large_sets_are_strips_of_which_those_in_view_are_asked_for(browser: WebDriver, served: Server) -> None:
     opened(browser, served)

@@ -17,7 +17,8 @@ from typing import Any
 
 import pytest
 from browsers import PATIENCE, complaints, evaluated, one, rows, until, values
-from live_tabs import Copy, numbers_in, serve
+from live_tabs import Copy, numbers_in, serve, strip_in
+from pages import answers
 from random_editor import Fresh, RandomEditor, compare, numbers_of
 from selenium.webdriver.common.by import By
 from selenium.webdriver.common.keys import Keys
@@ -34,7 +35,7 @@ from pevudlo.live import command
 from pevudlo.live.followed import BY_THEMSELVES, FollowedSession, OtherText
 from pevudlo.client.pieces import Kind
 from pevudlo.live.server import Server
-from pevudlo.live.session import Look, OtherRow
+from pevudlo.live.session import BEFORE, COMPARED, Look, OtherRow
 from pevudlo.wire.program import ROOT
 
 HEAD = "set S 4\nfield a S 8\nfield b S 8\nfield c S 8\ninput a 0 1 2 3 4\n"
@@ -264,6 +265,34 @@ def test_rows_and_values_of_a_program_that_is_begun_anew_are_told_as_others(sess
     session.run("input a 0 9")
     tab.take(session.state(tab.version))
     assert tab.news["anew"] == ["a"] and tab.touched == [1, 2] and not tab.news["began"]
+
+
+def test_what_a_change_of_a_large_file_changes_is_told(session: FollowedSession) -> None:
+    head = ["set S 64x64", *(f"field {name} S 16" for name in "abc"), "insert end my-send-address-1L a 16"]
+    rows = ["insert end u-add-3-1L b a a 16", "insert end u-max-3-1L c c a 16"]
+    was = [*head, *rows, "input c 100 5000 5000 5000", "settle"]
+    lines = [*was[:-2], "input c 100 7 5000 5001", "settle"]
+    looks = [f"show {key} {place}" for key, place in (("c", "after 3"), ("b", "after 2"), ("c", "start"))]
+    before, now = (
+        [list(map(int, reply[0].split(" ")[1:])) for reply in answers([*each, *looks])[-3:]] for each in (was, lines)
+    )
+    for text in (was, lines):
+        session.take("".join(f"{line}\n" for line in text))
+    state = session.state(0)
+    seen, edits = state["version"], state["edits"]
+    assert isinstance(seen, int) and isinstance(edits, int)
+    for (key, row), old, new in zip((("c", 3), ("b", 2), ("c", 0)), before, now):
+        (strip,) = session.looks([Look(key, row, True, COMPARED)], seen, edits)
+        told = strip_in(strip)
+        places = [place for place, both in enumerate(zip(old, new)) if both[0] != both[1]]
+        assert (told["low"], told["high"], told["changed"]) == (min(new), max(new), len(places))
+        assert [at for at, flag in enumerate(told["flags"]) if flag] == sorted({place // 16 for place in places})
+        (numbers,) = session.looks([Look(key, row, False, BEFORE)], seen, edits)
+        assert numbers_in(numbers) == old
+    # A program that is begun anew has no rows of the one before.
+    session.take("".join(f"{line}\n" for line in lines).replace("field b S 16", "field b S 17"))
+    (piece,) = session.looks([Look("c", 3, False, BEFORE)], session.version, session.edits)
+    assert session.done.fresh and numbers_in(piece) is Kind.NONE
 
 
 def test_nothing_is_kept_of_what_was_typed(session: FollowedSession) -> None:

@@ -14,9 +14,10 @@ from live_tabs import PATIENCE, Tab, rest, serve
 from pages import script_of
 
 from pevudlo import Machine
+from pevudlo.live import running
 from pevudlo.live.running import RunningSession
 from pevudlo.live.server import Server
-from pevudlo.wire.book import Book
+from pevudlo.wire.book import Book, Slot
 from pevudlo.wire.library import Held
 
 SLOW_ROWS = 16
@@ -61,7 +62,7 @@ def test_edits_go_on_while_slow_rows_run(server: Server) -> None:
     open_rows, took, running = list[int](), list[float](), set[int]()
     assert tab.command("input a 5 99")["reply"] == ["ok"]
     until = time.monotonic() + PATIENCE
-    while not (open_rows and not open_rows[-1] and len(open_rows) > 20):
+    while not (running & {1, 2} and not open_rows[-1] and len(open_rows) > 20):
         begun = time.perf_counter()
         if len(open_rows) < 20 or not running & {1, 2}:
             # The rows run anew, however fast they are.
@@ -82,6 +83,27 @@ def test_edits_go_on_while_slow_rows_run(server: Server) -> None:
         fresh.raw("settle")
         for key in ("c0", "c15", "y"):
             assert fresh.raw(f"show {key} end") == session.book.ask(f"show {key} end")
+
+
+def test_an_answer_waits_for_what_is_done_at_once_alone(server: Server, monkeypatch: pytest.MonkeyPatch) -> None:
+    execute, free = Book.execute, threading.Event()
+
+    def held(book: Book, slot: Slot) -> None:
+        free.wait(PATIENCE)
+        execute(book, slot)
+
+    tab = Tab(server)
+    tab.settled()
+    monkeypatch.setattr(running, "AT_ONCE", PATIENCE)
+    with monkeypatch.context() as patched:
+        patched.setattr(Book, "execute", held)
+        begun = time.monotonic()
+        tab.take(tab.command("input a 5 99", seen=str(tab.version))["state"])
+        assert len(tab.unsettled) == SLOW_ROWS and time.monotonic() - begun < PATIENCE / 2
+        free.set()
+        tab.settled()
+    tab.take(tab.command("input x 2 7", seen=str(tab.version))["state"])
+    assert tab.touched == [SLOW_ROWS + 1] and not tab.unsettled
 
 
 def test_a_late_result_is_shown_thrown_away(server: Server) -> None:

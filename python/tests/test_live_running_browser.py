@@ -9,7 +9,7 @@ from typing import Any
 
 import pytest
 from browsers import command as send
-from browsers import complaints, evaluated, focus, is_at_rest, one, press, until, values
+from browsers import PATIENCE, complaints, evaluated, focus, is_at_rest, one, press, until, values
 from live_tabs import serve
 from pages import script_of
 from selenium.webdriver.common.by import By
@@ -261,19 +261,59 @@ def test_values_and_marks_are_right_behind_random_edits(
         assert told["values"] > 300 and told["marks"] > 20 and told["refused"] < 20, told
 
 
-DELAY = """
-const late = window.fetch;
-window.fetch = async (...words) => {
-  const answer = await late(...words);
-  await new Promise(go => setTimeout(go, Math.random() * 60));
-  return answer;
-};
+MEANWHILE = """
+const [line, done] = arguments, {link} = pevudlo.view, {wire} = link, hear = link.hear, heard = [];
+const wait = time => new Promise(go => setTimeout(go, time)), get = wire.get.bind(wire), post = wire.post.bind(wire);
+// What is new is asked for once the edit is made, and the answer to the edit comes last.
+wire.get = async (...words) => { await wait(100); return get(...words); };
+wire.post = async (...words) => { const answer = await post(...words); await wait(500); return answer; };
+link.hear = news => { heard.push(news.since === link.seen); hear.call(link, news); };
+link.told = link.seen + 1;
+const refreshed = link.refresh(), edited = link.edit(line);
+Promise.all([refreshed, edited]).then(async () => {
+  delete wire.get;
+  delete wire.post;
+  delete link.hear;
+  done(heard);
+});
 """
 
 
-def test_answers_that_come_late_and_swapped_leave_the_page_as_the_program_is(
-    browser: WebDriver, libparis: Path
-) -> None:
+@pytest.fixture(params=["socket", "requests"])
+def wired(browser: WebDriver, request: pytest.FixtureRequest) -> Iterator[WebDriver]:
+    """The browser, where pages have a socket, and where they have requests alone."""
+    run: Any = browser.execute_cdp_cmd  # type: ignore[attr-defined]
+    script = "delete window.WebSocket" if request.param == "requests" else ""
+    added = run("Page.addScriptToEvaluateOnNewDocument", {"source": script})
+    yield browser
+    run("Page.removeScriptToEvaluateOnNewDocument", added)
+
+
+def test_what_is_new_comes_with_the_edit_where_both_are_asked_for(wired: WebDriver, server: Server) -> None:
+    browser = wired
+    opened(browser, server)
+    browser.set_script_timeout(PATIENCE)
+    heard: list[bool] = browser.execute_async_script(MEANWHILE, "input a 0 7")
+    assert heard[0] and len(heard) == 1
+    until(browser, lambda: is_at_rest(browser))
+    assert evaluated(browser, "return pevudlo.view.program.line") == "input a 0 7"
+
+
+DELAY = """
+const {wire} = pevudlo.view.link;
+for (const name of ["get", "post"]) {
+  const early = wire[name].bind(wire);
+  wire[name] = async (...words) => {
+    const answer = await early(...words);
+    await new Promise(go => setTimeout(go, Math.random() * 60));
+    return answer;
+  };
+}
+"""
+
+
+def test_answers_that_come_late_and_swapped_leave_the_page_as_the_program_is(wired: WebDriver, libparis: Path) -> None:
+    browser = wired
     for server in serve(TWELVE, is_shared=True):
         opened(browser, server)
         evaluated(browser, DELAY)

@@ -12,10 +12,13 @@ from live_tabs import Copy, numbers_in, rest, strip_in
 from pages import answers, script_of
 from test_page import random_script
 
+from pevudlo.client import ledger
 from pevudlo.client.ledger import ranges_of
 from pevudlo.client.pieces import STRETCHES, Kind, packed
+from pevudlo.lang.replies import Status
 from pevudlo.live.running import RunningSession
 from pevudlo.live.session import BEFORE, COMPARED, NOW, Look
+from pevudlo.wire.book import Book
 from pevudlo.wire.pipe import is_comment
 
 ROWS = 4096
@@ -86,9 +89,51 @@ def test_ids_as_ranges() -> None:
     assert ranges_of([1, 2, 3, 9, 8, 10, 11]) == [1, 3, 9, 9, 8, 8, 10, 11]
 
 
+def test_behind_an_edit_no_list_is_asked_for(session: RunningSession, monkeypatch: pytest.MonkeyPatch) -> None:
+    session.load(many_rows())
+    rest(session)
+    tab, asked, ask = Copy(), list[str](), Book.ask
+    told(session, tab)
+
+    def noted(book: Book, line: str) -> list[str]:
+        asked.append(line)
+        return ask(book, line)
+
+    monkeypatch.setattr(Book, "ask", noted)
+    lines = [
+        "replace 2000 u-min-3-1L g a b 8",
+        "delete 9",
+        "insert after 8 u-move-1L c a 8",
+        "input b 3 7",
+        "field h S 8",
+    ]
+    for line in lines:
+        assert not session.run(line).is_refused
+    rest(session)
+    assert [line for line in asked if line != "faults"] == lines
+    told(session, tab)
+    # (each row reads `b`, but for the new one)
+    assert tab.ids == [*range(1, 9), ROWS + 1, *range(10, ROWS + 1)] and sorted(tab.ids) == tab.touched
+    monkeypatch.undo()
+    assert_listed(session)
+
+
+def assert_listed(session: RunningSession) -> None:
+    """Fails where the rows as tabs know them aren't those that the program lists."""
+    with session.lock, session.book.lock:
+        session.refresh()
+        known = [(row, each.text, each.edition, each.is_open) for row, each in session.ledger.rows.items()]
+        assert known == [(row.row, row.text, row.edition, row.status is not Status.SETTLED) for row in session.rows]
+
+
+@pytest.mark.parametrize("most", [20_000, 6])
 @pytest.mark.parametrize("seed", range(8))
-def test_values_are_what_the_program_shows_and_unsettled_rows_have_none(session: RunningSession, seed: int) -> None:
-    """After random edits, undo, redo, orders and late results, told to a tab that is late at times."""
+def test_values_are_what_the_program_shows_and_unsettled_rows_have_none(
+    session: RunningSession, seed: int, most: int, monkeypatch: pytest.MonkeyPatch
+) -> None:
+    """After random edits, undo, redo, orders and late results, told to a tab that is late at times, and knows less than
+    is noted."""
+    monkeypatch.setattr(ledger, "MOST_NOTED", most)
     chance, tab = Random(seed), Copy()
     for line in random_script(seed):
         word = chance.choice(["undo", "redo"]) if chance.random() < 0.1 else ""
@@ -96,6 +141,7 @@ def test_values_are_what_the_program_shows_and_unsettled_rows_have_none(session:
             getattr(session, word)() if word else session.run(line)
         except ValueError:
             pass
+        assert_listed(session)
         if chance.random() < 0.5:
             continue
         told(session, tab)

@@ -98,6 +98,19 @@ def test_an_edit_does_not_wait_for_the_rows_that_run() -> None:
         assert machine.progress == Progress(40, 40)
 
 
+@pytest.mark.parametrize("is_small", [False, True])
+def test_workers_begin_no_row_while_something_comes_first(is_small: bool) -> None:
+    machine, ids = (small(), list[int]()) if is_small else slow(4)
+    with machine:
+        with machine._inside("first").book.first():
+            ids = ids or [machine.insert(paris.u_add("b", "a", "a", 8)) for _ in range(4)]
+            machine.start()
+            time.sleep(0.1)
+            assert machine.unsettled() == tuple(ids) and machine.progress == Progress(0, 4)
+        assert machine.wait(PATIENCE)
+        assert machine.progress == Progress(4, 4)
+
+
 def test_nothing_runs_before_start_and_after_stop() -> None:
     with small() as machine:
         machine.insert(paris.u_add("b", "a", "a", 8))

@@ -1,15 +1,21 @@
 """The rows of a session as tabs know them: what each is, and at which version it became that.
 
-It is built over lists of rows: two lists are compared, and what is other in the second one has its version. What the
-library tells of rows that an edit touched may take the place of a list one day, and it is here alone that one is read.
+A list of all rows is compared with the one before, and what is other has its version. Behind an edit no list is wanted:
+the library tells which rows it touched. Which rows were other at the last versions is noted, so that a tab is told of
+these alone.
 """
 
 from __future__ import annotations
 
-from collections.abc import Collection, Iterable, Sequence
+from collections import deque
+from collections.abc import Collection, Iterable, Mapping, Sequence
 from dataclasses import dataclass
 
 from pevudlo.lang.replies import Row, RowFault, Status
+
+
+MOST_NOTED = 20_000
+"""So many ids of rows that were other are noted. Who has seen less than they say is told by a walk over all rows."""
 
 
 @dataclass(slots=True)
@@ -39,6 +45,9 @@ class Ledger:
         self.causes: dict[int, str] = {}
         self.ordered = self.keyed = self.faulted = self.declared = self.began = 0
         self._is_anew = False
+        # The rows that were other at a version, how many they are, and the version behind which all are noted.
+        self._noted: deque[tuple[int, Collection[int]]] = deque()
+        self._count = self._noted_from = 0
 
     def forget(self) -> None:
         """Another program comes: no row of it is one of these, whatever its id and its edition are."""
@@ -61,6 +70,45 @@ class Ledger:
             self.began = self.declared = self.keyed = version
         self.rows, self._is_anew = now, False
         self.open = {row for row, known in now.items() if known.is_open}
+        self._noted.clear()
+        self._count, self._noted_from = 0, version
+
+    def touch(
+        self, rows: Sequence[int], edition: int, texts: Mapping[int, str], order: Iterable[int] | None, version: int
+    ) -> None:
+        """Takes in an edit: the rows that it touched, and the order where it is another. `turn` follows."""
+        for row in rows:
+            known, text = self.rows.get(row), texts[row]
+            if known is None:
+                self.rows[row] = Known(text, edition, False, version, version, version)
+                continue
+            known.edition, known.touched = edition, version
+            if known.text != text:
+                known.text, known.written = text, version
+        if order is not None:
+            self.rows = {row: self.rows[row] for row in order}
+            self.open &= self.rows.keys()
+            self.ordered = version
+        self._note_others(rows, version)
+
+    def _note_others(self, rows: Collection[int], version: int) -> None:
+        """Notes which rows are other at a version."""
+        self._noted.append((version, rows))
+        self._count += len(rows)
+        while self._count > MOST_NOTED:
+            self._noted_from, gone = self._noted.popleft()
+            self._count -= len(gone)
+
+    def _others(self, seen: int) -> list[tuple[int, Known]]:
+        """The rows that may be other for who has seen a version."""
+        if seen < self._noted_from:
+            return list(self.rows.items())
+        found = set[int]()
+        for version, rows in reversed(self._noted):
+            if version <= seen:
+                break
+            found.update(rows)
+        return [(row, self.rows[row]) for row in sorted(found) if row in self.rows]
 
     def _note(self, known: Known, row: Row, is_open: bool, version: int) -> None:
         """Notes what is other of a row."""
@@ -78,6 +126,8 @@ class Ledger:
         for row in others & self.rows.keys():
             self.rows[row].is_open, self.rows[row].turned = row in now, version
         self.open = now
+        if others:
+            self._note_others(others, version)
         return bool(others)
 
     def give(self, keys: Iterable[str], version: int) -> None:
@@ -110,7 +160,7 @@ class Ledger:
 
     def since(self, seen: int) -> dict[str, object]:
         """What is other of the rows for who has seen a version."""
-        rows = self.rows.items()
+        rows = self._others(seen)
         news: dict[str, object] = {}
         if self.ordered > seen or not seen:
             news["order"] = ranges_of(self.rows)

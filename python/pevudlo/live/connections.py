@@ -31,6 +31,7 @@ class TimelyReader(io.RawIOBase):
 
     def __init__(self, connection: socket.socket) -> None:
         self._connection = connection
+        self.idle = IDLE_SECONDS
         self._until: float | None = None
 
     def readable(self) -> bool:
@@ -43,7 +44,7 @@ class TimelyReader(io.RawIOBase):
 
     def readinto(self, room: Any) -> int:
         """Reads what is there, or waits for it."""
-        left = IDLE_SECONDS if self._until is None else self._until - time.monotonic()
+        left = self.idle if self._until is None else self._until - time.monotonic()
         if left <= 0:
             raise TimeoutError("the request didn't come in time")
         self._connection.settimeout(left)

@@ -73,6 +73,9 @@ class FollowedSession(Session):
 
     def __init__(self, path: Path, library: Path, workers: int = 2, is_quiet: bool = True) -> None:
         self._anew = set[str]()
+        self._before: Book | None = None
+        # Whether the rows are those of a program that was listed, so that what an update touches tells what is other.
+        self._is_listed = False
         super().__init__(library, workers, is_quiet)
         self.file = Watched(path)
         self.text, self.done, self.missing = "", Update(), ""
@@ -118,7 +121,9 @@ class FollowedSession(Session):
             self.text, self.number = text, self.number + 1
             try:
                 with self._telling(self.file.path.name):
+                    before = self._still()
                     self.done = self.document.update(text, hold)
+                    self._before = before if self._is_listed else None
                     self._see_text()
             except (PipeError, Stopped, NoReply, MemoryError) as error:
                 self.trouble = self.trouble or str(error)
@@ -126,13 +131,28 @@ class FollowedSession(Session):
             self.taken.clear()
             self.changed()
 
+    def _still(self) -> Book | None:
+        """The present program, to be compared with. None where there is no memory for it, or no program."""
+        try:
+            return self._book.still() if self._book.is_open else None
+        except MemoryError:
+            return None
+
     def _see_text(self) -> None:
         """Sees the rows and the input data behind an update."""
         self.edits, self.line = self.edits + 1, self.file.path.name
         given = [key for key in given_in(self.document.lines) if self.board.set_of(key) is not None]
         self.ledger.keep_given(given, self._anew, self.version + 1)
         self._anew.clear()
-        self.see_rows()
+        if not self._is_listed:
+            self._is_listed = True
+            self.see_rows()
+            return
+        is_moved = any(line.startswith(("insert ", "delete ")) for line in self.done.sent)
+        order = self.board.rows if is_moved else None
+        self.ledger.touch(sorted(self.done.touched), 0, self.board.texts, order, self.version + 1)
+        self.ledger.turn(self.book.unsettled(), self.version + 1)
+        self.see_faults()
 
     def type(self, was: int, start: int, end: int, text: str, hold: bool) -> None:
         """Puts a text into the place of a part, by units of UTF-16, and writes the file.
@@ -260,6 +280,7 @@ class FollowedSession(Session):
 
     def begin_anew(self) -> Peer:
         """Begins another program, where this one was told something, and gives it."""
+        self._is_listed = False
         if not self._is_new:
             self._end()
             self.taken, self.trouble = [], ""
@@ -279,6 +300,10 @@ class FollowedSession(Session):
     @property
     def book(self) -> Book:
         return self._book
+
+    @property
+    def before(self) -> Book | None:
+        return self._before
 
     def _begun_second(self) -> Peer:
         """What gives the verdicts, with nothing declared."""

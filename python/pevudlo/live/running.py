@@ -35,6 +35,10 @@ AT_ONCE = 0.004
 MOST_THROWN = 5
 """So many late results are shown."""
 
+MOVING = ("insert", "delete")
+NO_EDIT = 2**64 - 1
+"""No edit is behind so many."""
+
 BY_HAND = ("take", "bring", "release")
 BY_THEMSELVES = "rows run by themselves here"
 
@@ -58,6 +62,7 @@ class RunningSession(Session):
         self._marks: list[int] = []
         self._undone: list[list[str]] = []
         self._before: Book | None = None
+        self._editions = 0
         self._seen: tuple[int, int, int, bool] | None = None
         super().__init__(library, workers, is_quiet)
 
@@ -99,7 +104,7 @@ class RunningSession(Session):
         if line == "settle":
             self.go_on()
             return Step(line, ("ok",), Ok())
-        with self.lock:
+        with self.book.first(), self.lock:
             self._check_row(line, was)
             with self.book.lock:
                 step = self._tell(line)
@@ -129,12 +134,24 @@ class RunningSession(Session):
         if step.word == "input":
             self.ledger.give([step.text.split(" ")[1]], self.version + 1)
         self._turned(step.text, self.background.history.done)
+        self._see_edit(step.word in MOVING)
 
     def _turned(self, line: str, steps: Sequence[Kept]) -> None:
-        """The program is another: its rows are listed, and what was there before stays to be compared with."""
+        """The program is another, and what was there before stays to be compared with."""
         self.edits, self.line = self.edits + 1, line
         self._before = self.book.beside(steps[-1].held) if steps else None
-        self.see_rows()
+
+    def _see_edit(self, is_moved: bool) -> None:
+        """Sees which rows an edit touched, and the order where it `is_moved`. No list of all rows is made."""
+        touched, self._editions = self.book.touched(self._editions)
+        order = self.board.rows if is_moved else None
+        self.ledger.touch(touched, self._editions, self.board.texts, order, self.version + 1)
+        self.ledger.turn(self.book.unsettled(), self.version + 1)
+        self.see_faults()
+
+    def see_rows(self) -> None:
+        super().see_rows()
+        _, self._editions = self.book.touched(NO_EDIT)
 
     def load(self, lines: Sequence[str]) -> list[Step]:
         """Hands over a whole script. Gives the steps that were refused. Its edits can't be taken back.
@@ -184,17 +201,17 @@ class RunningSession(Session):
 
     def undo(self) -> None:
         """Takes the last edit back. Raises ValueError where there is none."""
-        with self.lock, self.book.lock:
+        with self.book.first(), self.lock, self.book.lock:
             self._moved("undo", self._go(True))
 
     def redo(self) -> None:
         """Makes the edit again that was taken back last. Raises ValueError where there is none."""
-        with self.lock, self.book.lock:
+        with self.book.first(), self.lock, self.book.lock:
             self._moved("redo", self._go(False))
 
     def go_to(self, place: int) -> None:
         """Takes back or makes again as many edits as lead to a place of the history: so many edits from its start."""
-        with self.lock, self.book.lock:
+        with self.book.first(), self.lock, self.book.lock:
             # (no step is dropped meanwhile)
             history = self.background.history
             if place > len(history.done) + len(history.undone):
@@ -229,6 +246,7 @@ class RunningSession(Session):
         elif line.startswith(("set ", "field ")):
             self.ledger.declared = self.version + 1
         self._turned(f"{word}: {line}", history.undone if word == "undo" else history.done)
+        self.see_rows()
         self.changed()
 
     # What tabs are told.
@@ -260,9 +278,9 @@ class RunningSession(Session):
         return is_other
 
     def wait_for_small(self) -> None:
-        until = time.monotonic() + AT_ONCE
+        until, crew = time.monotonic() + AT_ONCE, self.background.crew
         with self.book.lock:
-            while self.book.is_open and self.background.crew.is_on and self.book.unsettled_count():
+            while self.book.is_open and crew.is_on and 0 < self.book.unsettled_count() <= crew.most_at_once:
                 left = until - time.monotonic()
                 if left <= 0:
                     break

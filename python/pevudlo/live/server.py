@@ -11,7 +11,9 @@ import io
 import json
 import secrets
 import socket
+import struct
 import sys
+import threading
 from http import HTTPStatus
 from http.server import BaseHTTPRequestHandler
 from typing import Any
@@ -24,6 +26,7 @@ from pevudlo.live.followed import FollowedSession, OtherText
 from pevudlo.client.news import News, grammar, other_row, refusal, trouble
 from pevudlo.live.running import OtherTab, RunningSession
 from pevudlo.live.session import MOST_LOOKS, Look, OtherRow, Session, Step, Stopped
+from pevudlo.live.sockets import BINARY, PING, TEXT, WRONG, Socket, Wrong, key_of
 from pevudlo.talk import LOOKS
 from pevudlo.wire.pipe import Ended
 
@@ -35,6 +38,8 @@ MOST_LISTENERS = 32
 HEARTBEAT = 10.0
 """Seconds between two signs of life to a tab that waits for news."""
 
+MARK = struct.Struct("<II")
+
 LEAST_PACKED = 4_096
 """A text of so many bytes is packed for who takes it so."""
 
@@ -42,6 +47,11 @@ LEAST_PACKED = 4_096
 def is_number(word: str) -> bool:
     """Whether a word is a number that isn't too long."""
     return word.isascii() and word.isdigit() and len(word) < 19
+
+
+def number_of(asked: dict[str, str], name: str) -> int:
+    """A number that is asked with, 0 where there is none."""
+    return int(asked[name]) if is_number(asked.get(name, "")) else 0
 
 
 def type_text(session: FollowedSession, asked: dict[str, str]) -> dict[str, object]:
@@ -106,6 +116,20 @@ def looks_in(text: str) -> list[Look]:
             raise ValueError("a value is asked for by a key and three numbers")
         looks.append(Look(words[0], int(words[1]), words[2] == "1", int(words[3])))
     return looks
+
+
+def as_bytes(value: dict[str, object] | bytes) -> bytes:
+    """What is answered, as bytes."""
+    return value if isinstance(value, bytes) else json.dumps(value, separators=(",", ":")).encode("ascii")
+
+
+def texts_in(data: bytes) -> dict[str, str] | None:
+    """What is asked: texts by name. None where it is none."""
+    try:
+        asked = json.loads(data)
+    except (ValueError, RecursionError):
+        return None
+    return asked if isinstance(asked, dict) and all(isinstance(text, str) for text in asked.values()) else None
 
 
 class Unwelcome(Exception):
@@ -189,20 +213,30 @@ class Handler(BaseHTTPRequestHandler):
         """A command, values, a step of the history, or a new start."""
         try:
             name, body = self._allowed(True), self._body()
-            if name == "looks":
-                self._send_looks(body)
-                return
-            answer = self._act(name, body)
-            if "seen" in body:
-                self.server.session.wait_for_small()
-                answer["state"] = self.server.state(int(body["seen"]) if is_number(body["seen"]) else 0)
-            self._send_json(answer)
+            data, status = self._done(name, body)
+            kind = "application/json" if isinstance(data, dict) else "application/octet-stream"
+            self._send(status, as_bytes(data), kind)
         except Unwelcome as error:
             self._refuse(error.status)
+
+    def _done(self, name: str, asked: dict[str, str]) -> tuple[News | bytes, HTTPStatus]:
+        """What is answered to what is asked: values, or what was done with what is new behind it."""
+        try:
+            seen = number_of(asked, "seen")
+            if name == "looks":
+                if not asked.keys() >= {"seen", "edits"}:
+                    raise ValueError("values are asked for by who has seen something")
+                looks = self.server.session.looks(looks_in(asked["looks"]), seen, number_of(asked, "edits"))
+                return b"".join(looks), HTTPStatus.OK
+            answer = self._act(name, asked)
+            if "seen" in asked:
+                self.server.session.wait_for_small()
+                answer["state"] = self.server.state(seen)
+            return answer, HTTPStatus.OK
         except (Stopped, Ended) as error:
-            self._send_json({"stopped": str(error)}, HTTPStatus.CONFLICT)
+            return {"stopped": str(error)}, HTTPStatus.CONFLICT
         except (KeyError, ValueError, MemoryError) as error:
-            self._send_json({"wrong": str(error)}, HTTPStatus.BAD_REQUEST)
+            return {"wrong": str(error)}, HTTPStatus.BAD_REQUEST
 
     def _get(self, name: str) -> None:
         """Answers with what has this name."""
@@ -211,6 +245,9 @@ class Handler(BaseHTTPRequestHandler):
             self._send(HTTPStatus.OK, data, KINDS[name.rpartition(".")[2]])
         elif name == "news":
             self._news()
+        elif name == "socket":
+            self._allowed(True)
+            self._talk()
         elif name == "state":
             self._send_json(self.server.state(self._asked("seen")))
         elif name == "since" and isinstance(session, RunningSession):
@@ -274,13 +311,8 @@ class Handler(BaseHTTPRequestHandler):
         if self.headers.get("Content-Type", "").split(";")[0].strip() != "application/json":
             raise Unwelcome(HTTPStatus.UNSUPPORTED_MEDIA_TYPE)
         data = self.rfile.read(int(length))
-        if len(data) < int(length):
-            raise Unwelcome(HTTPStatus.BAD_REQUEST)
-        try:
-            asked = json.loads(data)
-        except (ValueError, RecursionError) as error:
-            raise Unwelcome(HTTPStatus.BAD_REQUEST) from error
-        if not isinstance(asked, dict) or not all(isinstance(text, str) for text in asked.values()):
+        asked = texts_in(data) if len(data) == int(length) else None
+        if asked is None:
             raise Unwelcome(HTTPStatus.BAD_REQUEST)
         return asked
 
@@ -292,9 +324,7 @@ class Handler(BaseHTTPRequestHandler):
     def _news(self) -> None:
         """Server-sent events: the version, each time that it is another."""
         server = self.server
-        if server.listeners >= MOST_LISTENERS:
-            raise Unwelcome(HTTPStatus.SERVICE_UNAVAILABLE)
-        server.listeners += 1
+        self._listens()
         try:
             self.connection.settimeout(ANSWER_SECONDS)
             self.send_response(HTTPStatus.OK)
@@ -312,15 +342,82 @@ class Handler(BaseHTTPRequestHandler):
         finally:
             server.listeners -= 1
 
-    def _send_looks(self, asked: dict[str, str]) -> None:
-        """Answers with values. Raises KeyError and ValueError."""
-        seen, edits = (int(asked[name]) if is_number(asked[name]) else 0 for name in ("seen", "edits"))
-        pieces = self.server.session.looks(looks_in(asked["looks"]), seen, edits)
-        self._send(HTTPStatus.OK, b"".join(pieces), "application/octet-stream")
+    def _listens(self) -> None:
+        """Another tab listens for news. Raises Unwelcome where too many do."""
+        if self.server.listeners >= MOST_LISTENERS:
+            raise Unwelcome(HTTPStatus.SERVICE_UNAVAILABLE)
+        self.server.listeners += 1
+
+    def _talk(self) -> None:
+        """All that a tab asks by one socket, answered in order, with news between the answers."""
+        try:
+            key = key_of(self.headers)
+        except ValueError as error:
+            raise Unwelcome(HTTPStatus.BAD_REQUEST) from error
+        self._listens()
+        try:
+            self.connection.settimeout(ANSWER_SECONDS)
+            self.send_response(HTTPStatus.SWITCHING_PROTOCOLS)
+            for name, value in (("Upgrade", "websocket"), ("Connection", "Upgrade"), ("Sec-WebSocket-Accept", key)):
+                self.send_header(name, value)
+            self.end_headers()
+            self.wfile.flush()
+            self.close_connection, self.reader.idle = True, 3 * HEARTBEAT
+            tab = Socket(self.connection, self.reader, self.rfile, MOST_BYTES)
+            threading.Thread(target=self._push, args=(tab,), daemon=True).start()
+            self._answer_all(tab)
+        except (OSError, EOFError):
+            pass
+        finally:
+            self.server.listeners -= 1
+
+    def _answer_all(self, tab: Socket) -> None:
+        """Answers what comes until the end. A message that isn't one ends it."""
+        code = 1000
+        try:
+            while (text := tab.read()) is not None:
+                asked = texts_in(text)
+                if asked is None or not is_number(asked.get("mark", "")):
+                    raise Wrong(WRONG)
+                data = self._told(asked.get("do", ""), asked)
+                if isinstance(data, bytes):
+                    tab.send(BINARY, MARK.pack(int(asked["mark"]) & 0xFFFFFFFF, 0) + data)
+                else:
+                    tab.send(TEXT, as_bytes({**data, "mark": int(asked["mark"])}))
+        except Wrong as error:
+            code = error.code
+        finally:
+            tab.end(code)
+
+    def _told(self, name: str, asked: dict[str, str]) -> News | bytes:
+        """What is answered to a message: what is new, since which edit a row is unsettled, or as to a post."""
+        session, (seen, row) = self.server.session, (number_of(asked, part) for part in ("seen", "row"))
+        try:
+            if name == "state":
+                return self.server.state(seen)
+            if name == "since" and isinstance(session, RunningSession):
+                return {"line": session.since(row)}
+        except Ended as error:
+            return {"stopped": str(error)}
+        return self._done(name, asked)[0]
+
+    def _push(self, tab: Socket) -> None:
+        """Tells a tab each version, and that the server lives. A tab that takes nothing is told the last one later."""
+        session, seen = self.server.session, 0
+        try:
+            while not session.is_closed and not tab.is_over:
+                version = session.wait(seen, HEARTBEAT)
+                tab.send(PING if version == seen else TEXT, b"" if version == seen else as_bytes({"version": version}))
+                seen = version
+            if not tab.is_over:
+                # (who reads for the tab is woken)
+                self.connection.shutdown(socket.SHUT_RDWR)
+        except OSError:
+            tab.is_over = True
 
     def _send_json(self, value: dict[str, object], status: HTTPStatus = HTTPStatus.OK) -> None:
         """Answers with JSON."""
-        self._send(status, json.dumps(value, separators=(",", ":")).encode("ascii"), "application/json")
+        self._send(status, as_bytes(value), "application/json")
 
     def _send(self, status: HTTPStatus, data: bytes, kind: str) -> None:
         """Answers, and keeps the connection. Long texts are packed for who takes them so."""

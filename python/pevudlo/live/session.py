@@ -111,12 +111,17 @@ class Session:
         self.taken: list[str] = []
         self.steps: deque[tuple[int, Step]] = deque(maxlen=KEPT_STEPS)
         self.told = 0
-        self.rows: tuple[Row, ...] = ()
         self.ledger = Ledger()
         self._library, self._workers, self._is_quiet = library, workers, is_quiet
         self._news = threading.Condition()
         self._closed, self._faults_seen = False, 0
         self._begin()
+
+    @property
+    def rows(self) -> tuple[Row, ...]:
+        """The rows as the program lists them."""
+        self._lister.changed()
+        return self._lister.rows()
 
     @property
     def board(self) -> Board:
@@ -197,8 +202,6 @@ class Session:
 
     def see_rows(self) -> None:
         """Lists the rows, for who is told of them. The lock is held, and `changed` is called behind it."""
-        self._lister.changed()
-        self.rows = self._lister.rows()
         self.ledger.see(self.rows, self.version + 1)
         self.see_faults()
 

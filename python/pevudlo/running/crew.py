@@ -87,6 +87,11 @@ class Crew:
         """Whether the workers take rows: behind `start`, or for a settle."""
         return self.trouble is None and (self._is_started or None in self._settles.values())
 
+    @property
+    def most_at_once(self) -> int:
+        """How many rows are done at once, about: many small ones, or one a worker."""
+        return AT_ONCE if self._is_small() else self._workers
+
     def start(self) -> None:
         """Ready rows run from now on."""
         with self.book.lock:
@@ -262,7 +267,7 @@ class Crew:
 
     def _do(self, slot: Slot) -> bool:
         """Runs a row, or many small ones. Whether there was one. The lock is held before and behind it."""
-        if not self.is_on:
+        if not self.is_on or self.book.first_come:
             return False
         if self._is_small():
             return self._run_small()
@@ -293,7 +298,7 @@ class Crew:
             return False
         self._is_at_small, told, before = True, time.monotonic(), self.ran
         try:
-            while self.is_on and not self.is_over and self._run_many():
+            while self.is_on and not self.is_over and not self.book.first_come and self._run_many():
                 if time.monotonic() - told > TELL:
                     told = time.monotonic()
                     self.book.news.notify_all()

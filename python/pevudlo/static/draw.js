@@ -52,7 +52,7 @@ export function cells(value, { width, base, form, off, before }) {
     else if (i && i % form.group === 0 && !form.isGrid) out.push('<i class="gap"></i>');
     const number = numbers[i];
     let kind = width === 1 ? (number ? "b1" : "b0") : "v";
-    if (number == 0) kind += " z";
+    if (!number) kind += " z";
     if (changed?.has(i)) kind += " new";
     if (off && !off[i]) kind += " off"; else if (before && before[i] === number) kind += " kept";
     out.push(`<b class="${kind}" data-i="${i}">${spelled(number, width, base)}</b>`);
@@ -121,16 +121,16 @@ export function paintStrip(canvas, strip, tall, { band, mean, fresh }) {
   const y = shade => isFlat ? h / 2 : Math.round((h - foot - 2) * (1 - shade / 255));
   canvas.width = n;
   canvas.height = h;
-  const paint = canvas.getContext("2d");
-  paint.fillStyle = band;
-  for (let x = 0; x < n; x++) paint.fillRect(x, y(most[x]), 1, Math.max(2, y(least[x]) - y(most[x]) + 2));
-  paint.fillStyle = mean;
+  const context = canvas.getContext("2d");
+  context.fillStyle = band;
+  for (let x = 0; x < n; x++) context.fillRect(x, y(most[x]), 1, Math.max(2, y(least[x]) - y(most[x]) + 2));
+  context.fillStyle = mean;
   for (let x = 0; x < n; x++) {
     const at = y(means[x]), before = x ? y(means[x - 1]) : at;
-    paint.fillRect(x, Math.min(at, before), 1, Math.max(2, Math.abs(at - before)));
+    context.fillRect(x, Math.min(at, before), 1, Math.max(2, Math.abs(at - before)));
   }
-  paint.fillStyle = fresh;
-  for (const x of strip.changed || []) paint.fillRect(x, h - foot, 1, foot);
+  context.fillStyle = fresh;
+  for (const x of strip.changed || []) context.fillRect(x, h - foot, 1, foot);
 }
 
 /** A number in few letters: with fewer digits where it is long. @param {string} text */

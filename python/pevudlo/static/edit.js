@@ -2,14 +2,14 @@
 import { numberOf, spelled, WANTED } from "./draw.js";
 import { build, lay, reveal } from "./list.js";
 import { have } from "./values.js";
-import { $, code, draw, safe, say, view } from "./view.js";
+import { $, code, draw, drawNow, safe, say, view } from "./view.js";
 
 const RECORD = "This page is a record: nothing is edited here.";
 const WORDS = ["none", "upward", "downward", "inclusive", "exclusive"];
 const FIELDS = "DABFGN";
 
 /** Shows a line again: the one that a function of the keys selects. */
-const after = { select: (/** @type {number} */ _place) => {} };
+const after = { select: /** @type {(place: number) => void} */ (() => {}) };
 /** @param {(place: number) => void} select */
 export function selectsBy(select) { after.select = select; }
 
@@ -124,6 +124,7 @@ export async function commit() {
   const row = kind === "insert" ? Number(/^row (\d+)$/.exec(said.reply[0])?.[1]) : id;
   after.select(view.place.get(row) ?? view.selected);
   $("list").focus();
+  drawNow();
 }
 
 function refuse(editing, said, text, head) {

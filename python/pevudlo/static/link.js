@@ -2,15 +2,27 @@
 import { unrolled } from "./model.js";
 
 /** @typedef {[string, number, number, number]} Look a key, the row that wrote it, 1 for a strip, and which (NOW ..) */
+/** @typedef {import("./model.js").News} News */
+/** @typedef {import("./model.js").Refused} Refused */
+/**
+ * A value, or why there is none.
+ * @typedef {Partial<import("./model.js").Value> & {isMissing?: boolean, isPending?: boolean, isOther?: boolean}} Piece
+ */
+/**
+ * What is answered to what was asked: why nothing was done, else what is new. `text` is what a row is now that another
+ * tab has changed.
+ * @typedef {{refused: Refused|null, reply?: string[], text?: string|null, state?: News}} Said
+ */
 export const NOW = 0, BEFORE = 1, COMPARED = 2;
 const HEAD = 16, ENDS = 40;
 
 /**
  * The values of a binary answer: of each a head, and behind it numbers in as many bytes as the key's width needs.
  * @param {ArrayBuffer} buffer @param {number} from @param {number} count
+ * @returns {Piece[]}
  */
 export function unpack(buffer, from, count) {
-  const view = new DataView(buffer), found = [];
+  const view = new DataView(buffer), found = /** @type {Piece[]} */ ([]);
   let at = from;
   for (let i = 0; i < count; i++) {
     const kind = view.getUint8(at), size = view.getUint8(at + 1), length = view.getUint32(at + 4, true);
@@ -47,15 +59,121 @@ function stripAt(buffer, view, at, length, all) {
   };
 }
 
-/** A server: news by one stream of events, all else by requests. What is new is asked for once at a time. */
+const AGAIN = 2000, MOST_OPENING = 1000, BEHIND_MARK = 8, MOST_BYTES = 65_536 + 1_024;
+
+/** Requests, and news by a stream of events. */
+class Requests {
+  /** @param {(version: number) => void} told @param {(isOver: boolean) => void} broken is told whether it is over */
+  constructor(told, broken) {
+    this.told = told;
+    this.broken = broken;
+  }
+
+  begin() {
+    const news = new EventSource("news");
+    news.addEventListener("message", event => this.told(Number(event.data)));
+    news.addEventListener("error", () => this.broken(news.readyState === EventSource.CLOSED));
+  }
+
+  /** What is asked for, by a name and numbers. @param {string} name @param {Object<string, number>} numbers */
+  async get(name, numbers) {
+    const query = Object.entries(numbers).map(each => each.join("=")).join("&");
+    return (await fetch(`${name}?${query}`, { cache: "no-store" })).text();
+  }
+
+  /** The answer to a post: a text, or bytes, or null where it is too long. @param {string} name @param {any} body */
+  async post(name, body) {
+    const headers = { "Content-Type": "application/json" };
+    const answer = await fetch(name, { method: "POST", headers, body: JSON.stringify(body) });
+    if (answer.status === 413) return null;
+    return answer.headers.get("Content-Type") === "application/json" ? answer.text() : answer.arrayBuffer();
+  }
+}
+
+/** One socket for all of it: what is asked has a mark, and so has its answer. News come between them. */
+class Wire {
+  /** @param {WebSocket} socket @param {(version: number) => void} told @param {(isOver: boolean) => void} broken */
+  constructor(socket, told, broken) {
+    this.told = told;
+    this.broken = broken;
+    this.marks = 0;
+    /** @type {Map<number, {answer: (data: any) => void, fail: (why: any) => void}>} */
+    this.asked = new Map();
+    this.use(socket);
+  }
+
+  /** An open socket, or null where none can be had soon. @returns {Promise<WebSocket|null>} */
+  static open() {
+    if (!window.WebSocket) return Promise.resolve(null);
+    return new Promise(go => {
+      const socket = new WebSocket(new URL("socket", location.href.replace(/^http/, "ws")).href);
+      const late = setTimeout(() => { socket.onopen = () => socket.close(); go(null); }, MOST_OPENING);
+      socket.binaryType = "arraybuffer";
+      socket.onopen = () => { clearTimeout(late); go(socket); };
+      socket.onerror = socket.onclose = () => { clearTimeout(late); go(null); };
+    });
+  }
+
+  /** @param {WebSocket} socket */
+  use(socket) {
+    this.socket = socket;
+    socket.onmessage = event => this.hear(event.data);
+    socket.onclose = () => this.close();
+    socket.onerror = null;
+  }
+
+  begin() { /* (news come by themselves) */ }
+
+  /** @param {string|ArrayBuffer} data */
+  hear(data) {
+    const isText = typeof data === "string", said = isText ? JSON.parse(data) : null;
+    const mark = isText ? said.mark : new DataView(data).getUint32(0, true);
+    if (mark === undefined) { this.told(said.version); return; }
+    const asked = this.asked.get(mark);
+    this.asked.delete(mark);
+    asked?.answer(data);
+  }
+
+  /** Nobody answers what was asked. Another socket is tried for again and again. */
+  async close() {
+    for (const { fail } of this.asked.values()) fail(new Error("the socket is closed"));
+    this.asked.clear();
+    this.broken(true);
+    for (let socket = null; !socket;) {
+      await new Promise(go => { setTimeout(go, AGAIN); });
+      socket = await Wire.open();
+      if (socket) this.use(socket);
+    }
+    this.broken(false);
+  }
+
+  /** @param {string} name @param {Object<string, number>} numbers @returns {Promise<string>} */
+  get(name, numbers) {
+    return this.post(name, Object.fromEntries(Object.entries(numbers).map(([key, number]) => [key, String(number)])));
+  }
+
+  /** @param {string} name @param {any} body @returns {Promise<any>} */
+  async post(name, body) {
+    const mark = ++this.marks, text = JSON.stringify({ ...body, do: name, mark: String(mark) });
+    if (new TextEncoder().encode(text).length > MOST_BYTES) return null;
+    if (this.socket.readyState !== WebSocket.OPEN) throw new Error("the socket is closed");
+    return new Promise((answer, fail) => {
+      this.asked.set(mark, { answer, fail });
+      this.socket.send(text);
+    });
+  }
+}
+
+/** A server. What is new is asked for once at a time. */
 export class Served {
-  /** @param {(news: any) => void} heard is told what is new @param {() => void} lost is called where nobody answers */
+  /** @param {(news: News) => void} heard is told what is new @param {() => void} lost is called where nobody answers */
   constructor(heard, lost) {
     this.heard = heard;
     this.lost = lost;
     this.seen = 0;
     this.told = 0;
     this.out = 0;
+    this.asks = 0;
     this.edits = 0;
     this.bytes = { text: 0, binary: 0, messages: 0 };
     // By its name a session knows which tab edits.
@@ -63,31 +181,35 @@ export class Served {
   }
   get canEdit() { return true; }
 
-  start() {
-    const news = new EventSource("news");
-    news.addEventListener("message", event => {
-      this.told = Number(event.data);
-      if (this.told > this.seen) this.refresh();
-    });
+  /** Begins with a socket, or with requests where there is none. */
+  async start() {
+    const told = version => { this.told = version; if (version > this.seen) this.refresh(); };
     // Where nobody answers what is asked then, the server has ended.
-    news.addEventListener("error", () => {
-      if (news.readyState === EventSource.CLOSED) this.lost(); else this.refresh();
-    });
-    return this.refresh();
+    const broken = isOver => { if (isOver) this.lost(); else this.refresh(); };
+    const socket = await Wire.open();
+    /** @type {Requests|Wire} */
+    this.wire = socket ? new Wire(socket, told, broken) : new Requests(told, broken);
+    this.wire.begin();
+    await this.refresh();
   }
 
+  /** Asks what is new. Where something is done meanwhile, its answer brings that, and this one isn't heard. */
   async refresh() {
     if (this.out) return;
     this.out++;
+    const { asks } = this;
     try {
-      const text = await (await fetch(`state?seen=${this.seen}`, { cache: "no-store" })).text();
+      const text = await this.wire.get("state", { seen: this.seen });
       this.count("text", text.length);
-      this.hear(JSON.parse(text));
-    } catch { this.lost(); }
-    this.ended();
+      if (asks === this.asks) this.hear(JSON.parse(text));
+      this.ended(true);
+    } catch { this.lost(); this.ended(false); }
   }
 
-  /** An answer behind another version than the one that is shown is dropped: what is new is asked for again. */
+  /**
+   * An answer behind another version than the one that is shown is dropped: what is new is asked for again.
+   * @param {News} news
+   */
   hear(news) {
     if (news.since !== this.seen) { this.told = Math.max(this.told, news.version); return; }
     this.seen = news.version;
@@ -95,53 +217,57 @@ export class Served {
     this.heard(news);
   }
 
-  ended() {
+  /**
+   * An answer is there, or nobody answers: then nothing more is asked until there is news again.
+   * @param {boolean} isThere
+   */
+  ended(isThere) {
     this.out--;
-    if (!this.out && this.told > this.seen) this.refresh();
+    if (isThere && !this.out && this.told > this.seen) this.refresh();
   }
 
   count(kind, length) { this.bytes[kind] += length; this.bytes.messages++; }
 
-  /** Asks for something to be done. The answer brings what is new behind it. */
+  /**
+   * Asks for something to be done. The answer brings what is new behind it.
+   * @param {string} name @param {Object<string, string>} [body] @returns {Promise<Said>}
+   */
   async ask(name, body = {}) {
     this.out++;
+    this.asks++;
+    let isThere = false;
     try {
-      const answer = await this.post(name, { tab: this.tab, seen: String(this.seen), ...body });
-      if (answer.status === 413) return { refused: { text: "The line is too long.", hint: "", at: null } };
-      const text = await answer.text(), said = JSON.parse(text);
+      const text = await this.wire.post(name, { tab: this.tab, seen: String(this.seen), ...body });
+      isThere = true;
+      if (text === null) return { refused: { text: "The line is too long.", hint: "", at: null } };
+      const said = JSON.parse(text);
       this.count("text", text.length);
       if (said.state) this.hear(said.state);
       const wrong = said.wrong || said.stopped;
       return wrong ? { refused: { text: wrong, hint: "", at: null } } : said;
     } catch { this.lost(); return { refused: { text: "Nobody answers.", hint: "", at: null } }; }
-    finally { this.ended(); }
-  }
-
-  post(name, body) {
-    return fetch(name, { method: "POST", headers: { "Content-Type": "application/json" }, body: JSON.stringify(body) });
+    finally { this.ended(isThere); }
   }
 
   /** @param {string} line @param {string} [was] the instruction that its row has for who wrote the command */
   edit(line, was) { return this.ask("command", was === undefined ? { line } : { line, was }); }
 
-  /** @param {Look[]} looks */
+  /** @param {Look[]} looks @returns {Promise<Piece[]|null>} */
   async look(looks) {
     const wanted = looks.map(each => each.join(" ")).join("\n");
     const body = { seen: String(this.seen), edits: String(this.edits), looks: wanted };
     try {
-      const answer = await this.post("looks", body);
-      if (!answer.ok) return null;
-      const data = await answer.arrayBuffer();
+      const data = await this.wire.post("looks", body);
+      if (!(data instanceof ArrayBuffer)) return null;
       this.count("binary", data.byteLength);
-      return unpack(data, 0, looks.length);
+      return unpack(data, this.wire instanceof Wire ? BEHIND_MARK : 0, looks.length);
     } catch { this.lost(); return null; }
   }
 
   /** The edit that touched a row last. @param {number} row */
   async since(row) {
     try {
-      const answer = await fetch(`since?row=${row}`, { cache: "no-store" });
-      return (await answer.json()).line || "";
+      return JSON.parse(await this.wire.get("since", { row })).line || "";
     } catch { return ""; }
   }
 }
@@ -151,7 +277,7 @@ export class Served {
  * moment has the values that are other than in those before it.
  */
 export class Embedded {
-  /** @param {(news: any) => void} heard @param {any} data */
+  /** @param {(news: News) => void} heard @param {any} data */
   constructor(heard, data) {
     this.heard = heard;
     this.data = data;
@@ -190,7 +316,7 @@ export class Embedded {
     });
   }
 
-  /** Where a value stands in a moment, or undefined. */
+  /** Where a value stands in a moment, or undefined. @param {number} to @param {string} key @param {number} row */
   place(to, key, row) {
     const name = `${key}@${row}`;
     for (let i = to; i >= 0; i--) {
@@ -200,14 +326,14 @@ export class Embedded {
     return undefined;
   }
 
-  /** What a row left in the moment before, where it was settled then. */
+  /** What a row left in the moment before, where it was settled then. @param {string} key @param {number} row */
   before(key, row) {
     const to = this.moment - 1;
     if (to < 0 || unrolled(this.data.moments[to].un).includes(row)) return undefined;
     return this.place(to, key, row);
   }
 
-  /** @param {Look[]} looks */
+  /** @param {Look[]} looks @returns {Promise<Piece[]>} */
   async look(looks) {
     return looks.map(([key, row, , which]) => {
       const at = which === BEFORE ? this.before(key, row) : this.place(this.moment, key, row);
@@ -217,7 +343,10 @@ export class Embedded {
     });
   }
 
-  /** A strip with the stretches in which it is other than in the moment before. How many numbers are isn't known. */
+  /**
+   * A strip with the stretches in which it is other than in the moment before. How many numbers are isn't known.
+   * @param {Piece} value @param {string} key @param {number} row @returns {Piece}
+   */
   compared(value, key, row) {
     const at = this.before(key, row), was = at === undefined ? null : unpack(this.block, at, 1)[0];
     if (!was?.isStrip) return value;
@@ -230,6 +359,7 @@ export class Embedded {
     return { ...value, changed: changed.size ? changed : null, count: changed.size ? -1 : 0 };
   }
 
+  /** @returns {Promise<Said>} */
   async edit() { return { refused: { text: "This page is a record: nothing is edited here.", hint: "", at: null } }; }
   async ask() { return this.edit(); }
 }

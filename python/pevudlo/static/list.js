@@ -122,23 +122,28 @@ function mapped(found, axes, count) {
   return { ...found, isStrip: true, isMap: true, pixels, across: axes[0], lines };
 }
 
-const list = () => $("list");
-
 /** How many lines of the list an item takes. */
 function linesOf(item) {
   const { editing, isNarrow } = view;
-  if (editing && editing.id === item.id) return (editing.refused || editing.note ? 4.6 : 2) + (isNarrow ? 0.6 : 0);
-  if (item.t === "note") return noteLines(item.text);
-  if (item.t === "wrong") return 3.8 + (view.isNarrow ? 2 : 0);
+  if (editing && editing.id === item.id) {
+    const { refused, note } = editing;
+    return refused || note ? Math.max(4.6, toldLines(refused ?? { hint: "", text: note })) : 2;
+  }
+  if (item.t === "note") return textLines(item.text, $("list").clientWidth - (isNarrow ? 20 : 10 * view.ch), LETTER);
+  if (item.t === "wrong") return Math.max(3.8, toldLines(item.refused));
   if (item.t !== "in" && item.t !== "row" && item.t !== "look") return 1;
   const key = keyOf(item);
   return (key ? form(key).lines : 1) + (isNarrow ? 1 : 0);
 }
 
-/** How many lines a comment takes, about. @param {string} text */
-function noteLines(text) {
-  const wide = list().clientWidth - (view.isNarrow ? 20 : 10 * view.ch);
-  return Math.max(1, Math.ceil(text.length * view.ch * 0.86 / Math.max(100, wide)));
+/** How many lines a text takes, about: its letters are so wide, as parts of one of the program. */
+const textLines = (text, wide, letter) => Math.max(1, Math.ceil(text.length * view.ch * letter / Math.max(100, wide)));
+const LETTER = 0.86, BOLD_LETTER = 0.94;
+
+/** How many lines a line of the program takes that is refused: itself, its caret, the hint and the fault's text. */
+function toldLines({ hint, text }) {
+  const wide = $("list").clientWidth - 10 * view.ch, bold = textLines(hint || text, wide, BOLD_LETTER);
+  return 1.9 + bold + (hint ? textLines(text, wide, LETTER) : 0);
 }
 
 /** Sets the widths of the columns by the window, the longest instruction, and what the values need. */
@@ -214,18 +219,22 @@ export function indexAt(y) {
   return low;
 }
 
-/** The lines that are drawn: those in view, and a few above and below. */
+/**
+ * The lines that are drawn, from one on and up to another: those in view, and a few above and below. `scrolled` is how
+ * far the list is scrolled.
+ * @returns {{from: number, to: number, scrolled: number}}
+ */
 export function inView() {
-  const { items, lh } = view, list = $("list");
-  if (view.isPrinting) return [0, Math.min(items.length, 2000)];
-  const last = indexAt(list.scrollTop + list.clientHeight + lh * 3);
-  return [indexAt(list.scrollTop - lh * 3), Math.min(items.length, last + 1)];
+  const { items, lh } = view, list = $("list"), scrolled = list.scrollTop;
+  if (view.isPrinting) return { from: 0, to: Math.min(items.length, 2000), scrolled };
+  const last = indexAt(scrolled + list.clientHeight + lh * 3);
+  return { from: indexAt(scrolled - lh * 3), to: Math.min(items.length, last + 1), scrolled };
 }
 
-/** Remembers the first line in view. */
-export function hold() {
-  const list = $("list"), top = indexAt(list.scrollTop), item = view.items[top];
-  anchor = item ? { id: item.id, off: list.scrollTop - view.tops[top] } : null;
+/** Remembers the first line in view. @param {number} scrolled how far the list is scrolled */
+export function hold(scrolled) {
+  const top = indexAt(scrolled), item = view.items[top];
+  anchor = item ? { id: item.id, off: scrolled - view.tops[top] } : null;
 }
 
 /** Scrolls to the selected line. */
@@ -235,7 +244,7 @@ export function reveal() {
   const shown = document.body.classList.contains("sheet") ? list.clientHeight - innerHeight * 0.46 : list.clientHeight;
   if (y < list.scrollTop + lh) list.scrollTop = Math.max(0, y - lh * 2);
   else if (y + tall > list.scrollTop + shown - lh) list.scrollTop = y + tall - shown + lh * 2;
-  hold();
+  hold(list.scrollTop);
 }
 
 /** Whether a line of the list is as high as before, where its text is another. */

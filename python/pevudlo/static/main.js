@@ -2,14 +2,14 @@
 import { grouped } from "./draw.js";
 import { drawLog, noteOthers, watchCommand } from "./edit.js";
 import { act, goTo, keepSelected, recall, redraw, select, tellCell, watch } from "./keys.js";
-import { build, isSameHeight, lay, reveal } from "./list.js";
+import { build, inView, isSameHeight, lay, reveal } from "./list.js";
 import { Embedded, Served } from "./link.js";
 import { drawMap, watchMap } from "./map.js";
 import { Program } from "./model.js";
 import { drawPanel, isPanelOpen } from "./panel.js";
 import { drawRows, faultWords } from "./rows.js";
-import { ensure, ensureAll, isIdle, isWhole, needs } from "./values.js";
-import { $, code, draw, drawsBy, fill, isSaying, isValue, keyOf, safe, view } from "./view.js";
+import { ensure, ensureAll, hasAll, isIdle, needs } from "./values.js";
+import { $, code, draw, drawNow, drawsBy, fill, isSaying, isValue, keyOf, safe, view } from "./view.js";
 
 const RESTS = 120, SMALL = 1024, MOST_PRINTED = 2000;
 
@@ -26,8 +26,7 @@ function heard(news) {
   if (news.log?.length) drawLog();
   if (news.text) document.dispatchEvent(new CustomEvent("pevudlo-text", { detail: news.text }));
   document.body.dataset.version = String(news.version);
-  ask();
-  draw();
+  if (moved.isEdit) drawNow(); else { ask(); draw(); }
 }
 
 function began(news) {
@@ -100,11 +99,13 @@ function isResting(item) {
 /** Draws the page. */
 function render() {
   if (!view.program) return;
-  drawn = drawRows().filter(item => item.t !== "row" || view.program.text.has(item.id));
-  drawBar();
-  drawNotice();
+  // (what asks for sizes comes first, while nothing has changed in the document: it is laid out once)
+  const shown = inView();
   drawMap();
   drawPanel();
+  drawn = drawRows(shown).filter(item => item.t !== "row" || view.program.text.has(item.id));
+  drawBar();
+  drawNotice();
   tellCell();
   drawnVersion = view.program.version;
   ask();
@@ -229,7 +230,7 @@ async function start() {
 Object.assign(window, {
   pevudlo: {
     view, act, goTo, isDrawn: () => Boolean(view.program) && drawnVersion === view.program.version,
-    isAtRest: () => Boolean(view.program) && isIdle() && drawn.every(isWhole) &&
+    isAtRest: () => Boolean(view.program) && isIdle() && drawn.every(hasAll) &&
       (view.isRecord || !view.program.unsettled.size),
   },
 });

@@ -7,10 +7,11 @@ const WIDE = 16, MANY = 900;
 export function drawMap() {
   const map = $("map"), ratio = devicePixelRatio || 1, tall = map.clientHeight;
   if (!tall) return;
-  map.width = WIDE * ratio;
-  map.height = Math.round(tall * ratio);
-  const paint = map.getContext("2d");
+  const paint = map.getContext("2d"), across = Math.round(WIDE * ratio), down = Math.round(tall * ratio);
+  // (a canvas that gets a size is laid out anew)
+  if (map.width !== across || map.height !== down) { map.width = across; map.height = down; }
   paint.setTransform(ratio, 0, 0, ratio, 0, 0);
+  paint.clearRect(0, 0, WIDE, tall);
   const list = $("list"), end = view.tops[view.items.length] || 1, scale = tall / Math.max(end, list.clientHeight);
   if (end > list.clientHeight) drawWindow(paint, list, scale);
   drawMarks(paint, scale);
@@ -26,24 +27,26 @@ function drawWindow(paint, list, scale) {
   paint.strokeRect(0.5, top + 0.5, WIDE - 1, tall - 1);
 }
 
-/** What marks a line has. */
-function markOf(item) {
-  const { unsettled, faults, changedRows } = view.program;
-  if (item.t !== "row") return changedRows.has(item.id) ? "changed" : "";
-  const first = unsettled.has(item.id) ? "open" : faults.has(item.id) ? "bad" : "";
-  return first + (changedRows.has(item.id) ? "changed" : "");
+/** What marks a line has. @param {import("./model.js").Program} program */
+function markOf({ unsettled, faults, changedRows }, item) {
+  const isChanged = changedRows.has(item.id);
+  if (item.t !== "row") return isChanged ? "changed" : "";
+  if (unsettled.has(item.id)) return isChanged ? "openchanged" : "open";
+  if (faults.has(item.id)) return isChanged ? "badchanged" : "bad";
+  return isChanged ? "changed" : "";
 }
 
 function drawMarks(paint, scale) {
-  const { items, tops, lh } = view, isMany = items.length > MANY, tall = Math.max(1, Math.min(lh * scale, 4));
+  const { items, tops, lh, program } = view, isMany = items.length > MANY, tall = Math.max(1, Math.min(lh * scale, 4));
   let last = -1, before = "";
-  items.forEach((item, i) => {
-    const mark = markOf(item), y = tops[i] * scale;
+  for (let i = 0; i < items.length; i++) {
+    const item = items[i], mark = markOf(program, item), y = tops[i] * scale;
     // A pixel of the map stands for several rows of a long program: the first of each kind is drawn there.
-    if (isMany && (!mark || (mark === before && y - last < 1))) return;
-    [last, before] = [y, mark];
+    if (isMany && (!mark || (mark === before && y - last < 1))) continue;
+    last = y;
+    before = mark;
     drawMark(paint, mark, y, tall, !isMany && item.t === "row");
-  });
+  }
 }
 
 function drawMark(paint, mark, y, tall, isRow) {

@@ -7,6 +7,23 @@
  * @typedef {{numbers: any, isStrip?: boolean, low?: any, high?: any, ones?: number, all?: number, count?: number,
  *   changed?: Set<number>|null, was?: any, isStale?: boolean, id?: number, form?: any}} Value
  */
+/**
+ * A row that is refused for its data: its id, the cause, the first processor, and the words for it.
+ * @typedef {[number, string, number, string]} Fault
+ */
+/** @typedef {{text: string, hint: string, at: number|null, reply?: string}} Refused why a command was refused */
+/** @typedef {{number: number, line: string, reply: string, refused: Refused|null}} Step a command with its reply */
+/**
+ * What is new behind a version. Ids stand as ranges. `hello`, the grammar, and whether a file is followed come first;
+ * what is other of rows, of what is declared and given, and of faults where it is other; and of how rows run all.
+ * @typedef {{hello?: string, grammar?: [string, string, string, number, number, string][], followed?: boolean,
+ *   since: number, version: number, edits: number, line: string, order?: number[],
+ *   texts?: {ids: number[], texts: string[], of: number[]}, touched?: number[], un?: number[], done?: number[],
+ *   sets?: Object<string, number[]>, fields?: [string, string, number][], given?: string[], began?: boolean,
+ *   anew?: string[], faults?: Fault[], log?: Step[], text?: number, trouble?: string, moment?: number, on?: boolean,
+ *   out?: number, failure?: string, undo?: string, redo?: string, at?: number, of?: number, dropped?: string,
+ *   thrown?: string[], editor?: string, notes?: any[], comments?: any, said?: string}} News
+ */
 /** @typedef {{operands: string[], flags: string[], isRuled: boolean, isStored: boolean, reads: string}} Instruction */
 /** @typedef {{writes: string[], reads: string[], context: string|null, set: string|null}} Work */
 
@@ -25,7 +42,7 @@ export function unrolled(ranges) {
 }
 
 export class Program {
-  /** @param {any} news what a tab is told first */
+  /** @param {News} news what a tab is told first */
   constructor(news) {
     this.name = news.hello;
     this.isFollowed = Boolean(news.followed);
@@ -44,20 +61,30 @@ export class Program {
     /** @type {Map<number|string, number>} how often a row, or a key's input data, was touched */
     this.touches = new Map();
     this.era = 0;
+    /** @type {Map<string, number[]>} the axes of each set */
     this.sets = new Map();
+    /** @type {Map<string, {set: string, width: number}>} */
     this.fields = new Map();
     /** @type {number[]} */
     this.ids = [];
+    /** @type {Map<number, string>} the instruction of each row */
     this.text = new Map();
+    /** @type {string[]} */
     this.given = [];
+    /** @type {Set<number>} */
     this.unsettled = new Set();
+    /** @type {Map<number, Fault>} */
     this.faults = new Map();
+    /** @type {Set<number|string>} rows and input data that are other than before the last edit, and those it touched */
     this.changedRows = new Set();
+    /** @type {Set<number|string>} */
     this.touched = new Set();
+    /** @type {Step[]} */
     this.log = [];
     this.version = 0;
     this.edits = 0;
     this.line = "";
+    /** @type {Partial<News>} */
     this.state = {};
     this.fresh = 0;
     /** @type {any} of a script the lines that stand between its rows, and above them */
@@ -66,7 +93,7 @@ export class Program {
     this.take({ ...news, since: 0 });
   }
 
-  /** @param {{sets: Object<string, number[]>, fields: [string, string, number][]}} news */
+  /** @param {Partial<News>} news */
   declare({ sets, fields }) {
     const before = JSON.stringify([...this.sets, ...this.fields]);
     this.sets = new Map(Object.entries(sets));
@@ -84,12 +111,16 @@ export class Program {
     this.writers = null;
   }
 
+  /** @param {string} key */
   axes(key) { return this.sets.get(this.setOf(key)) || [1]; }
+  /** @param {string} key */
   setOf(key) {
     const dot = key.indexOf(".");
     return dot < 0 ? this.fields.get(key)?.set : key.slice(0, dot);
   }
+  /** @param {string} key */
   width(key) { return key.includes(".") ? 1 : this.fields.get(key)?.width || 1; }
+  /** @param {string} key */
   processors(key) { return this.axes(key).reduce((a, b) => a * b, 1); }
 
   /**
@@ -155,15 +186,21 @@ export class Program {
 
   /** Keys of a set and a width share their columns. @param {string} key */
   columns(key) { return `${this.setOf(key)} ${this.width(key)}`; }
-  /** @returns {Value|undefined} */
+  /** @param {string} key @param {number} row @returns {Value|undefined} */
   value(key, row) { return this.values.get(row)?.get(key); }
+  /** @param {number} row */
   isSettled(row) { return row <= 0 || (this.at.has(row) && !this.unsettled.has(row)); }
+  /**
+   * What a value is asked for with: another one where an edit touched its row.
+   * @param {string} key @param {number} row
+   */
   stamp(key, row) { return `${this.era} ${this.touches.get(row || `in ${key}`) || 0}`; }
+  /** @param {string} key @param {number} row */
   isTouched(key, row) { return row ? this.touched.has(row) : this.touched.has(`in ${key}`); }
 
   /**
    * Takes in what is other. Null where it was asked for behind another version than this, and what moved else.
-   * @param {any} news
+   * @param {News} news
    * @returns {{rows: boolean, texts: number[], isEdit: boolean}|null}
    */
   take(news) {
@@ -187,7 +224,10 @@ export class Program {
     return moved;
   }
 
-  /** Marks are of the last edit alone. What values were before it is known where one edit came. */
+  /**
+   * Marks are of the last edit alone. What values were before it is known where one edit came.
+   * @param {boolean} isOne
+   */
   beginEdit(isOne) {
     this.changedRows.clear();
     this.touched.clear();
@@ -201,7 +241,7 @@ export class Program {
     this.isOne = isOne;
   }
 
-  /** @param {any} news */
+  /** @param {News} news */
   takeRows(news) {
     let isMoved = Boolean(news.sets);
     if (news.texts) {
@@ -223,6 +263,7 @@ export class Program {
     return isMoved;
   }
 
+  /** @param {number} id */
   forgetRow(id) {
     this.text.delete(id);
     this.unsettled.delete(id);
@@ -235,9 +276,13 @@ export class Program {
     this.count = 0;
     this.era++;
   }
+  /** @param {number} row @param {string} key */
   drop(row, key) { if (this.values.get(row)?.delete(key)) this.count--; }
 
-  /** What a row wrote may be another now. What it was is kept, to tell what an edit changes. */
+  /**
+   * What a row wrote may be another now, or input data. What it was is kept, to tell what an edit changes.
+   * @param {number} row @param {string} [key]
+   */
   touch(row, key) {
     const name = row || `in ${key}`, writes = row ? this.work(this.text.get(row) ?? "").writes : [key];
     this.touched.add(name);

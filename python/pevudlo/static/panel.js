@@ -48,13 +48,16 @@ export function drawPanel() {
   askReason(item);
 }
 
-/** What stands in the panel: of each part its key, the row that wrote it, words, and whether it is the row's own. */
+/**
+ * What stands in the panel: of each part its key, the row that wrote it, words, and whether it is the row's own.
+ * @param {any} item @returns {[string, number, string, boolean][]}
+ */
 function partsOf(item) {
   const { program } = view, row = rowOf(item), key = keyOf(item), before = placeOf(item) - 1;
   if (item.t === "in") return [[key, 0, "at the start", true]];
   if (item.t === "look") return item.pending ? [] : [[key, row, "as the script shows it", true]];
   const work = program.work(item.text), context = contextOf(item);
-  const parts = key ? [[key, row, "after this row", true]] : [];
+  const parts = /** @type {[string, number, string, boolean][]} */ (key ? [[key, row, "after this row", true]] : []);
   const reads = new Set([...work.reads, ...(context ? [context[0]] : [])]);
   for (const each of reads) parts.push([each, program.writer(each, before), "read by this row", false]);
   for (const each of work.writes) if (each !== key) parts.push([each, row, "written too", true]);

@@ -3,7 +3,7 @@ import {
   cells, digitsOf, grouped, paint, paintChanged, paintStrip, shadesOf, short, spelled, stripOf,
 } from "./draw.js";
 import { paintEdit, refusedHtml } from "./edit.js";
-import { form, hold, inView } from "./list.js";
+import { form, hold } from "./list.js";
 import { contextOf, have } from "./values.js";
 import { $, code, css, fresh, isDark, isValue, keyOf, nodeId, placeOf, root, rowOf, safe, view } from "./view.js";
 
@@ -17,9 +17,12 @@ const ONES = 225;
 /** Why a row is refused for its data. @param {[number, string, number, string]} fault */
 export const faultWords = ([, cause, processor, words]) => words || `${CAUSES[cause] || cause} ${processor}`;
 
-/** Draws what is in view. Gives the lines that are drawn. */
-export function drawRows() {
-  const { items, tops, nodes } = view, [from, to] = inView(), seen = new Set();
+/**
+ * Draws what is in view. Gives the lines that are drawn.
+ * @param {{from: number, to: number, scrolled: number}} shown
+ */
+export function drawRows({ from, to, scrolled }) {
+  const { items, tops, nodes } = view, seen = new Set();
   for (let i = from; i < to; i++) {
     const item = items[i];
     seen.add(item.id);
@@ -35,7 +38,7 @@ export function drawRows() {
     if (view.isPrinting) $("space").append(node);
   }
   for (const [id, node] of nodes) if (!seen.has(id)) { node.remove(); nodes.delete(id); }
-  hold();
+  hold(scrolled);
   ruler();
   const item = items[view.selected];
   $("list").setAttribute("aria-activedescendant", item ? nodeId(item.id) : "");
@@ -43,7 +46,7 @@ export function drawRows() {
 }
 
 function newNode(item) {
-  const node = document.createElement("div");
+  const node = /** @type {any} */ (document.createElement("div"));
   node.setAttribute("role", "row");
   node.id = nodeId(item.id);
   node.item = item.id;
@@ -97,7 +100,7 @@ function seenOf(item, i) {
   const isOpen = !program.isSettled(row) || Boolean(item.pending), work = isRow ? program.work(item.text) : null;
   const context = isRow && key !== work.context ? contextOf(item) : null;
   const others = isRow && !isOpen ? work.writes.filter(each => each !== key) : [];
-  const flags = others.map(each => [each, have(each, row, false)]);
+  const flags = /** @type {[string, any][]} */ (others.map(each => [each, have(each, row, false)]));
   return {
     isRow, key, row, isOpen, flags, isSelected: i === selected, shown: key ? form(key) : null,
     fault: isRow && !isOpen ? program.faults.get(row) : null,

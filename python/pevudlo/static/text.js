@@ -46,7 +46,7 @@ function say(words) { $("text-answer").textContent = words; }
 function take(news) {
   const mine = known.number && known.text !== area.value ? differs(known.text, area.value) : null;
   const there = mine && moved(mine, known.text, news.text);
-  if (mine && !there) say("The file was changed in the same place, and what was typed isn't in it: " + mine.text);
+  if (mine && !there) say(`The file was changed in the same place, and what was typed isn't in it: ${mine.text}`);
   known = news;
   show(there ? put(news.text, there) : news.text);
   area.readOnly = news.text.includes("\r");
@@ -101,7 +101,7 @@ const height = () => parseFloat(getComputedStyle(area).lineHeight);
 const first = () => Math.floor(area.scrollTop / height());
 
 function placeLines() {
-  beside.firstElementChild.style.marginTop = beside.first * height() - area.scrollTop + "px";
+  beside.firstElementChild.style.marginTop = `${beside.first * height() - area.scrollTop}px`;
 }
 
 let isDrawing = false;
@@ -148,7 +148,7 @@ export async function watchText() {
     isSaved = true;
     settle();
   });
-  document.addEventListener("pevudlo-text", (event) => { heard = event.detail; settle(); });
+  document.addEventListener("pevudlo-text", event => { heard = /** @type {CustomEvent} */ (event).detail; settle(); });
 
   try {
     heard = (await get("lines?first=0&last=0")).number;

@@ -21,7 +21,10 @@ export function have(key, row, isWhole) {
   return value && !value.isStale && (!isWhole || !value.isStrip) ? value : null;
 }
 
-/** The row that wrote the context of a line, where that isn't all ones as it was declared. */
+/**
+ * The context of a line and the row that wrote it, where it isn't all ones as it was declared.
+ * @param {any} item @returns {[string, number]|null}
+ */
 export function contextOf(item) {
   const { program } = view, { context } = program.work(item.text);
   const row = context && program.writer(context, placeOf(item) - 1);
@@ -110,7 +113,7 @@ export async function ensureAll() {
 }
 
 /** Whether all that a line shows is there. */
-export function isWhole(item) {
+export function hasAll(item) {
   return !isValue(item) || !view.program.isSettled(rowOf(item)) || view.isRecord ||
     needs(item, false).every(([key, row, whole]) => have(key, row, whole));
 }

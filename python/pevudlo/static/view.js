@@ -11,7 +11,7 @@ export const root = document.documentElement;
 export const view = {
   /** @type {import("./model.js").Program|null} */
   program: null,
-  /** @type {any} */
+  /** @type {any} a `Served` or an `Embedded`: who asks which of them it is asks `isRecord` */
   link: null,
   /** @type {any[]} */
   items: [],
@@ -81,12 +81,16 @@ export const rowOf = item => item.t === "row" ? item.id : item.t === "look" ? it
 /** Where the row of a line stands in the program, -1 for input data. */
 export const placeOf = item => item.t === "row" ? view.program.at.get(item.id) : -1;
 
-const later = { isDue: false, render: () => {} };
+const later = { frame: 0, render: () => {} };
 /** Has the page drawn in the next frame. */
 export function draw() {
-  if (later.isDue) return;
-  later.isDue = true;
-  requestAnimationFrame(() => { later.isDue = false; later.render(); });
+  later.frame ||= requestAnimationFrame(() => { later.frame = 0; later.render(); });
+}
+/** Has the page drawn at once, so that the next frame shows it. */
+export function drawNow() {
+  cancelAnimationFrame(later.frame);
+  later.frame = 0;
+  later.render();
 }
 /** @param {() => void} render what draws the page */
 export function drawsBy(render) { later.render = render; }

@@ -7,7 +7,8 @@ from __future__ import annotations
 
 import ctypes
 import threading
-from collections.abc import Callable, Sequence
+from collections.abc import Callable, Iterator, Sequence
+from contextlib import contextmanager
 from ctypes import c_bool, c_uint32, c_uint64
 from threading import get_ident
 from typing import Optional
@@ -66,6 +67,19 @@ class Book(Library):
         # How often something was told that may make a row ready, and how many results of rows were kept.
         self.changes = self.ran = 0
         self._ids = room_of(SOME_ROWS)
+        # The threads for which workers begin no row.
+        self.first_come = set[int]()
+
+    @contextmanager
+    def first(self) -> Iterator[None]:
+        """What is done within comes before rows: no worker begins one until it is over. The lock isn't held by this."""
+        try:
+            self.first_come.add(get_ident())
+            yield
+        finally:
+            self.first_come.discard(get_ident())
+            with self.lock:
+                self.news.notify_all()
 
     def tell(self) -> None:
         """Wakes who waits for news: something has changed. The lock is held."""
