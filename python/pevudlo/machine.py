@@ -443,7 +443,10 @@ class Machine:
         return len(self.run_for(key, at))
 
     def run_for(self, key: str, at: Place = END) -> tuple[int, ...]:
-        """Runs rows as `settle_for` does, and gives the ids of those that ran, in program order. The others were cut off."""
+        """Runs rows as `settle_for` does, and gives the ids of those that ran, in program order.
+
+        The others were cut off.
+        """
         number = place_number(spelled(at))
         ran = None if number is None else self._inside("run_for").book.settle_for(key, number)
         if ran is None:

@@ -244,7 +244,7 @@ def test_rows_that_run_for_one_value_are_named() -> None:
         second = machine.insert(paris.logxor("c", "b", "b", 8))
         third = machine.insert(paris.u_add("d", "c", "a", 8))
         assert machine.run_for("d") == (first, second, third)
-        machine.input("a", [1, 1, 1, 1])
+        machine["a"] = [1, 1, 1, 1]
         # (the second row computes the same zeros, and the third reads a)
         assert machine.run_for("c") == (first, second)
         assert machine.run_for("d") == (third,) and machine.run_for("d") == ()

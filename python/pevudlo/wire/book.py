@@ -206,10 +206,16 @@ class Book(Library):
             count = self._list_unsettled()
             if count > len(self._ids):
                 self._ids = room_of(2 * count)
-            outcome, ran = self._call("paris_settle_for_ids", name, len(name), place, self._ids.address, count, self._told_at)
+            outcome, ran = self._call(
+                "paris_settle_for_ids", name, len(name), place, self._ids.address, count, self._told_at
+            )
             if outcome in (Outcome.OK, Outcome.PARTLY):
                 self._has_run(ran)
-            ids = memoryview(ctypes.string_at(self._ids.address, 8 * min(ran, count))).cast("Q").tolist() if outcome == Outcome.OK else None
+            ids = (
+                memoryview(ctypes.string_at(self._ids.address, 8 * min(ran, count))).cast("Q").tolist()
+                if outcome == Outcome.OK
+                else None
+            )
             self.tell()
         if outcome in (Outcome.NO_MEMORY, Outcome.PARTLY):
             raise trouble(outcome)
