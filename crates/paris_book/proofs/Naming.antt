@@ -33,7 +33,7 @@ use Rattle.paris_machine.specs.Show.{origin_at}
 use Rattle.paris_machine.specs.Orders.{is_firm}
 use Rattle.paris_book.specs.Kept.{last_kept, Sound, present}
 use Rattle.paris_book.specs.Whole.{input_shape, shape_in, InputsBelow, Fitted, AllFitted}
-use Rattle.paris_book.specs.Sources.{number_told, IsNumbered, LeavesFree, NamesInput, NamesResult, AreNamed, IsSourced, IsSource, IsSourceOf, AreSources, SameArePresent, TellsResult}
+use Rattle.paris_book.specs.Sources.{number_told, IsNumbered, LeavesFree, NamesInput, NamesResult, AreNamed, IsSourced, IsSource, IsSourceOf, AreSources, KnownArePresent, TellsResult}
 use Rattle.paris_book.specs.declared.sources.Source.{Source}
 use Rattle.paris_book.specs.declared.sources.Source.TheVariants.{Unknown, Input as FromInput, Row as FromRow}
 use Rattle.paris_book.proofs.Among.{origin_among, inputs_among}
@@ -261,11 +261,11 @@ take_last [] i k at = absurd (cc)
 take_last (j ∷ ks) zero k at = at
 take_last (j ∷ ks) (suc i) k at = take_last ks i k at
 
--- a key of a list by its number
-pub get_at : (ks : List Key) (i : ℕ) (k : Key) → i < length ks → k ≡ get_or ks i k → slice_get ks i ≡ Some k
-get_at [] i k within is = absurd (omega arith)
-get_at (j ∷ ks) zero k within is = ap Some (sym is)
-get_at (j ∷ ks) (suc i) k within is = get_at ks i k (omega arith) is
+-- an item of a list by its number
+pub get_at : {A : Type 0} (xs : List A) (i : ℕ) (x : A) → i < length xs → x ≡ get_or xs i x → slice_get xs i ≡ Some x
+get_at [] i x within is = absurd (omega arith)
+get_at (y ∷ xs) zero x within is = ap Some (sym is)
+get_at (y ∷ xs) (suc i) x within is = get_at xs i x (omega arith) is
 
 -- one source more
 pub sources_more : (inputs : Inputs) (es : List Entry) (place : ℕ) (ks : List Key) (i : ℕ) (k : Key) (s : Source) (xs ys : List Source) → slice_get ks i ≡ Some k → IsSource inputs es place k s → ys ≡ set xs i s → AreSources inputs es place (take i ks) xs
@@ -285,24 +285,18 @@ sources_more inputs es place ks i k s xs ys at is put all =
     ]
 
 -- what tells the result of an origin is the source of the key
-pub row_source : (inputs : Inputs) (es : List Entry) (place : ℕ) (k : Key) (e : Entry) → origin_among es place k ≡ Some e → (o : Option Source) → IfSome o (λ s. TellsResult e s) → IfSome o (λ s. IsSource inputs es place k s)
-row_source inputs es place k e from None tells = tells
-row_source inputs es place k e from (Some Unknown) tells = tells
-row_source inputs es place k e from (Some (FromInput n)) tells = absurd tells
-row_source inputs es place k e from (Some (FromRow j c)) tells = (e, from, tells)
+pub row_source : (inputs : Inputs) (es : List Entry) (place : ℕ) (k : Key) (e : Entry) → origin_among es place k ≡ Some e → (s : Source) → TellsResult e s → IsSource inputs es place k s
+row_source inputs es place k e from Unknown tells = tells
+row_source inputs es place k e from (FromInput n) tells = absurd tells
+row_source inputs es place k e from (FromRow j c) tells = (e, from, tells)
 
 -- ---- what they tell
 
-all_get : (test : Key → Bool) (ks : List Key) (i : ℕ) (k : Key) → list_all test ks ≡ true → slice_get ks i ≡ Some k → test k ≡ true
-all_get test [] i k all at = absurd (cc)
-all_get test (j ∷ ks) zero k all at = let same : j ≡ k = cc in subst (λ f. test f ≡ true) same (and_first (test j) (list_all test ks) all)
-all_get test (j ∷ ks) (suc i) k all at = all_get test ks i k (and_second (test j) (list_all test ks) all) at
-
--- where no source is known, none is the same
-pub nothing_same : (inputs : Inputs) (es : List Entry) (place : ℕ) (p : Plan) (values : List FieldNumbers) (xs ys : List Source) → xs ≡ no_sources → SameArePresent inputs es place p values xs ys
-nothing_same inputs es place p values xs ys none i k same read =
-    let unknown : same.0 ≡ Unknown = none_told i same.0 (ap (λ (l : List Source). slice_get l i) (sym none) ∙ same.1) in
-    let wrong : false ≡ true = ap is_known (sym unknown) ∙ same.3 in
+-- where no source is known, nothing is told
+pub nothing_known : (inputs : Inputs) (es : List Entry) (place : ℕ) (p : Plan) (values : List FieldNumbers) (xs : List Source) → xs ≡ no_sources → KnownArePresent inputs es place p values xs
+nothing_known inputs es place p values xs none i k s known is read =
+    let unknown : s ≡ Unknown = none_told i s (ap (λ (l : List Source). slice_get l i) (sym none) ∙ known.0) in
+    let wrong : false ≡ true = ap is_known (sym unknown) ∙ known.1 in
     absurd (cc)
 
 -- where the sources that a row keeps are the present ones, so are the values that its result was computed by
@@ -326,12 +320,9 @@ module _ (inputs : Inputs) (es : List Entry) (place : ℕ) (e : Entry) (d : Task
       named.kept place there.0 e is.0 at there.2 i k c is.2.2.0 (kept ∙ ap (λ (r : RowId). Some (FromRow r c)) is.2.0) is.2.2.1 is.2.2.2 d keeps (ap (λ q. slice_get (reads q) i) plan ∙ read)
       ∙ ap Some (settled_value inputs es k place p is.0 is.2.2.0 sound fitted fit (has_get (reads p) i k read) is.1 is.2.1 is.2.2.1)
 
-  pub same_present : (sources : List Source) → list_all (λ k. is_firm (origin_at (rows_seen es) place k)) (reads p) ≡ true → AreSources inputs es place (reads p) sources → SameArePresent inputs es place p d.inputs e.1.sources sources
-  same_present sources firm from i k same read = (
-    all_get (λ f. is_firm (origin_at (rows_seen es) place f)) (reads p) i k firm read,
-    value_of i k same.0 read same.1 same.3 (subst (λ (o : Option Key). IsSourceOf inputs es place o same.0) read (from i same.0 same.2))
-        ∙ ap (λ (w : World). Some (field_of p k (w k))) (sym (now_is (empty_board One) 0 1 inputs es place)),
-  )
+  pub known_present : KnownArePresent inputs es place p d.inputs e.1.sources
+  known_present i k s known is read =
+      value_of i k s read known.0 known.1 is ∙ ap (λ (w : World). Some (field_of p k (w k))) (sym (now_is (empty_board One) 0 1 inputs es place))
 
 pub of_plan_some : (p : Plan) (o : Option Task) (d : Task) → Some d ≡ of_plan p o → o ≡ Some d
 of_plan_some p None d is = absurd (cc)
@@ -343,24 +334,24 @@ of_plan_some p (Some t) d is = by_test (plan_eq p t.plan) is
 
 -- ---- a comparison that passes a value over
 
-field_eq_self : (x : FieldNumbers) → field_eq x x ≡ true
+pub field_eq_self : (x : FieldNumbers) → field_eq x x ≡ true
 field_eq_self x = rw (eq-eqb x.width x.width refl, (bytes_eq-Decides x.numbers x.numbers).1 refl) refl
 
-over_one : (test : Key → Bool) (f : Key → FieldNumbers) (ks : List Key) (xs : List FieldNumbers) (i : ℕ) (k : Key) → slice_get ks i ≡ Some k → slice_get xs i ≡ Some (f k) → test k ≡ true
+over_one : (test : Key → Bool) (f : Key → FieldNumbers) (ks : List Key) (xs : List FieldNumbers) (i : ℕ) (k : Key) (x : FieldNumbers) → slice_get ks i ≡ Some k → slice_get xs i ≡ Some x → test k ≡ true → field_eq (f k) x ≡ true
     → (list_all test (drop i ks) && pointwise field_eq (map f (drop i ks)) (drop i xs)) ≡ (list_all test (drop (suc i) ks) && pointwise field_eq (map f (drop (suc i) ks)) (drop (suc i) xs))
-over_one test f [] xs i k at there firm = absurd (cc)
-over_one test f (j ∷ ks) [] i k at there firm = absurd (cc)
-over_one test f (j ∷ ks) (x ∷ xs) zero k at there firm =
+over_one test f [] xs i k x at there firm same = absurd (cc)
+over_one test f (j ∷ ks) [] i k x at there firm same = absurd (cc)
+over_one test f (j ∷ ks) (y ∷ xs) zero k x at there firm same =
     let here : k ≡ j = cc in
-    let value : x ≡ f j = ap (λ o. unwrap_or o x) there ∙ ap f here in
+    let value : x ≡ y = cc in
     let passes : test j ≡ true = ap test (sym here) ∙ firm in
-    let equal : field_eq (f j) x ≡ true = ap (field_eq (f j)) value ∙ field_eq_self (f j) in
+    let equal : field_eq (f j) y ≡ true = ap₂ (λ l z. field_eq (f l) z) (sym here) (sym value) ∙ same in
     ap₂ (λ b c. (b && list_all test ks) && (c && pointwise field_eq (map f ks) xs)) passes equal
-over_one test f (j ∷ ks) (x ∷ xs) (suc i) k at there firm = over_one test f ks xs i k at there firm
+over_one test f (j ∷ ks) (y ∷ xs) (suc i) k x at there firm same = over_one test f ks xs i k x at there firm same
 
 -- what is left to compare has the same answer without a key whose origin is the start or settled and whose value is the present one
-pub passed_over : (test : Key → Bool) (f : Key → FieldNumbers) (ks : List Key) (xs : List FieldNumbers) (i : ℕ) (k : Key) → slice_get ks i ≡ Some k → slice_get xs i ≡ Some (f k) → test k ≡ true
+pub passed_over : (test : Key → Bool) (f : Key → FieldNumbers) (ks : List Key) (xs : List FieldNumbers) (i : ℕ) (k : Key) (x : FieldNumbers) → slice_get ks i ≡ Some k → slice_get xs i ≡ Some x → test k ≡ true → field_eq (f k) x ≡ true
     → (list_all test (drop i ks) && pointwise field_eq (map f (drop i ks)) (drop i xs)) ≡ (list_all test (drop (i + 1) ks) && pointwise field_eq (map f (drop (i + 1) ks)) (drop (i + 1) xs))
-passed_over test f ks xs i k at there firm =
+passed_over test f ks xs i k x at there firm same =
     let up : suc i ≡ i + 1 = omega arith in
-    over_one test f ks xs i k at there firm ∙ ap (λ n. list_all test (drop n ks) && pointwise field_eq (map f (drop n ks)) (drop n xs)) up
+    over_one test f ks xs i k x at there firm same ∙ ap (λ n. list_all test (drop n ks) && pointwise field_eq (map f (drop n ks)) (drop n xs)) up

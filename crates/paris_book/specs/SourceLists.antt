@@ -22,6 +22,6 @@ same_source (FromRow id edition) (FromRow j other) = (id.0 == j.0) && (edition.0
 abbrev pub no_sources : List Source
 no_sources = replicate 8 Unknown
 
--- at a place of both lists there is the same known source
-abbrev pub IsSameAt : List Source → List Source → ℕ → Type 0
-IsSameAt xs ys i = (s : Source) × (slice_get xs i ≡ Some s) × (slice_get ys i ≡ Some s) × (is_known s ≡ true)
+-- at a place of a list there is this source, and it is known
+abbrev pub IsKnownAt : List Source → ℕ → Source → Type 0
+IsKnownAt xs i s = (slice_get xs i ≡ Some s) × (is_known s ≡ true)

@@ -12,7 +12,7 @@ use Rattle.paris_machine.specs.Show.{now, origin_at}
 use Rattle.paris_machine.specs.Orders.{is_firm}
 use Rattle.paris_machine.specs.declared.inputs.Input.{Input}
 use Rattle.paris_book.specs.Entries.{Entry, id_of, entry_plan, seen, rows_seen}
-use Rattle.paris_book.specs.SourceLists.{IsSameAt}
+use Rattle.paris_book.specs.SourceLists.{IsKnownAt}
 use Rattle.paris_book.specs.declared.sources.Source.{Source}
 use Rattle.paris_book.specs.declared.sources.Source.TheVariants.{Unknown, Input as FromInput, Row as FromRow}
 
@@ -74,8 +74,7 @@ IsSourceOf inputs rows place (Some k) s = IsSource inputs rows place k s
 abbrev pub AreSources : Inputs → List Entry → ℕ → List Key → List Source → Type 0
 AreSources inputs rows place keys sources = (i : ℕ) (s : Source) → slice_get sources i ≡ Some s → IsSourceOf inputs rows place (slice_get keys i) s
 
--- where two sources are the same, no row is waited for, and a value is the present one
-abbrev pub SameArePresent : Inputs → List Entry → ℕ → Plan → List FieldNumbers → List Source → List Source → Type 0
-SameArePresent inputs rows place p values kept present =
-    (i : ℕ) (k : Key) → IsSameAt kept present i → slice_get (reads p) i ≡ Some k
-    → (is_firm (origin_at (rows_seen rows) place k) ≡ true) × (slice_get values i ≡ Some (field_of p k (now (seen inputs rows) place k)))
+-- where a row's known source is where the value comes from now, the value of before is the present one
+abbrev pub KnownArePresent : Inputs → List Entry → ℕ → Plan → List FieldNumbers → List Source → Type 0
+KnownArePresent inputs rows place p values kept =
+    (i : ℕ) (k : Key) (s : Source) → IsKnownAt kept i s → IsSource inputs rows place k s → slice_get (reads p) i ≡ Some k → slice_get values i ≡ Some (field_of p k (now (seen inputs rows) place k))

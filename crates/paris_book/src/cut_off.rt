@@ -32,7 +32,7 @@ impl Loose {
     }
 
     /// Settles the row at a place where it is cut off, and says whether it is.
-    fn cut_at(&mut self, place: usize) -> bool
+    pub(crate) fn cut_at(&mut self, place: usize) -> bool
         ensures cut { result ≡ cuts_at self.old place }
         ensures state { self.new ≡ cut_at self.old place }
     {

@@ -19,7 +19,7 @@ ghost use Rattle.paris_machine.specs.Results.{verdict_at};
 ghost use Rattle.paris_book.specs.Kept.{Sound, present};
 ghost use Rattle.paris_book.specs.Whole.{AllFitted, Fitted, shape_in};
 ghost use Rattle.paris_book.specs.Among.{inputs_of, shown_at, shared_shown, LookFits};
-ghost use Rattle.paris_book.specs.Sources.{AreNamed, AreSources, IsSource, SameArePresent, TellsResult};
+ghost use Rattle.paris_book.specs.Sources.{AreNamed, AreSources, IsSource, KnownArePresent, TellsResult};
 ghost use Rattle.paris_book.specs.Verdicts.{KeptFor, LooksAt};
 ghost use Rattle.paris_book.specs.Entries.{Entry, machine_row, seen, rows_seen};
 ghost use Rattle.paris_book.specs.Steps.{order_on};
@@ -37,6 +37,41 @@ use paris_instr::Plan;
 use paris_names::{Key, RowId};
 use std::alloc::{AllocError, Global};
 
+/// What is shown of a key at a place, and where that comes from.
+#[derive(Debug, Drop)]
+struct Found<'a> {
+    look: SharedLook<'a>,
+    source: Source,
+}
+
+/// What is found of a key at a place. The source of what waits isn't known.
+fn find_at<'a>(inputs: &'a InputData, rows: &'a Rows, place: usize, key: &Key) -> Found<'a>
+    requires known { IsSome (input_of (inputs_of inputs.now) key.now) }
+    requires within { place ≤ length rows.now.rows }
+    requires sound { Sound (start_world (inputs_of inputs.now)) (λ _. true) rows.now.rows }
+    requires fitted { AllFitted (inputs_of inputs.now) rows.now.rows }
+    ensures shown { shared_shown result.look ≡ shown_at (inputs_of inputs.entry.now) rows.entry.now.rows place key.now }
+    ensures fits { LookFits result.look (shape_in (inputs_of inputs.entry.now) key.now) }
+    ensures source { IsSource (inputs_of inputs.entry.now) rows.entry.now.rows place key.now result.source }
+{
+    match rows.origin(place, key) {
+        None => match input_at(inputs, key) {
+            Some(input) => Found {
+                look: SharedLook::Settled(&input.value),
+                source: Source::Input(input.number),
+            },
+            None => unreachable!(),
+        },
+        Some(id) => match rows.row(id) {
+            Some(row) => Found {
+                look: look_at_row(id, row, key),
+                source: source_in(id, row),
+            },
+            None => unreachable!(),
+        },
+    }
+}
+
 /// What is shown of a key at a place.
 pub(crate) fn look_at<'a>(
     inputs: &'a InputData,
@@ -51,16 +86,7 @@ pub(crate) fn look_at<'a>(
     ensures shown { shared_shown result ≡ shown_at (inputs_of inputs.entry.now) rows.entry.now.rows place key.now }
     ensures fits { LookFits result (shape_in (inputs_of inputs.entry.now) key.now) }
 {
-    match rows.origin(place, key) {
-        None => match input_at(inputs, key) {
-            Some(input) => SharedLook::Settled(&input.value),
-            None => unreachable!(),
-        },
-        Some(id) => match rows.row(id) {
-            Some(row) => look_at_row(id, row, key),
-            None => unreachable!(),
-        },
-    }
+    find_at(inputs, rows, place, key).look
 }
 
 /// What a row, as the origin of a key, shows of it.
@@ -105,13 +131,14 @@ pub(crate) fn first_ready(rows: &Rows) -> Option<usize>
     None
 }
 
-/// The values at the keys that a plan reads. `None` where one of them waits for an unsettled row.
+/// The values at the keys that a plan reads, with their sources. `None` where one of them waits for an unsettled row.
 fn present_inputs(
     alloc: Global,
     inputs: &InputData,
     rows: &Rows,
     place: usize,
     plan: &Plan,
+    sources: &mut Sources,
 ) -> Result<Option<Vec<SharedValue>>, AllocError>
     requires within { place ≤ length rows.now.rows }
     requires sound { Sound (start_world (inputs_of inputs.now)) (λ _. true) rows.now.rows }
@@ -121,15 +148,45 @@ fn present_inputs(
         ≡ (if list_all (λ k. is_firm_origin (origin_at (rows_seen rows.now.rows) place k)) (reads plan.now)
         then Some (inputs_now (seen (inputs_of inputs.now) rows.now.rows) place plan.now) else None)) }
     ensures fit { IfOk result (λ values. IfSome values (λ values. fits plan.now values.items ≡ true)) }
+    ensures sources { IfOk result (λ values. IfSome values (λ values. AreSources (inputs_of inputs.now) rows.now.rows place (reads plan.now) sources.new.keys)) }
 {
+    *sources = Sources::none();
+    let keys = plan.reads();
     let mut values = Vec::new(alloc);
-    for key in plan.reads() {
-        match look_at(inputs, rows, place, key) {
+    for i in 0..keys.len() {
+        let found = find_at(inputs, rows, place, &keys[i]);
+        match found.look {
             SharedLook::Settled(value) => values.push(value.copy()?)?,
             SharedLook::Pending(_) => return Ok(None),
         }
+        sources.put(i, found.source);
     }
     Ok(Some(values))
+}
+
+/// An order for the row at a place, with the sources of what it reads. `None` where a key that it reads waits for an unsettled row.
+pub(crate) fn sourced_order_at(
+    alloc: Global,
+    inputs: &InputData,
+    rows: &Rows,
+    place: usize,
+    sources: &mut Sources,
+) -> Result<Option<Order>, AllocError>
+    requires within { place < length rows.now.rows }
+    requires sound { Sound (start_world (inputs_of inputs.now)) (λ _. true) rows.now.rows }
+    requires fitted { AllFitted (inputs_of inputs.now) rows.now.rows }
+    ensures order { IfOk result (λ order. (e : Entry) → slice_get rows.now.rows place ≡ Some e → order ≡ order_on (seen (inputs_of inputs.now) rows.now.rows) place (Some (machine_row e))) }
+    ensures sources { IfOk result (λ order. IfSome order (λ order. (e : Entry) → slice_get rows.now.rows place ≡ Some e → AreSources (inputs_of inputs.now) rows.now.rows place (reads e.1.plan) sources.new.keys)) }
+{
+    let (id, row) = rows.at(place);
+    let Some(values) = present_inputs(alloc, inputs, rows, place, row.plan(), sources)? else {
+        return Ok(None);
+    };
+    let plan = row.shared_plan()?;
+    match Order::new(id, row.edition(), plan, values) {
+        Some(order) => Ok(Some(order)),
+        None => unreachable!(),
+    }
 }
 
 /// An order for the row at a place. `None` where a key that it reads waits for an unsettled row.
@@ -144,15 +201,8 @@ pub(crate) fn order_at(
     requires fitted { AllFitted (inputs_of inputs.now) rows.now.rows }
     ensures { IfOk result (λ order. (e : Entry) → slice_get rows.now.rows place ≡ Some e → order ≡ order_on (seen (inputs_of inputs.now) rows.now.rows) place (Some (machine_row e))) }
 {
-    let (id, row) = rows.at(place);
-    let Some(values) = present_inputs(alloc, inputs, rows, place, row.plan())? else {
-        return Ok(None);
-    };
-    let plan = row.shared_plan()?;
-    match Order::new(id, row.edition(), plan, values) {
-        Some(order) => Ok(Some(order)),
-        None => unreachable!(),
-    }
+    let mut sources = Sources::none();
+    sourced_order_at(alloc, inputs, rows, place, &mut sources)
 }
 
 /// Whether the origin of a key at a place is the start or a settled row.
@@ -169,31 +219,25 @@ pub(crate) fn is_firm(rows: &Rows, place: usize, key: &Key) -> bool
     }
 }
 
-/// Where the value of a key comes from whose origin is a row. `None` where it waits for the row.
-fn source_in(id: RowId, row: &RowData) -> Option<Source>
-    ensures firm { is_some result ≡ is_settled row.now.status }
-    ensures source { IfSome result (λ s. TellsResult (id.0, row.now) s) }
+/// Where the value of a key comes from whose origin is a row. It isn't known where it waits for the row.
+fn source_in(id: RowId, row: &RowData) -> Source
+    ensures { TellsResult (id.0, row.now) result }
 {
-    if row.status().is_settled() {
-        match row.done() {
-            None => Some(Source::Unknown),
-            Some(done) => Some(Source::Row(id, done.order().edition())),
-        }
-    } else {
-        None
+    match row.done() {
+        Some(done) if row.status().is_settled() => Source::Row(id, done.order().edition()),
+        _ => Source::Unknown,
     }
 }
 
-/// Where the value of a key at a place comes from. `None` where it waits for an unsettled row.
-fn source_at(inputs: &InputData, rows: &Rows, place: usize, key: &Key) -> Option<Source>
+/// Where the value of a key at a place comes from. It isn't known where it waits for an unsettled row.
+fn source_at(inputs: &InputData, rows: &Rows, place: usize, key: &Key) -> Source
     requires { place ≤ length rows.now.rows }
-    ensures firm { is_some result ≡ is_firm_origin (origin_at (rows_seen rows.now.rows) place key.now) }
-    ensures source { IfSome result (λ s. IsSource (inputs_of inputs.now) rows.now.rows place key.now s) }
+    ensures { IsSource (inputs_of inputs.now) rows.now.rows place key.now result }
 {
     match rows.origin(place, key) {
         None => match input_at(inputs, key) {
-            Some(input) => Some(Source::Input(input.number)),
-            None => Some(Source::Unknown),
+            Some(input) => Source::Input(input.number),
+            None => Source::Unknown,
         },
         Some(id) => match rows.row(id) {
             Some(row) => source_in(id, row),
@@ -202,71 +246,55 @@ fn source_at(inputs: &InputData, rows: &Rows, place: usize, key: &Key) -> Option
     }
 }
 
-/// Where the values at keys come from. `None` where one of them waits for an unsettled row.
-fn sources_at(inputs: &InputData, rows: &Rows, place: usize, keys: &[Key]) -> Option<Sources>
-    requires { place ≤ length rows.now.rows }
-    ensures firm { is_some result ≡ list_all (λ k. is_firm_origin (origin_at (rows_seen rows.now.rows) place k)) keys.now }
-    ensures sources { IfSome result (λ s. AreSources (inputs_of inputs.now) rows.now.rows place keys.now s.keys) }
-{
-    let mut sources = Sources::none();
-    for number in 0..keys.len() {
-        match source_at(inputs, rows, place, &keys[number]) {
-            None => return None,
-            Some(source) => sources.put(number, source),
-        }
-    }
-    Some(sources)
-}
-
-/// Where the values come from that the row at a place reads. Where one of them waits for an unsettled row, none counts as known.
+/// Where the values come from that the row at a place reads.
 pub(crate) fn present_sources(inputs: &InputData, rows: &Rows, place: usize) -> Sources
     requires { place < length rows.now.rows }
     ensures { (e : Entry) → slice_get rows.now.rows place ≡ Some e → AreSources (inputs_of inputs.now) rows.now.rows place (reads e.1.plan) result.keys }
 {
     let (_, row) = rows.at(place);
-    match sources_at(inputs, rows, place, row.plan().reads()) {
-        Some(sources) => sources,
-        None => Sources::none(),
+    let keys = row.plan().reads();
+    let mut sources = Sources::none();
+    for number in 0..keys.len() {
+        sources.put(number, source_at(inputs, rows, place, &keys[number]));
     }
+    sources
 }
 
-/// Whether values are the present ones at the keys that a plan reads. They aren't where a key waits for an unsettled row. Where the
-/// source of a value is the present one, nothing is compared.
-fn agree(
+/// The present sources of what a plan reads, where these values are the present ones. They aren't where a key waits for an unsettled
+/// row. Where the present source of a value is the one that is known of it, nothing is compared.
+fn sources_if_same(
     inputs: &InputData,
     rows: &Rows,
     place: usize,
     plan: &Plan,
     values: &[SharedValue],
-    kept: &Sources,
-    present: &Sources,
-) -> bool
+    known: &Sources,
+) -> Option<Sources>
     requires within { place ≤ length rows.now.rows }
     requires sound { Sound (start_world (inputs_of inputs.now)) (λ _. true) rows.now.rows }
     requires fitted { AllFitted (inputs_of inputs.now) rows.now.rows }
     requires plan_fitted { Fitted (inputs_of inputs.now) plan.now }
-    requires same { SameArePresent (inputs_of inputs.now) rows.now.rows place plan.now values.now kept.now.keys present.now.keys }
-    ensures { result ≡ (list_all (λ k. is_firm_origin (origin_at (rows_seen rows.now.rows) place k)) (reads plan.now)
+    requires known { KnownArePresent (inputs_of inputs.now) rows.now.rows place plan.now values.now known.now.keys }
+    ensures same { is_some result ≡ (list_all (λ k. is_firm_origin (origin_at (rows_seen rows.now.rows) place k)) (reads plan.now)
         && pointwise field_eq (inputs_now (seen (inputs_of inputs.now) rows.now.rows) place plan.now) values.now) }
+    ensures sources { IfSome result (λ s. AreSources (inputs_of inputs.now) rows.now.rows place (reads plan.now) s.keys) }
 {
     let keys = plan.reads();
     if keys.len() != values.len() {
-        return false;
+        return None;
     }
+    let mut sources = Sources::none();
     for i in 0..keys.len() {
-        if kept.is_same_at(present, i) {
-            continue;
+        let found = find_at(inputs, rows, place, &keys[i]);
+        let SharedLook::Settled(value) = found.look else {
+            return None;
+        };
+        if !known.is_known_at(i, found.source) && !value.get().equals(values[i].get()) {
+            return None;
         }
-        match look_at(inputs, rows, place, &keys[i]) {
-            SharedLook::Settled(value) => {
-                if !value.get().equals(values[i].get()) {
-                    return false;
-                }
-            }
-            SharedLook::Pending(_) => return false,
-        }
+        sources.put(i, found.source);
     }
-    true
+    Some(sources)
 }
 
 /// Whether an order is of the plan of the row at a place, and of the present values.
@@ -280,15 +308,7 @@ fn is_present(inputs: &InputData, rows: &Rows, place: usize, order: &Order) -> b
     let (_, row) = rows.at(place);
     let unknown = Sources::none();
     row.plan().equals(order.plan())
-        && agree(
-            inputs,
-            rows,
-            place,
-            row.plan(),
-            order.inputs(),
-            &unknown,
-            &unknown,
-        )
+        && sources_if_same(inputs, rows, place, row.plan(), order.inputs(), &unknown).is_some()
 }
 
 /// The present sources of what the row at a place reads, where it is unsettled, and the result that was last kept of it is of its plan
@@ -309,18 +329,10 @@ pub(crate) fn sources_if_cut(inputs: &InputData, rows: &Rows, place: usize) -> O
     }
     match row.result_of_plan() {
         None => None,
-        Some(done) => match sources_at(inputs, rows, place, row.plan().reads()) {
-            None => None,
-            Some(present) => {
-                let own = row.plan();
-                let values = done.order().inputs();
-                if agree(inputs, rows, place, own, values, row.sources(), &present) {
-                    Some(present)
-                } else {
-                    None
-                }
-            }
-        },
+        Some(done) => {
+            let values = done.order().inputs();
+            sources_if_same(inputs, rows, place, row.plan(), values, row.sources())
+        }
     }
 }
 

@@ -14,7 +14,7 @@ use crate::book::Book;
 use crate::listing::put_id;
 use crate::looks::first_ready;
 use crate::loose::Loose;
-use crate::settlement::{SettleFault, execute_inside};
+use crate::settlement::SettleFault;
 use paris_exec::OpenGate;
 use paris_names::RowId;
 use std::alloc::AllocError;
@@ -43,18 +43,12 @@ impl Loose {
         let Some(place) = first_ready(&self.rows) else {
             return Ok(false);
         };
-        let Some(order) = self.own_order(place)? else {
-            unreachable!();
-        };
         self.ids_are_apart();
-        match execute_inside(self.alloc, &OpenGate, order) {
-            None => Err(AllocError),
-            Some(done) => {
-                self.keep_own(place, done);
-                self.cut_behind(place);
-                Ok(true)
-            }
+        if !self.run_own(&OpenGate, place)? {
+            unreachable!();
         }
+        self.cut_behind(place);
+        Ok(true)
     }
 }
 

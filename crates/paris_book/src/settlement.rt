@@ -1,6 +1,6 @@
 //! Settling a book: orders that are out are given up, and rows are run until every row is settled.
 
-ghost use Rattle.std.specs.Prelude.{◌≡◌, ◌<◌, ◌≤◌, ◌+◌, ◌⊎◌, length, slice_get, true, false, if◌then◌else◌, Some, map, OnOk, OnErr, IfOk, IfErr, IfSome};
+ghost use Rattle.std.specs.Prelude.{◌≡◌, ◌<◌, ◌≤◌, ◌+◌, ◌⊎◌, length, slice_get, true, false, if◌then◌else◌, Some, map, is_some, OnOk, OnErr, IfOk, IfErr, IfSome};
 ghost use Rattle.paris_names.specs.declared.limits.TheConstants.{MAX_ROWS};
 ghost use Rattle.paris_machine.specs.CutOff.{cut_off};
 ghost use Rattle.paris_machine.specs.Orders.{IsIdle, after_release, after_take};
@@ -12,9 +12,10 @@ ghost use Rattle.paris_book.specs.Statuses.{next_unsettled};
 ghost use Rattle.paris_book.specs.Steps.{own_order, settled_on, run_at, left_at, runs_at, turned_at};
 
 use crate::book::Book;
-use crate::looks::{order_at, present_sources};
+use crate::looks::{order_at, present_sources, sourced_order_at};
 use crate::loose::Loose;
 use crate::program_rows::Rows;
+use crate::sources::Sources;
 use paris_exec::{Done, Gate, OpenGate, Order, execute};
 use std::alloc::{AllocError, Global};
 use thiserror::Error;
@@ -90,6 +91,38 @@ impl Loose {
         self.rows.keep(place, done, sources);
     }
 
+    /// Runs the order that the row at a place, which is unsettled, would give now, and keeps the result. The answer is whether there was
+    /// one. At an error nothing has changed.
+    pub(crate) fn run_own<G: Gate>(&mut self, gate: &G, place: usize) -> Result<bool, AllocError>
+        requires { settled_on (slice_get self.old.rows place) ≡ false }
+        ensures ran { IfOk result (λ ran. ran ≡ is_some (own_order self.old place)) }
+        ensures state { IfOk result (λ ran. self.new ≡ (if ran then run_at self.old place else self.old)) }
+        ensures err { OnErr result (self.new ≡ self.old) }
+        ensures there { OnErr result (place < length self.old.rows) }
+    {
+        if place >= self.rows.len() {
+            return Ok(false);
+        }
+        let mut sources = Sources::none();
+        let Some(order) = sourced_order_at(
+            self.alloc,
+            &self.inputs,
+            &self.rows,
+            place,
+            &mut sources,
+        )?
+        else {
+            return Ok(false);
+        };
+        match execute_inside(self.alloc, gate, order) {
+            None => Err(AllocError),
+            Some(done) => {
+                self.rows.keep(place, done, sources);
+                Ok(true)
+            }
+        }
+    }
+
     /// Gives the row at a place its turn. An unsettled row that would compute again what it computed last is settled with that. Any
     /// other one is run: its order is made, executed inside a gate, and the result is kept, unless a key that it reads waits. The
     /// answer is how many rows were run, which is 1 or 0. At an error nothing has changed.
@@ -99,15 +132,13 @@ impl Loose {
         ensures err { OnErr result (self.new ≡ self.old) }
         ensures left { OnErr result (left_at self.old place ≡ true) }
     {
-        let Some(order) = self.order_or_cut(place)? else {
+        if self.is_settled_at(place) || self.cut_at(place) {
             return Ok(0);
-        };
-        match execute_inside(self.alloc, gate, order) {
-            None => Err(AllocError),
-            Some(done) => {
-                self.keep_own(place, done);
-                Ok(1)
-            }
+        }
+        if self.run_own(gate, place)? {
+            Ok(1)
+        } else {
+            Ok(0)
         }
     }
 

@@ -1,7 +1,7 @@
 //! Where the values came from by which a row was settled last. What one source names is one value, as long as a book lasts.
 
 ghost use Rattle.std.specs.Prelude.{◌≡◌, slice_set, true};
-ghost use Rattle.paris_book.specs.SourceLists.{IsSameAt, no_sources, same_source};
+ghost use Rattle.paris_book.specs.SourceLists.{IsKnownAt, no_sources, same_source};
 
 use paris_names::{Edition, RowId};
 
@@ -54,10 +54,10 @@ impl Sources {
         }
     }
 
-    /// Whether the source of the key of a number is known in both, and the same.
-    pub(crate) fn is_same_at(&self, other: &Sources, key: usize) -> bool
-        ensures { result ≡ true → IsSameAt self.now.keys other.now.keys key }
+    /// Whether the source of the key of a number is known, and is this one.
+    pub(crate) fn is_known_at(&self, key: usize, source: Source) -> bool
+        ensures { result ≡ true → IsKnownAt self.now.keys key source }
     {
-        key < 8 && self.keys[key].is_same(other.keys[key])
+        key < 8 && self.keys[key].is_same(source)
     }
 }

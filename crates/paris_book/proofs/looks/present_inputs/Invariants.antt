@@ -1,15 +1,17 @@
--- The keys so far have firm origins, and the values so far are the present ones, which fit.
+-- The keys so far have firm origins, and the values so far are the present ones, which fit, with their sources.
 use Rattle.std.proofs.Common.{◌≡◌, take, map, true}
 use Rattle.std.specs.List.{list_all}
 use Rattle.paris_exec.specs.Tasks.{field_of, fits_keys}
 use Rattle.paris_book.specs.Kept.{present}
 use Rattle.paris_book.specs.Among.{inputs_of}
+use Rattle.paris_book.specs.Sources.{AreSources}
 use Rattle.paris_book.proofs.Among.{firm_among}
 use Rattle.paris_book.proofs.looks.present_inputs.Given as goal
 
-abbrev pub invariant-loop-key : goal.invariant-loop-key
-invariant-loop-key l = record {
-  firm : list_all (firm_among l.rows.rows l.place) (take l.key-index l.key-items) ≡ true;
-  same : l.values.items ≡ map (λ k. field_of l.plan k (present (inputs_of l.inputs) l.rows.rows l.place k)) (take l.key-index l.key-items);
-  fit : fits_keys l.plan (take l.key-index l.key-items) l.values.items ≡ true;
+abbrev pub invariant-loop-i : goal.invariant-loop-i
+invariant-loop-i l = record {
+  firm : list_all (firm_among l.rows.rows l.place) (take l.i l.keys) ≡ true;
+  same : l.values.items ≡ map (λ k. field_of l.plan k (present (inputs_of l.inputs) l.rows.rows l.place k)) (take l.i l.keys);
+  fit : fits_keys l.plan (take l.i l.keys) l.values.items ≡ true;
+  sources : AreSources (inputs_of l.inputs) l.rows.rows l.place (take l.i l.keys) l.sources.keys;
 }

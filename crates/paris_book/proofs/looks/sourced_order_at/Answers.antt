@@ -3,7 +3,7 @@ use Rattle.paris_model.specs.Instructions.{Plan}
 use Rattle.paris_book.specs.Among.{inputs_of}
 use Rattle.paris_book.specs.Whole.{Fitted}
 use Rattle.paris_book.proofs.Shows.{fitted_at}
-use Rattle.paris_book.proofs.looks.order_at.Goals as goal
+use Rattle.paris_book.proofs.looks.sourced_order_at.Goals as goal
 
 pub present_inputs-requires-clause-plan_fitted : goal.present_inputs-requires-clause-plan_fitted
 present_inputs-requires-clause-plan_fitted c =

@@ -2,7 +2,8 @@ use Rattle.std.proofs.Common.{◌∙◌, sym}
 use Rattle.paris_book.specs.Among.{inputs_of}
 use Rattle.paris_book.proofs.Shows.{kept_for, looks_at, look_start, look_seen}
 use Rattle.paris_book.proofs.Entering.{origin_none, origin_row, origin_there}
-use Rattle.paris_book.proofs.looks.look_at.Goals as goal
+use Rattle.paris_book.proofs.Naming.{row_source}
+use Rattle.paris_book.proofs.looks.find_at.Goals as goal
 
 pub unreachable-requires-in-None-row : goal.unreachable-requires-in-None-row
 unreachable-requires-in-None-row c =
@@ -27,3 +28,8 @@ returns-in-Some-row-clause-fits c =
 pub returns-in-Some-input_at-clause-shown : goal.returns-in-Some-input_at-clause-shown
 returns-in-Some-input_at-clause-shown c = (look_start (inputs_of c.args.inputs.now) c.args.rows.now.rows c.args.key.now c.args.place c.in-Some-input_at.input.now c.requires.sound (origin_none c.args.rows.now.rows c.args.place c.args.key.now c.in-None.ensures) c.in-Some-input_at.ensures).0
     ∙ sym (look_seen (inputs_of c.args.inputs.now) c.args.rows.now.rows c.args.key.now c.args.place)
+
+pub returns-in-Some-row-clause-source : goal.returns-in-Some-row-clause-source
+returns-in-Some-row-clause-source c =
+    let o = origin_row c.args.rows.now.rows c.args.place c.args.key.now c.in-Some.id.0 c.in-Some-row.row.now c.row.ensures.sound.distinct c.in-Some.ensures c.in-Some-row.ensures.value in
+    row_source (inputs_of c.args.inputs.now) c.args.rows.now.rows c.args.place c.args.key.now (c.in-Some.id.0, c.in-Some-row.row.now) o c.source_in.result c.source_in.ensures
