@@ -2,7 +2,7 @@
 use Rattle.std.proofs.Common.{◌≡◌, ℕ, ◌+◌, ◌<◌, ◌≤◌, inl, inr, List, [], ◌∷◌, Bool, true, false, cond, Option, Some, None, refl, sym, ap, ◌∙◌, subst, arith, eqb, map, take, drop, length, zero, suc, set, get_or, slice_get}
 use Rattle.std.proofs.lemmas.Option.{slice_get-map}
 use Rattle.std.proofs.lemmas.Bool.{eq-eqb}
-use Rattle.std.specs.Prelude.{◌||◌, ◌&&◌, IfSome}
+use Rattle.std.specs.Prelude.{◌||◌, ◌&&◌}
 use Rattle.std.proofs.Math.Path.{ap₂}
 use Rattle.std.specs.Cmp.Lexicographic.{pointwise}
 use Rattle.std.proofs.lemmas.Slice.Eq.{bytes_eq-Decides}
@@ -23,14 +23,12 @@ use Rattle.paris_machine.specs.State.{Inputs, IdsApart, input_of, number_in, num
 use Rattle.paris_machine.specs.declared.inputs.Input.{Input}
 use Rattle.paris_program.specs.Program.{ids_of}
 use Rattle.paris_book.specs.Among.{width_in_shape}
-use Rattle.paris_book.specs.Entries.{Entry, id_of, entry_plan, rows_seen}
+use Rattle.paris_book.specs.Entries.{Entry, id_of, entry_plan}
 use Rattle.paris_book.specs.RowsInside.{of_plan}
 use Rattle.paris_instr.specs.PlanEq.{plan_eq}
 use Rattle.paris_board.specs.Board.{empty_board}
 use Rattle.paris_names.specs.declared.profiles.Profile.TheVariants.{One}
 use Rattle.paris_model.specs.Frame.{World}
-use Rattle.paris_machine.specs.Show.{origin_at}
-use Rattle.paris_machine.specs.Orders.{is_firm}
 use Rattle.paris_book.specs.Kept.{last_kept, Sound, present}
 use Rattle.paris_book.specs.Whole.{input_shape, shape_in, InputsBelow, Fitted, AllFitted}
 use Rattle.paris_book.specs.Sources.{number_told, IsNumbered, LeavesFree, NamesInput, NamesResult, AreNamed, IsSourced, IsSource, IsSourceOf, AreSources, KnownArePresent, TellsResult}
@@ -38,7 +36,6 @@ use Rattle.paris_book.specs.declared.sources.Source.{Source}
 use Rattle.paris_book.specs.declared.sources.Source.TheVariants.{Unknown, Input as FromInput, Row as FromRow}
 use Rattle.paris_book.proofs.Among.{origin_among, inputs_among}
 use Rattle.paris_book.proofs.Shows.{tells_at, fitted_entry, now_is}
-use Rattle.paris_machine.proofs.Tests.{and_first, and_second}
 use Rattle.paris_book.specs.SourceLists.{is_known, no_sources}
 use Rattle.paris_book.proofs.Sourced.{none_told, set_entry}
 

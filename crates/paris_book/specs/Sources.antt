@@ -8,10 +8,9 @@ use Rattle.paris_exec.specs.Tasks.{Task, field_of, task_value}
 use Rattle.paris_events.specs.Rows.{is_settled}
 use Rattle.paris_names.specs.declared.ids.Edition.{Edition}
 use Rattle.paris_machine.specs.State.{Inputs, input_of, number_in}
-use Rattle.paris_machine.specs.Show.{now, origin_at}
-use Rattle.paris_machine.specs.Orders.{is_firm}
+use Rattle.paris_machine.specs.Show.{now}
 use Rattle.paris_machine.specs.declared.inputs.Input.{Input}
-use Rattle.paris_book.specs.Entries.{Entry, id_of, entry_plan, seen, rows_seen}
+use Rattle.paris_book.specs.Entries.{Entry, id_of, entry_plan, seen}
 use Rattle.paris_book.specs.SourceLists.{IsKnownAt}
 use Rattle.paris_book.specs.declared.sources.Source.{Source}
 use Rattle.paris_book.specs.declared.sources.Source.TheVariants.{Unknown, Input as FromInput, Row as FromRow}

@@ -153,13 +153,13 @@ fn present_inputs(
     *sources = Sources::none();
     let keys = plan.reads();
     let mut values = Vec::new(alloc);
-    for i in 0..keys.len() {
-        let found = find_at(inputs, rows, place, &keys[i]);
+    for number in 0..keys.len() {
+        let found = find_at(inputs, rows, place, &keys[number]);
         match found.look {
             SharedLook::Settled(value) => values.push(value.copy()?)?,
             SharedLook::Pending(_) => return Ok(None),
         }
-        sources.put(i, found.source);
+        sources.put(number, found.source);
     }
     Ok(Some(values))
 }

@@ -8,10 +8,10 @@ use Rattle.paris_book.specs.Sources.{AreSources}
 use Rattle.paris_book.proofs.Among.{firm_among}
 use Rattle.paris_book.proofs.looks.present_inputs.Given as goal
 
-abbrev pub invariant-loop-i : goal.invariant-loop-i
-invariant-loop-i l = record {
-  firm : list_all (firm_among l.rows.rows l.place) (take l.i l.keys) ≡ true;
-  same : l.values.items ≡ map (λ k. field_of l.plan k (present (inputs_of l.inputs) l.rows.rows l.place k)) (take l.i l.keys);
-  fit : fits_keys l.plan (take l.i l.keys) l.values.items ≡ true;
-  sources : AreSources (inputs_of l.inputs) l.rows.rows l.place (take l.i l.keys) l.sources.keys;
+abbrev pub invariant-loop-number : goal.invariant-loop-number
+invariant-loop-number l = record {
+  firm : list_all (firm_among l.rows.rows l.place) (take l.number l.keys) ≡ true;
+  same : l.values.items ≡ map (λ k. field_of l.plan k (present (inputs_of l.inputs) l.rows.rows l.place k)) (take l.number l.keys);
+  fit : fits_keys l.plan (take l.number l.keys) l.values.items ≡ true;
+  sources : AreSources (inputs_of l.inputs) l.rows.rows l.place (take l.number l.keys) l.sources.keys;
 }

@@ -13,7 +13,6 @@ use Rattle.paris_machine.specs.Orders.{is_firm as is_firm_origin}
 use Rattle.paris_book.specs.Among.{inputs_of, shared_shown, LookFits}
 use Rattle.paris_book.specs.Entries.{seen, rows_seen}
 use Rattle.paris_book.specs.Whole.{shape_in}
-use Rattle.paris_book.proofs.Among.{firm_among}
 use Rattle.paris_book.proofs.Naming.{get_at, sources_more, passed_over, field_eq_self}
 use Rattle.paris_book.proofs.Shows.{firm_lends, firm_seen, has_at, look_seen, now_is, settled_firm}
 use Rattle.paris_book.proofs.looks.sources_if_same.Goals as goal
@@ -36,7 +35,7 @@ loop-i-preserved c =
     let read : has_key (reads c.args.plan.now) k ≡ true = ap (λ ks. has_key ks k) (sym c.reads-keys.ensures) ∙ has_at keys i k within c.index-keys-i.is in
     let fits = subst (λ l. LookFits l (shape_in inputs k)) c.in-Settled.is c.find_at-found.ensures.fits in
     let value : v ≡ f k = (firm_lends inputs rows k c.args.place c.args.plan.now v here shown fits c.requires.plan_fitted read).0
-        ∙ ap (λ (u : World). field_of c.args.plan.now k (u k)) (sym (now_is (empty_board One) 0 1 inputs rows c.args.place)) in
+    ∙ ap (λ (u : World). field_of c.args.plan.now k (u k)) (sym (now_is (empty_board One) 0 1 inputs rows c.args.place)) in
     record {
       same = c.loop-i.invariant.same ∙ elim c.else-not-is_known_at.branch [
         | else-not-is_known_at-via-then-not-is_known_at+else-not-equals w ↦ (

@@ -1,4 +1,4 @@
-use Rattle.std.proofs.Common.{◌≡◌, ◌∙◌, List, false, None, Some, ap, sym, subst, arith, refl, slice_get}
+use Rattle.std.proofs.Common.{◌≡◌, ◌∙◌, List, false, Some, ap, sym, subst, arith, slice_get}
 use Rattle.std.proofs.Math.Path.{ap₂}
 use Rattle.std.specs.Prelude.{is_some, not, Option, IfSome}
 use Rattle.paris_model.specs.Instructions.{reads}
