@@ -16,7 +16,10 @@ export function spelled(number, width, base) {
   return String(big >> BigInt(width - 1) ? big - (1n << BigInt(width)) : big);
 }
 
-/** How many digits a column has. `seen` is the most digits of unsigned numbers so far. */
+/**
+ * How many digits a column has. `seen` is the most digits of unsigned numbers so far.
+ * @param {number} width @param {string} base @param {number} seen
+ */
 export function digitsOf(width, base, seen) {
   if (width === 1) return 1;
   if (base === "hex") return Math.ceil(width / 4);
@@ -60,7 +63,10 @@ export function cells(value, { width, base, form, off, before }) {
   return out.join("");
 }
 
-/** Shades from the least to the greatest number. */
+/**
+ * Shades from the least to the greatest number.
+ * @param {any} numbers
+ */
 export function shadesOf(numbers) {
   const shades = new Uint8Array(numbers.length);
   let low = numbers[0], high = numbers[0];
@@ -72,11 +78,16 @@ export function shadesOf(numbers) {
 
 const LIGHT = [[237, 243, 242], [150, 196, 194], [52, 120, 128], [13, 56, 70]];
 const DARK = [[30, 38, 44], [33, 86, 98], [72, 154, 160], [190, 232, 224]];
+/** @type {Map<boolean, Uint32Array>} */
 const ramps = new Map();
 
-/** The colours of shades: one hue, from light to dark, and in the dark theme from dark to light. */
+/**
+ * The colours of shades: one hue, from light to dark, and in the dark theme from dark to light.
+ * @param {boolean} isDark
+ */
 export function ramp(isDark) {
-  if (ramps.has(isDark)) return ramps.get(isDark);
+  const known = ramps.get(isDark);
+  if (known) return known;
   const stops = isDark ? DARK : LIGHT, out = new Uint32Array(256);
   for (let i = 0; i < 256; i++) {
     const at = i / 255 * 3, stop = Math.min(2, Math.floor(at)), part = at - stop;
@@ -87,7 +98,10 @@ export function ramp(isDark) {
   return out;
 }
 
-/** A value of many numbers in stretches: of each the greatest, the least and the mean, and what the edit changed. */
+/**
+ * A value of many numbers in stretches: of each the greatest, the least and the mean, and what the edit changed.
+ * @param {any} value
+ */
 export function stripOf(value) {
   if (value.isStrip) return value;
   if (value.form) return value.form;
@@ -109,6 +123,12 @@ export function stripOf(value) {
 }
 
 /**
+ * What is drawn with on a canvas.
+ * @param {HTMLCanvasElement} canvas
+ */
+const penOf = canvas => /** @type {CanvasRenderingContext2D} */ (canvas.getContext("2d"));
+
+/**
  * From left to right the processors, from below to above the numbers: a band from least to greatest, a line of means,
  * and below them what the edit changed.
  * @param {HTMLCanvasElement} canvas @param {any} strip @param {number} tall
@@ -118,10 +138,10 @@ export function paintStrip(canvas, strip, tall, { band, mean, fresh }) {
   const n = strip.numbers.length / 3, h = Math.max(8, Math.round(tall)), foot = 3, isFlat = strip.low === strip.high;
   const most = strip.numbers.subarray(0, n), least = strip.numbers.subarray(n, 2 * n);
   const means = strip.numbers.subarray(2 * n);
-  const y = shade => isFlat ? h / 2 : Math.round((h - foot - 2) * (1 - shade / 255));
+  const y = (/** @type {number} */ shade) => isFlat ? h / 2 : Math.round((h - foot - 2) * (1 - shade / 255));
   canvas.width = n;
   canvas.height = h;
-  const context = canvas.getContext("2d");
+  const context = penOf(canvas);
   context.fillStyle = band;
   for (let x = 0; x < n; x++) context.fillRect(x, y(most[x]), 1, Math.max(2, y(least[x]) - y(most[x]) + 2));
   context.fillStyle = mean;
@@ -133,43 +153,63 @@ export function paintStrip(canvas, strip, tall, { band, mean, fresh }) {
   for (const x of strip.changed || []) context.fillRect(x, h - foot, 1, foot);
 }
 
-/** A number in few letters: with fewer digits where it is long. @param {string} text */
+/**
+ * A number in few letters: with fewer digits where it is long.
+ * @param {string} text
+ */
 export function short(text) {
   if (text.length <= 12 || /[a-f]/.test(text)) return text;
   const power = [...String(text.length - 1)].map(digit => "⁰¹²³⁴⁵⁶⁷⁸⁹"[Number(digit)]).join("");
   return `${text[0]}.${text.slice(1, 4)}·10${power}`;
 }
 
-/** Paints shades into a canvas of `across` pixels a line. */
+/**
+ * Paints shades into a canvas of `across` pixels a line.
+ * @param {HTMLCanvasElement} canvas @param {ArrayLike<number>} shades @param {number} across @param {boolean} isDark
+ */
 export function paint(canvas, shades, across, isDark) {
   const down = Math.ceil(shades.length / across), colours = ramp(isDark);
   canvas.width = across;
   canvas.height = down;
-  const context = canvas.getContext("2d"), image = context.createImageData(across, down);
+  const context = penOf(canvas), image = context.createImageData(across, down);
   const words = new Uint32Array(image.data.buffer);
   for (let i = 0; i < shades.length; i++) words[i] = colours[shades[i]];
   context.putImageData(image, 0, 0);
 }
 
-/** The pixels that an edit changed, over a picture. */
+/**
+ * The pixels that an edit changed, over a picture.
+ * @param {HTMLCanvasElement} canvas @param {Set<number>} changed @param {string} colour
+ */
 export function paintChanged(canvas, changed, colour, size = 1) {
-  const context = canvas.getContext("2d");
+  const context = penOf(canvas);
   context.fillStyle = colour;
   for (const i of changed) context.fillRect(i % canvas.width, Math.floor(i / canvas.width), size, size);
 }
 
-/** The coordinates of a processor, axis 0 first. */
+/**
+ * The coordinates of a processor, axis 0 first.
+ * @param {number} processor @param {number[]} axes
+ */
 export function coordinates(processor, axes) {
   const out = [];
   for (const length of axes) { out.push(processor % length); processor = Math.floor(processor / length); }
   return out;
 }
 
+/**
+ * A number with a comma at every third digit.
+ * @param {number|bigint} number
+ */
 export const grouped = number => String(number).replace(/\B(?=(\d{3})+$)/g, ",");
 
+/** @type {Object<string, RegExp>} */
 const FORMS = { unsigned: /^[0-9]+$/, signed: /^-?[0-9]+$/, hex: /^[0-9a-f]+$/i, bits: /^[01]+$/ };
 
-/** What a cell takes, by the base that is shown. */
+/**
+ * What a cell takes, by the base that is shown.
+ * @type {Object<string, string>}
+ */
 export const WANTED = {
   unsigned: "A whole number without a sign is wanted here. For a negative one, switch the numbers to signed.",
   signed: "A whole number is wanted here.",
@@ -177,7 +217,10 @@ export const WANTED = {
   bits: "A number in bits is wanted here: the digits 0 and 1 alone.",
 };
 
-/** The number that a text is in a base, or null. @param {string} text @param {number} width @param {string} base */
+/**
+ * The number that a text is in a base, or null.
+ * @param {string} text @param {number} width @param {string} base
+ */
 export function numberOf(text, width, base) {
   if (!FORMS[base].test(text)) return null;
   if (base === "hex") return BigInt(`0x${text}`);

@@ -4,6 +4,9 @@ import { build, lay, reveal } from "./list.js";
 import { have } from "./values.js";
 import { $, code, draw, drawNow, safe, say, view } from "./view.js";
 
+/** @typedef {import("./view.js").Editing} Editing */
+/** @typedef {import("./view.js").Refused} Refused */
+
 const RECORD = "This page is a record: nothing is edited here.";
 const WORDS = ["none", "upward", "downward", "inclusive", "exclusive"];
 const FIELDS = "DABFGN";
@@ -13,13 +16,16 @@ const after = { select: /** @type {(place: number) => void} */ (() => {}) };
 /** @param {(place: number) => void} select */
 export function selectsBy(select) { after.select = select; }
 
-/** Begins to edit a row, or a new one behind the row of an id (0: at the start, undefined: at the end). */
+/**
+ * Begins to edit a row, or a new one behind the row of an id (0: at the start, undefined: at the end).
+ * @param {"replace"|"insert"} kind @param {any} of the line of the row, or the id
+ */
 export function begin(kind, of) {
   if (!view.link.canEdit) { say(RECORD); return; }
   const isNew = kind === "insert";
   view.editing = isNew ? { kind, id: "new", after: of, text: "" } : { kind, id: of.id, was: of.text, text: of.text };
   build();
-  if (kind === "insert") view.selected = view.place.get("new");
+  if (isNew) view.selected = view.place.get("new") ?? view.selected;
   reveal();
   draw();
   requestAnimationFrame(() => {
@@ -29,9 +35,13 @@ export function begin(kind, of) {
   });
 }
 
-/** Draws the line that is edited: the field, below it a caret, why it was refused, or the instruction's spelling. */
+/**
+ * Draws the line that is edited: the field, below it a caret, why it was refused, or the instruction's spelling.
+ * @param {any} node @param {import("./view.js").Item} item
+ */
 export function paintEdit(node, item) {
   const { editing } = view, sig = `edit ${item.id}`;
+  if (!editing) return;
   if (node.sig !== sig) {
     node.sig = sig;
     node.className = "row sel";
@@ -45,32 +55,40 @@ export function paintEdit(node, item) {
     hint(node, editing.text);
   }
   const { refused, note } = editing, mark = node.querySelector(".mark"), told = node.querySelector(".told");
-  const hasCaret = Boolean(refused) && refused.at !== null && refused.at !== undefined;
+  const at = refused?.at ?? null;
   node.querySelector("input").setAttribute("aria-invalid", String(Boolean(refused)));
-  mark.hidden = !hasCaret;
+  mark.hidden = at === null;
   // The caret is text in the field's own font: no pixels are reckoned.
-  mark.textContent = hasCaret ? `${" ".repeat(Math.max(0, refused.at))}▲` : "";
+  mark.textContent = at === null ? "" : `${" ".repeat(Math.max(0, at))}▲`;
   told.hidden = !refused && !note;
   if (refused) told.innerHTML = refusedHtml(refused);
   else if (note) told.innerHTML = `<b>${code(note)}</b>`;
   node.querySelector(".spell").hidden = Boolean(refused || note);
 }
 
-/** Why a command was refused: the hint first. */
+/**
+ * Why a command was refused: the hint first.
+ * @param {Refused} refused
+ */
 export function refusedHtml(refused) {
   const head = `<b>✕ ${code(refused.hint || refused.text)}</b>`;
   return refused.hint ? `${head}<br><span class="why-so">${code(refused.text)}</span>` : head;
 }
 
+/** @param {any} node @param {string} text */
 function typed(node, text) {
   const { editing } = view;
+  if (!editing) return;
   editing.text = text;
   if (editing.refused) { editing.refused = null; lay(); }
   hint(node, text);
   draw();
 }
 
-/** Below a line stands the spelling of its instruction, or which ones Tab completes. */
+/**
+ * Below a line stands the spelling of its instruction, or which ones Tab completes.
+ * @param {any} node @param {string} text
+ */
 function hint(node, text) {
   const { table } = view.program, word = text.trimStart().split(" ")[0], kind = table.get(word);
   const near = kind ? [] : [...table.keys()].filter(name => name.includes(word)).slice(0, 6);
@@ -78,7 +96,10 @@ function hint(node, text) {
   place.textContent = kind ? [word, ...kind.operands].join(" ") : near.length ? `${near.join("   ")}   (Tab)` : "";
 }
 
-/** Completes the word at the cursor: an instruction first, then fields, sets and the words of instructions. */
+/**
+ * Completes the word at the cursor: an instruction first, then fields, sets and the words of instructions.
+ * @param {any} input
+ */
 export function complete(input) {
   const { program } = view, start = input.value.slice(0, input.selectionStart), word = start.split(" ").pop();
   const operands = [...program.fields.keys(), ...program.sets.keys(), ...WORDS];
@@ -93,7 +114,10 @@ export function complete(input) {
   input.oninput?.();
 }
 
-/** Where the first operand stands that isn't declared, for a refusal that has no column. */
+/**
+ * Where the first operand stands that isn't declared, for a refusal that has no column.
+ * @param {string} text
+ */
 function undeclared(text) {
   const { program } = view, words = text.split(" "), kind = program.table.get(words[0]);
   let at = 0;
@@ -108,8 +132,9 @@ function undeclared(text) {
 
 /** Hands over the line that is edited. One that is refused stays, with a caret and the reason below it. */
 export async function commit() {
-  const editing = view.editing, text = editing.text.trim();
-  if (editing.isAsked) return;
+  const { editing } = view;
+  if (!editing || editing.isAsked) return;
+  const text = editing.text.trim();
   if ((editing.kind === "replace" && text === editing.was && !editing.note) || !text) { cancel(); return; }
   const { kind, id, after: behind } = editing;
   const place = behind === 0 ? "start" : behind ? `after ${behind}` : "end";
@@ -118,26 +143,35 @@ export async function commit() {
   const said = await view.link.edit(head + text, kind === "replace" ? editing.was : undefined);
   editing.isAsked = false;
   if (view.editing !== editing) return;
-  if (said.refused) { refuse(editing, said, text, head); return; }
+  if (typeof said.text === "string") editing.was = said.text;
+  if (said.refused) refuse(editing, said.refused, text, head);
+  else end(kind === "insert" ? Number(/^row (\d+)$/.exec(said.reply?.[0] ?? "")?.[1]) : id);
+}
+
+/**
+ * A line was taken: it is that of a row now.
+ * @param {number|"new"} row
+ */
+function end(row) {
   view.editing = null;
   build();
-  const row = kind === "insert" ? Number(/^row (\d+)$/.exec(said.reply[0])?.[1]) : id;
   after.select(view.place.get(row) ?? view.selected);
   $("list").focus();
   drawNow();
 }
 
-function refuse(editing, said, text, head) {
-  const lead = editing.text.length - editing.text.trimStart().length, { at } = said.refused;
-  const found = at === null ? (said.refused.reply ? undeclared(text) : null) : Math.max(0, at - head.length);
-  editing.refused = { ...said.refused, at: found === null ? null : found + lead };
-  if (typeof said.text === "string") editing.was = said.text;
+/** @param {Editing} editing @param {Refused} refused @param {string} text @param {string} head */
+function refuse(editing, refused, text, head) {
+  const lead = editing.text.length - editing.text.trimStart().length, { at } = refused;
+  const found = at === null ? (refused.reply ? undeclared(text) : null) : Math.max(0, at - head.length);
+  editing.refused = { ...refused, at: found === null ? null : found + lead };
   lay();
 }
 
 /** Leaves a line as it was. */
 export function cancel() {
   const { editing } = view;
+  if (!editing) return;
   view.editing = null;
   build();
   after.select(view.place.get(editing.kind === "insert" ? editing.after : editing.id) ?? view.selected);
@@ -148,7 +182,7 @@ export function cancel() {
 export function noteOthers() {
   const { editing, program } = view;
   if (!editing || editing.kind !== "replace" || editing.isAsked) return;
-  const now = program.text.get(editing.id);
+  const now = program.text.get(Number(editing.id));
   if (now === undefined) {
     view.editing = null;
     tellGone(`Row ${editing.id} was deleted meanwhile. What was typed: ${editing.text}`);
@@ -160,6 +194,7 @@ export function noteOthers() {
   }
 }
 
+/** @param {string} text */
 function tellGone(text) {
   $("gone").hidden = false;
   $("gone").firstElementChild.textContent = text;
@@ -174,7 +209,10 @@ export async function remove() {
   if (said.refused) say(said.refused.hint || said.refused.text, true);
 }
 
-/** Changes a number of input data. A cell of one bit turns over at once. */
+/**
+ * Changes a number of input data. A cell of one bit turns over at once.
+ * @param {import("./view.js").InputItem} item @param {number} i
+ */
 export async function editCell(item, i) {
   const { program, base, nodes } = view, value = have(item.key, 0, true), width = program.width(item.key);
   if (!view.link.canEdit) { say(RECORD); return; }
@@ -186,13 +224,18 @@ export async function editCell(item, i) {
   openNumber(cell, { key: item.key, processor: i, width, base, text: spelled(value.numbers[i], width, base) });
 }
 
+/** @param {string} line */
 async function give(line) {
   const said = await view.link.edit(line);
   if (said.refused) say(said.refused.hint || said.refused.text, true);
   return !said.refused;
 }
 
-/** A field over a cell. It is given by Enter, or where one clicks elsewhere; a wrong number stays, with the reason. */
+/**
+ * A field over a cell. It is given by Enter, or where one clicks elsewhere; a wrong number stays, with the reason.
+ * @param {HTMLElement} cell
+ * @param {{key: string, processor: number, width: number, base: string, text: string}} number
+ */
 function openNumber(cell, { key, processor, width, base, text }) {
   document.querySelector(".num")?.remove();
   const box = cell.getBoundingClientRect(), input = document.createElement("input");
@@ -204,26 +247,27 @@ function openNumber(cell, { key, processor, width, base, text }) {
   input.style.top = `${box.top - 2}px`;
   input.style.width = `${Math.max(box.width + 14, 9 * view.ch)}px`;
   const close = () => { isOver = true; input.remove(); };
-  const end = async takesFocus => {
+  const isTaken = async () => {
+    const number = numberOf(input.value.trim(), width, base);
+    isAsked = true;
+    const isGiven = number !== null && await give(`input ${key} ${processor} ${number}`);
+    isAsked = false;
+    if (number === null) say(WANTED[base], true);
+    if (isGiven) say(""); else input.setAttribute("aria-invalid", "true");
+    return isGiven;
+  };
+  const leave = async (/** @type {boolean} */ takesFocus) => {
     if (isOver || isAsked) return;
-    if (input.value.trim() !== text) {
-      const number = numberOf(input.value.trim(), width, base);
-      isAsked = true;
-      const isGiven = number !== null && await give(`input ${key} ${processor} ${number}`);
-      isAsked = false;
-      if (number === null) say(WANTED[base], true);
-      if (!isGiven) { input.setAttribute("aria-invalid", "true"); return; }
-      say("");
-    }
+    if (input.value.trim() !== text && !await isTaken()) return;
     close();
     if (takesFocus) $("list").focus();
   };
   input.addEventListener("keydown", event => {
     event.stopPropagation();
-    if (event.key === "Enter") end(true);
+    if (event.key === "Enter") leave(true);
     if (event.key === "Escape") { say(""); close(); $("list").focus(); }
   });
-  input.addEventListener("blur", () => { if (document.hasFocus()) end(false); });
+  input.addEventListener("blur", () => { if (document.hasFocus()) leave(false); });
   document.body.append(input);
   input.focus();
   input.select();
@@ -231,6 +275,7 @@ function openNumber(cell, { key, processor, width, base, text }) {
 
 // Any command.
 
+/** @type {string[]} */
 const lines = [];
 let line = 0;
 
@@ -269,18 +314,21 @@ export function drawLog() {
 /** Watches the line for commands. */
 export function watchCommand() {
   const input = $("line"), told = $("refused");
-  $("command").addEventListener("submit", async event => {
+  // What is typed while a command is asked for stays.
+  const clear = (/** @type {string} */ text) => { if (input.value === text) input.value = ""; };
+  $("command").addEventListener("submit", async (/** @type {SubmitEvent} */ event) => {
     event.preventDefault();
-    if (!input.value) return;
-    lines.push(input.value);
+    const text = input.value;
+    if (!text) return;
+    lines.push(text);
     line = lines.length;
-    const said = await view.link.edit(input.value);
+    const said = await view.link.edit(text);
     told.hidden = !said.refused;
-    if (!said.refused) { input.value = ""; return; }
+    if (!said.refused) { clear(text); return; }
     const { at } = said.refused, caret = at === null ? "" : `<span class="mark">${" ".repeat(at)}▲</span>`;
     told.innerHTML = caret + refusedHtml(said.refused);
   });
-  input.addEventListener("keydown", event => {
+  input.addEventListener("keydown", (/** @type {KeyboardEvent} */ event) => {
     event.stopPropagation();
     if (event.key === "Escape") closeCommand();
     if (event.key !== "ArrowUp" && event.key !== "ArrowDown") return;

@@ -10,9 +10,18 @@ import { $, draw, isDark, isValue, keyOf, placeOf, root, rowOf, safe, say, store
 const WIDE = 1000, LEAST = 11, MOST = 24;
 const DENSITIES = ["auto", "lines", "grids"];
 const SKIPPED = new Set(["head", "note", "wrong"]);
-const isSkipped = item => SKIPPED.has(item.t) || (item.t === "rest" && view.isRecord);
+/** @typedef {import("./view.js").Item} Item */
+/**
+ * The element that an event is of.
+ * @param {Event} event @returns {any}
+ */
+const targetOf = event => event.target;
+const isSkipped = (/** @type {Item} */ item) => SKIPPED.has(item.t) || (item.t === "rest" && view.isRecord);
 
-/** Selects a line: the nearest one that can be. @param {number} place */
+/**
+ * Selects a line: the nearest one that can be.
+ * @param {number} place
+ */
 export function select(place, keepsCell = false) {
   const { items, program } = view;
   if (!items.length) return;
@@ -34,28 +43,39 @@ export function select(place, keepsCell = false) {
 }
 selectsBy(select);
 
-/** Keeps the selection on its line where lines came or went; a new row is selected. @param {any} was */
+/**
+ * Keeps the selection on its line where lines came or went; a new row is selected.
+ * @param {any} was
+ */
 export function keepSelected(was) {
   const at = was && view.place.get(was.id);
   view.selected = at ?? Math.max(0, Math.min(view.selected, view.items.length - 1));
   const fresh = view.program.fresh;
   view.program.fresh = 0;
-  if (fresh && view.place.has(fresh) && !view.editing && !view.isRecord) select(view.place.get(fresh));
+  const place = view.place.get(fresh);
+  if (fresh && place !== undefined && !view.editing && !view.isRecord) select(place);
 }
 
 /** The number at the cursor, in words. */
 export function tellCell() {
-  const item = view.items[view.selected], key = isValue(item) ? keyOf(item) : null;
-  const value = key && have(key, rowOf(item), true);
-  const isThere = value && view.cell >= 0 && view.cell < value.numbers.length;
-  const words = isThere ? told(key, rowOf(item), view.cell, value) : null;
+  const words = cellWords(view.items[view.selected], view.cell);
   $("cell").textContent = words ? `${words.head}${words.number}${words.rest.replace(/\n/g, " · ")}` : "";
 }
 
-/** The next row that has a mark. @param {number} step */
+/** @param {Item|undefined} item @param {number} cell */
+function cellWords(item, cell) {
+  if (!isValue(item) || cell < 0) return null;
+  const key = keyOf(item), value = key && have(key, rowOf(item), true);
+  return value && cell < value.numbers.length ? told(key, rowOf(item), cell, value) : null;
+}
+
+/**
+ * The next row that has a mark.
+ * @param {number} step
+ */
 function next(step) {
   const { items, program, selected } = view, count = items.length;
-  const hasMark = item => item.t === "row" &&
+  const hasMark = (/** @type {Item} */ item) => item.t === "row" &&
     (program.faults.has(item.id) || program.unsettled.has(item.id) || program.changedRows.has(item.id));
   for (let k = 1; k <= count; k++) {
     const i = (selected + step * k + count * 2) % count;
@@ -64,7 +84,10 @@ function next(step) {
   say("No row has a mark.");
 }
 
-/** Goes to a row, 0 being the input data of a key. */
+/**
+ * Goes to a row, 0 being the input data of a key.
+ * @param {number} row @param {string} [key]
+ */
 export function goTo(row, key) {
   const place = view.place.get(row || `in ${key}`);
   if (place !== undefined) select(place);
@@ -76,7 +99,10 @@ function goToWriter() {
   if (key) goTo(view.program.writer(key, placeOf(item) - 1), key);
 }
 
-/** Has something done that isn't an edit. @param {string} name @param {any} [body] */
+/**
+ * Has something done that isn't an edit.
+ * @param {string} name @param {any} [body]
+ */
 export async function act(name, body) {
   if (view.program.isFollowed && name !== "restart") {
     say("An edit is taken back in the text of the file.");
@@ -90,22 +116,30 @@ const turnWork = () => view.isRecord ? undefined : act(view.program.state.on ? "
 /** Has all that is in view drawn anew. */
 export function redraw() { forgetDrawn(); forgetPanel(); }
 
+/** @param {string} theme */
 function setTheme(theme) {
   root.dataset.theme = theme;
   redraw();
   draw();
 }
 function turnTheme() {
-  setTheme(isDark() ? "light" : "dark");
-  store.set("theme", root.dataset.theme);
+  const theme = isDark() ? "light" : "dark";
+  setTheme(theme);
+  store.set("theme", theme);
 }
-/** Sets the size of letters in pixels, which all heights follow. @param {number} size */
+/**
+ * Sets the size of letters in pixels, which all heights follow.
+ * @param {number} size
+ */
 function setSize(size) {
   view.size = Math.max(LEAST, Math.min(MOST, size));
   root.style.setProperty("--u", `${view.size}px`);
   root.style.setProperty("--lh", `${Math.round(view.size * 1.7)}px`);
 }
-/** Makes all larger or smaller. @param {number} by */
+/**
+ * Makes all larger or smaller.
+ * @param {number} by
+ */
 function resize(by) {
   setSize(view.size + by);
   store.set("size", String(view.size));
@@ -125,7 +159,10 @@ function turnDensity() {
   lay();
 }
 
-/** Looks for rows by the words of the filter. */
+/**
+ * Looks for rows by the words of the filter.
+ * @param {string} text
+ */
 export function find(text) {
   const was = view.items[view.selected];
   $("filter").value = view.filter = text;
@@ -134,6 +171,7 @@ export function find(text) {
   select(view.selected);
 }
 
+/** @param {number} by */
 function moveCell(by) {
   const item = view.items[view.selected], key = isValue(item) && keyOf(item);
   if (!key) return;
@@ -156,10 +194,11 @@ function enter() {
   }
 }
 
+/** @param {boolean} isAbove */
 function insert(isAbove) {
   const item = view.items[view.selected], { program } = view;
   if (item?.t !== "row") { begin("insert", isAbove ? 0 : undefined); return; }
-  const place = program.at.get(item.id);
+  const place = placeOf(item);
   begin("insert", !isAbove ? item.id : place > 0 ? program.ids[place - 1] : 0);
 }
 
@@ -169,8 +208,9 @@ function escape() {
 }
 
 const page = () => Math.max(1, Math.floor($("list").clientHeight / view.lh) - 2);
-const move = by => select(view.selected + by, view.cell >= 0 && Math.abs(by) === 1);
-/** @type {Object<string, () => void>} */
+const move = (/** @type {number} */ by) => select(view.selected + by, view.cell >= 0 && Math.abs(by) === 1);
+/** @typedef {Object<string, () => void>} Keys what each of them does */
+/** @type {Keys} */
 const KEYS = {
   ArrowDown: () => move(1), j: () => move(1), ArrowUp: () => move(-1), k: () => move(-1),
   PageDown: () => move(page()), PageUp: () => move(-page()),
@@ -183,8 +223,9 @@ const KEYS = {
   "?": () => $("sheet").showModal(), Escape: escape,
 };
 
+/** @param {KeyboardEvent} event */
 function pressed(event) {
-  const { target, key } = event;
+  const { key } = event, target = targetOf(event);
   if (target.matches("input, textarea")) { if (target === $("filter")) pressedInFilter(event); return; }
   if ($("sheet").open || !view.program) return;
   const isControl = event.ctrlKey || event.metaKey, letter = key.toLowerCase();
@@ -206,15 +247,18 @@ function pressed(event) {
   KEYS[key]();
 }
 
+/** @param {KeyboardEvent} event */
 function pressedInFilter(event) {
   if (event.key === "Escape") { find(""); $("list").focus(); }
   if (event.key === "Enter" || event.key === "ArrowDown") { event.preventDefault(); $("list").focus(); }
 }
 
+/** @param {KeyboardEvent} event */
 function pressedInLine(event) {
-  if (!view.editing || !event.target.closest(".edit")) return;
+  const target = targetOf(event);
+  if (!view.editing || !target.closest(".edit")) return;
   event.stopPropagation();
-  const keys = { Enter: commit, Escape: cancel, Tab: () => complete(event.target) };
+  const keys = /** @type {Keys} */ ({ Enter: commit, Escape: cancel, Tab: () => complete(target) });
   if (!Object.hasOwn(keys, event.key) || (event.key === "Tab" && event.shiftKey)) return;
   event.preventDefault();
   keys[event.key]();
@@ -222,10 +266,11 @@ function pressedInLine(event) {
 
 // The pointer.
 
+/** @param {MouseEvent} event */
 function clickedList(event) {
-  const item = itemAt(event.target);
-  if (!item || event.target.closest("input")) return;
-  const place = view.place.get(item.id), isAgain = place === view.selected, i = cellAt(event, item);
+  const target = targetOf(event), item = itemAt(target);
+  if (!item || target.closest("input")) return;
+  const place = view.place.get(item.id) ?? 0, isAgain = place === view.selected, i = cellAt(event, item);
   if (view.editing && view.editing.id !== item.id) cancel();
   select(view.place.get(item.id) ?? place);
   if (item.t === "rest") { enter(); return; }
@@ -242,9 +287,12 @@ function clickedList(event) {
   draw();
 }
 
-/** The processor that the pointer is at in a line, or null. */
+/**
+ * The processor that the pointer is at in a line, or null.
+ * @param {MouseEvent} event @param {Item} item
+ */
 function cellAt(event, item) {
-  const { target } = event;
+  const target = targetOf(event);
   if (target.dataset?.i !== undefined) return Number(target.dataset.i);
   if (!isValue(item)) return null;
   const x = event.offsetX / target.clientWidth, y = event.offsetY / target.clientHeight;
@@ -256,11 +304,15 @@ function cellAt(event, item) {
   return Math.min(count - 1, Math.max(0, Math.floor(x * count)));
 }
 
-/** What the buttons of the panel do with the selected row. */
+/**
+ * What the buttons of the panel do with the selected row.
+ * @type {Object<string, (item: Item) => void>}
+ */
 const rowActs = { edit: item => begin("replace", item), new: () => insert(false), delete: remove };
 
+/** @param {MouseEvent} event */
 function clickedPanel(event) {
-  const { target } = event, item = view.items[view.selected];
+  const target = targetOf(event), item = view.items[view.selected];
   if (target.dataset.act !== undefined) {
     document.body.classList.remove("sheet");
     rowActs[target.dataset.act](item);
@@ -275,12 +327,15 @@ function clickedPanel(event) {
   if (item.t === "in") editCell(item, spot.i);
 }
 
-/** The key, the row and the processor that the pointer is at, in a line or in the panel. */
+/**
+ * The key, the row and the processor that the pointer is at, in a line or in the panel.
+ * @param {MouseEvent} event
+ */
 function spotOf(event) {
-  const { target } = event, item = itemAt(target);
+  const target = targetOf(event), item = itemAt(target);
   if (item) {
     const i = cellAt(event, item);
-    return i === null ? null : { key: keyOf(item), row: rowOf(item), i };
+    return i === null || !isValue(item) ? null : { key: keyOf(item), row: rowOf(item), i };
   }
   const table = target.closest?.("table");
   if (table && target.dataset?.i !== undefined) {
@@ -296,8 +351,12 @@ function spotOf(event) {
   return { key, row: Number(row), i: Math.min(count - 1, Math.max(0, y * target.width + x)) };
 }
 
-let waiting = 0;
-/** Any number that the pointer is at, with its processor, its row, and what it was before the edit. */
+/** @type {ReturnType<typeof setTimeout>|undefined} */
+let waiting;
+/**
+ * Any number that the pointer is at, with its processor, its row, and what it was before the edit.
+ * @param {MouseEvent} event
+ */
 function pointed(event) {
   const tip = $("tip"), spot = view.program ? spotOf(event) : null;
   clearTimeout(waiting);
@@ -306,7 +365,7 @@ function pointed(event) {
     waiting = setTimeout(async () => { await ensure([[spot.key, spot.row, true]]); pointed(event); }, 60);
   }
   tip.hidden = !value || value.numbers[spot.i] === undefined;
-  if (tip.hidden) return;
+  if (!spot || !value || tip.hidden) return;
   const words = told(spot.key, spot.row, spot.i, value);
   tip.innerHTML = `${safe(words.head)}<b>${safe(words.number)}</b>${safe(words.rest)}`;
   const box = tip.getBoundingClientRect(), below = event.clientY + 18;
@@ -314,11 +373,12 @@ function pointed(event) {
   tip.style.top = `${below + box.height > innerHeight ? event.clientY - box.height - 10 : below}px`;
 }
 
+/** @param {MouseEvent} event */
 function clickedNotice(event) {
-  const what = event.target.dataset.do, { program } = view;
+  const what = targetOf(event).dataset.do, { program } = view;
   if (what === "next") {
     const ids = [...program.faults.keys()], now = view.items[view.selected]?.id;
-    goTo(ids[(ids.indexOf(now) + 1) % ids.length]);
+    goTo(ids[(ids.indexOf(Number(now)) + 1) % ids.length]);
   }
   if (what === "only") find(view.filter === ":refused" ? "" : ":refused");
   if (what === "pen" || what === "restart") act(what);
@@ -332,13 +392,16 @@ export function watch() {
   document.addEventListener("pointermove", pointed);
   list.addEventListener("scroll", () => { $("tip").hidden = true; draw(); }, { passive: true });
   list.addEventListener("click", clickedList);
-  list.addEventListener("dblclick", event => {
+  list.addEventListener("dblclick", (/** @type {MouseEvent} */ event) => {
     const item = view.items[view.selected];
-    if (item?.t === "row" && event.target.closest(".instr")) begin("replace", item);
+    if (item?.t === "row" && targetOf(event).closest(".instr")) begin("replace", item);
   });
   $("inspect").addEventListener("click", clickedPanel);
   $("notice").addEventListener("click", clickedNotice);
-  $("gone").addEventListener("click", event => { if (event.target.matches("button")) $("gone").hidden = true; });
+  const closeGone = (/** @type {MouseEvent} */ event) => {
+    if (targetOf(event).matches("button")) $("gone").hidden = true;
+  };
+  $("gone").addEventListener("click", closeGone);
   $("filter").addEventListener("input", () => find($("filter").value));
   const clicks = {
     undo: () => act("undo"), redo: () => act("redo"), go: turnWork, theme: turnTheme,

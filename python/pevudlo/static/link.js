@@ -39,16 +39,24 @@ export function unpack(buffer, from, count) {
   return found;
 }
 
+/** @type {Object<number, any>} how numbers of so many bytes are held */
+const KINDS = { 1: Uint8Array, 2: Uint16Array, 4: Uint32Array, 8: BigUint64Array };
+
+/** @param {ArrayBuffer} buffer @param {number} at @param {number} length @param {number} size */
 function numbersAt(buffer, at, length, size) {
   if (size === 16) {
     const words = new BigUint64Array(buffer, at, 2 * length);
     return Array.from({ length }, (_, i) => words[2 * i] | words[2 * i + 1] << 64n);
   }
-  const Kind = { 1: Uint8Array, 2: Uint16Array, 4: Uint32Array, 8: BigUint64Array }[size];
-  return new Kind(buffer, at, length);
+  return new KINDS[size](buffer, at, length);
 }
 
+/**
+ * @param {ArrayBuffer} buffer @param {DataView} view @param {number} at @param {number} length @param {number} all
+ * @returns {Piece}
+ */
 function stripAt(buffer, view, at, length, all) {
+  /** @param {number} from */
   const number = from => view.getBigUint64(from, true) | view.getBigUint64(from + 8, true) << 64n;
   const count = view.getUint32(at + 36, true), flags = new Uint8Array(buffer, at + ENDS + 3 * length, length);
   const changed = new Set();
@@ -75,13 +83,19 @@ class Requests {
     news.addEventListener("error", () => this.broken(news.readyState === EventSource.CLOSED));
   }
 
-  /** What is asked for, by a name and numbers. @param {string} name @param {Object<string, number>} numbers */
+  /**
+   * What is asked for, by a name and numbers.
+   * @param {string} name @param {Object<string, number>} numbers
+   */
   async get(name, numbers) {
     const query = Object.entries(numbers).map(each => each.join("=")).join("&");
     return (await fetch(`${name}?${query}`, { cache: "no-store" })).text();
   }
 
-  /** The answer to a post: a text, or bytes, or null where it is too long. @param {string} name @param {any} body */
+  /**
+   * The answer to a post: a text, or bytes, or null where it is too long.
+   * @param {string} name @param {any} body
+   */
   async post(name, body) {
     const headers = { "Content-Type": "application/json" };
     const answer = await fetch(name, { method: "POST", headers, body: JSON.stringify(body) });
@@ -99,10 +113,14 @@ class Wire {
     this.marks = 0;
     /** @type {Map<number, {answer: (data: any) => void, fail: (why: any) => void}>} */
     this.asked = new Map();
+    this.socket = socket;
     this.use(socket);
   }
 
-  /** An open socket, or null where none can be had soon. @returns {Promise<WebSocket|null>} */
+  /**
+   * An open socket, or null where none can be had soon.
+   * @returns {Promise<WebSocket|null>}
+   */
   static open() {
     if (!window.WebSocket) return Promise.resolve(null);
     return new Promise(go => {
@@ -178,17 +196,20 @@ export class Served {
     this.bytes = { text: 0, binary: 0, messages: 0 };
     // By its name a session knows which tab edits.
     this.tab = [...crypto.getRandomValues(new Uint32Array(4))].map(word => word.toString(36)).join("");
+    /** @type {Requests|Wire} */
+    this.wire = new Requests(this.hearVersion, this.hearBroken);
   }
+
+  /** @param {number} version the one that the server has */
+  hearVersion = version => { this.told = version; if (version > this.seen) this.refresh(); };
+  /** @param {boolean} isOver where nobody answers what is asked then, the server has ended */
+  hearBroken = isOver => { if (isOver) this.lost(); else this.refresh(); };
   get canEdit() { return true; }
 
   /** Begins with a socket, or with requests where there is none. */
   async start() {
-    const told = version => { this.told = version; if (version > this.seen) this.refresh(); };
-    // Where nobody answers what is asked then, the server has ended.
-    const broken = isOver => { if (isOver) this.lost(); else this.refresh(); };
     const socket = await Wire.open();
-    /** @type {Requests|Wire} */
-    this.wire = socket ? new Wire(socket, told, broken) : new Requests(told, broken);
+    if (socket) this.wire = new Wire(socket, this.hearVersion, this.hearBroken);
     this.wire.begin();
     await this.refresh();
   }
@@ -226,6 +247,7 @@ export class Served {
     if (isThere && !this.out && this.told > this.seen) this.refresh();
   }
 
+  /** @param {"text"|"binary"} kind @param {number} length */
   count(kind, length) { this.bytes[kind] += length; this.bytes.messages++; }
 
   /**
@@ -264,7 +286,10 @@ export class Served {
     } catch { this.lost(); return null; }
   }
 
-  /** The edit that touched a row last. @param {number} row */
+  /**
+   * The edit that touched a row last.
+   * @param {number} row
+   */
   async since(row) {
     try {
       return JSON.parse(await this.wire.get("since", { row })).line || "";
@@ -297,16 +322,20 @@ export class Embedded {
     this.go(moments.length - 1);
   }
 
+  /** @param {News} news */
   hear(news) {
     this.seen = this.told = news.version;
     this.edits = news.edits;
     this.heard(news);
   }
 
-  /** Shows a moment. Nothing that was shown of another one stays. @param {number} to */
+  /**
+   * Shows a moment. Nothing that was shown of another one stays.
+   * @param {number} to
+   */
   go(to) {
     const { moments } = this.data, moment = moments[to];
-    const declared = moments.slice(0, to + 1).reverse().find(each => each.sets);
+    const declared = moments.slice(0, to + 1).reverse().find((/** @type {any} */ each) => each.sets);
     this.moment = to;
     const open = new Set(unrolled(moment.un)), ids = unrolled(moment.order);
     const done = ids.filter(id => !open.has(id)).flatMap(id => [id, id]);
@@ -316,7 +345,10 @@ export class Embedded {
     });
   }
 
-  /** Where a value stands in a moment, or undefined. @param {number} to @param {string} key @param {number} row */
+  /**
+   * Where a value stands in a moment, or undefined.
+   * @param {number} to @param {string} key @param {number} row
+   */
   place(to, key, row) {
     const name = `${key}@${row}`;
     for (let i = to; i >= 0; i--) {
@@ -326,7 +358,10 @@ export class Embedded {
     return undefined;
   }
 
-  /** What a row left in the moment before, where it was settled then. @param {string} key @param {number} row */
+  /**
+   * What a row left in the moment before, where it was settled then.
+   * @param {string} key @param {number} row
+   */
   before(key, row) {
     const to = this.moment - 1;
     if (to < 0 || unrolled(this.data.moments[to].un).includes(row)) return undefined;
@@ -353,7 +388,7 @@ export class Embedded {
     const isScaled = was.low === value.low && was.high === value.high;
     const count = value.numbers.length / 3, changed = new Set();
     for (let i = 0; i < count; i++) {
-      const isOther = part => value.numbers[part * count + i] !== was.numbers[part * count + i];
+      const isOther = (/** @type {number} */ part) => value.numbers[part * count + i] !== was.numbers[part * count + i];
       if (!isScaled || isOther(0) || isOther(1) || isOther(2)) changed.add(i);
     }
     return { ...value, changed: changed.size ? changed : null, count: changed.size ? -1 : 0 };

@@ -3,18 +3,28 @@ import { digitsOf, grouped, shape } from "./draw.js";
 import { $, draw, keyOf, root, view } from "./view.js";
 
 const WIDE = 1000, NARROW = 720, MOST_LETTERS = 52, LEAST_LETTERS = 26, MOST_MAPPED = 1024, MOST_GRIDS = 120;
+/** @typedef {import("./view.js").Item} Item */
+/**
+ * How the values of a key stand in a line: as `shape` has them, or as a small map.
+ * @typedef {ReturnType<typeof shape> & {isGrid?: boolean, isMap?: boolean, pixels: number, across: number}} Form
+ */
+/** @type {Map<string, Form>} */
 const shapes = new Map();
-let widest = { text: null, size: -1, most: LEAST_LETTERS };
+let widest = { text: /** @type {Map<number, string>|null} */ (null), size: -1, most: LEAST_LETTERS };
 /** @type {{id: any, off: number}|null} the first line in view, which stays where it is when something above it grows */
 let anchor = null;
 
+/** @type {Object<string, (id: number) => boolean>} */
 const rowTests = {
   ":refused": id => view.program.faults.has(id),
   ":unsettled": id => view.program.unsettled.has(id),
   ":changed": id => view.program.changedRows.has(id),
 };
 
-/** Whether a row is one that a word of the filter looks for. @param {number} id @param {string} word */
+/**
+ * Whether a row is one that a word of the filter looks for.
+ * @param {number} id @param {string} word
+ */
 function isFound(id, word) {
   const text = view.program.text.get(id) ?? "", [what, key] = word.split(":");
   if (rowTests[word]) return rowTests[word](id);
@@ -29,7 +39,7 @@ export function build() {
   for (const id of program.ids) {
     if (!words.every(word => isFound(id, word))) continue;
     if (!words.length) found.push(...commentsOf(id));
-    found.push({ t: "row", id, text: program.text.get(id) }, ...(notes.get(id) || []));
+    found.push({ t: "row", id, text: program.text.get(id) ?? "" }, ...(notes.get(id) || []));
   }
   found.push(...(notes.get(-1) || []));
   const { editing } = view;
@@ -43,9 +53,11 @@ export function build() {
   lay();
 }
 
+/** @param {string} id @param {string} text @returns {Item} */
 const noteLine = (id, text) => ({ t: "note", id, text });
+/** @param {number} id @returns {Item[]} */
 function commentsOf(id) {
-  const texts = view.program.script.comments[id] || [];
+  const texts = /** @type {string[]} */ (view.program.script.comments[id] || []);
   return texts.map((text, i) => noteLine(`comment ${id} ${i}`, text));
 }
 
@@ -59,6 +71,7 @@ function notesByPlace() {
   return found;
 }
 
+/** @param {any} note @returns {Item} */
 function noteItem(note) {
   const id = `line ${note.number}`;
   const { kind, number, key, place } = note;
@@ -69,10 +82,10 @@ function noteItem(note) {
 
 /** The lines above the rows: input data, and the fields that begin with 0. */
 function beginning() {
-  const { program } = view, given = new Set(program.given), found = [];
+  const { program } = view, given = new Set(program.given), found = /** @type {Item[]} */ ([]);
   const rest = [...program.fields.keys()].filter(key => !given.has(key));
   const { intro, left } = program.script;
-  intro.forEach((text, i) => found.push(noteLine(`intro ${i}`, text)));
+  intro.forEach((/** @type {string} */ text, /** @type {number} */ i) => found.push(noteLine(`intro ${i}`, text)));
   if (left) found.push(noteLine("left", left));
   if (!program.sets.size) {
     const text = view.isRecord ? "Nothing is declared" : "A new program";
@@ -91,19 +104,24 @@ function beginning() {
   return found;
 }
 const HINT = "it begins with commands: press : and type set S 4, then field a S 8";
+/** @param {string[]} keys */
 function restWords(keys) {
   if (keys.length > 14) return `${keys.length} fields begin with 0`;
   return `${keys.join(", ")} ${keys.length > 1 ? "begin" : "begins"} with 0`;
 }
 
-/** How the values of a key stand in a line. @param {string} key */
+/**
+ * How the values of a key stand in a line.
+ * @param {string} key @returns {Form}
+ */
 export function form(key) {
   const { program, base, room, isGrid, isNarrow, ch } = view, seen = program.digits.get(program.columns(key)) || 0;
   const name = `${key} ${seen} ${base} ${room} ${isGrid} ${program.era} ${program.processors(key)}`;
   let found = shapes.get(name);
   if (found) return found;
   const width = program.width(key), axes = program.axes(key), count = program.processors(key);
-  found = shape(count, axes, width, digitsOf(width, base, seen), room, ch, isNarrow ? 8 : 2);
+  const digits = digitsOf(width, base, seen);
+  found = { ...shape(count, axes, width, digits, room, ch, isNarrow ? 8 : 2), pixels: 0, across: 0 };
   if (isGrid && axes.length > 1 && count <= MOST_MAPPED && axes[0] * found.cell <= room) {
     found = { ...found, isStrip: false, isGrid: true, per: axes[0], lines: count / axes[0] };
   } else if (isFlat(axes, count) && (found.isStrip || found.lines > 1 || width === 1)) {
@@ -113,21 +131,28 @@ export function form(key) {
   shapes.set(name, found);
   return found;
 }
+/** @param {number[]} axes @param {number} count */
 const isFlat = (axes, count) => axes.length > 1 && axes[0] <= 64 && count / axes[0] <= 64 && count <= MOST_MAPPED;
 
-/** A small map of a set of two axes: some pixels a cell, as high as a line and a half. */
+/**
+ * A small map of a set of two axes: some pixels a cell, as high as a line and a half.
+ * @param {Form} found @param {number[]} axes @param {number} count @returns {Form}
+ */
 function mapped(found, axes, count) {
   const { lh } = view, down = count / axes[0], pixels = Math.max(2, Math.floor((lh * 1.5 - 1) / down));
   const lines = Math.max(1.5, Math.ceil((pixels * down + 1) / lh * 2) / 2);
   return { ...found, isStrip: true, isMap: true, pixels, across: axes[0], lines };
 }
 
-/** How many lines of the list an item takes. */
+/**
+ * How many lines of the list an item takes.
+ * @param {Item} item
+ */
 function linesOf(item) {
   const { editing, isNarrow } = view;
   if (editing && editing.id === item.id) {
     const { refused, note } = editing;
-    return refused || note ? Math.max(4.6, toldLines(refused ?? { hint: "", text: note })) : 2;
+    return refused || note ? Math.max(4.6, toldLines(refused ?? { hint: "", text: note ?? "" })) : 2;
   }
   if (item.t === "note") return textLines(item.text, $("list").clientWidth - (isNarrow ? 20 : 10 * view.ch), LETTER);
   if (item.t === "wrong") return Math.max(3.8, toldLines(item.refused));
@@ -136,11 +161,17 @@ function linesOf(item) {
   return (key ? form(key).lines : 1) + (isNarrow ? 1 : 0);
 }
 
-/** How many lines a text takes, about: its letters are so wide, as parts of one of the program. */
+/**
+ * How many lines a text takes, about: its letters are so wide, as parts of one of the program.
+ * @param {string} text @param {number} wide @param {number} letter
+ */
 const textLines = (text, wide, letter) => Math.max(1, Math.ceil(text.length * view.ch * letter / Math.max(100, wide)));
 const LETTER = 0.86, BOLD_LETTER = 0.94;
 
-/** How many lines a line of the program takes that is refused: itself, its caret, the hint and the fault's text. */
+/**
+ * How many lines a line of the program takes that is refused: itself, its caret, the hint and the fault's text.
+ * @param {{hint: string, text: string}} refused
+ */
 function toldLines({ hint, text }) {
   const wide = $("list").clientWidth - 10 * view.ch, bold = textLines(hint || text, wide, BOLD_LETTER);
   return 1.9 + bold + (hint ? textLines(text, wide, LETTER) : 0);
@@ -173,7 +204,10 @@ function longest() {
   return widest.most;
 }
 
-/** How many letters the values would have where they have room. @param {number} wide pixels */
+/**
+ * How many letters the values would have where they have room.
+ * @param {number} wide pixels
+ */
 function wanted(wide) {
   const { program, base, ch } = view;
   let most = 0;
@@ -203,12 +237,15 @@ export function lay() {
   const below = innerWidth <= WIDE ? innerHeight * 0.46 : view.lh * 2;
   $("space").style.height = `${tops[items.length] + below}px`;
   const now = anchor && view.place.get(anchor.id);
-  if (now !== undefined && now !== null && list.scrollTop > 0) list.scrollTop = tops[now] + anchor.off;
+  if (anchor && now !== undefined && now !== null && list.scrollTop > 0) list.scrollTop = tops[now] + anchor.off;
   list.setAttribute("aria-rowcount", String(items.length));
   draw();
 }
 
-/** The line at a height. @param {number} y */
+/**
+ * The line at a height.
+ * @param {number} y
+ */
 export function indexAt(y) {
   const { tops, items } = view;
   let low = 0, high = items.length;
@@ -231,7 +268,10 @@ export function inView() {
   return { from: indexAt(scrolled - lh * 3), to: Math.min(items.length, last + 1), scrolled };
 }
 
-/** Remembers the first line in view. @param {number} scrolled how far the list is scrolled */
+/**
+ * Remembers the first line in view.
+ * @param {number} scrolled how far the list is scrolled
+ */
 export function hold(scrolled) {
   const top = indexAt(scrolled), item = view.items[top];
   anchor = item ? { id: item.id, off: scrolled - view.tops[top] } : null;
@@ -247,7 +287,10 @@ export function reveal() {
   hold(list.scrollTop);
 }
 
-/** Whether a line of the list is as high as before, where its text is another. */
+/**
+ * Whether a line of the list is as high as before, where its text is another.
+ * @param {number} place
+ */
 export function isSameHeight(place) {
   const { tops, items, lh } = view;
   return Math.abs(tops[place + 1] - tops[place] - linesOf(items[place]) * lh) < 0.01;

@@ -11,9 +11,13 @@ import { drawRows, faultWords } from "./rows.js";
 import { ensure, ensureAll, hasAll, isIdle, needs } from "./values.js";
 import { $, code, draw, drawNow, drawsBy, fill, isSaying, isValue, keyOf, safe, view } from "./view.js";
 
+/** @typedef {import("./model.js").Program["state"]} State */
 const RESTS = 120, SMALL = 1024, MOST_PRINTED = 2000;
 
-/** Takes in what is new of the program. @param {any} news */
+/**
+ * Takes in what is new of the program.
+ * @param {any} news
+ */
 function heard(news) {
   if (news.hello !== undefined && !view.program) { began(news); return; }
   view.isLost = false;
@@ -29,6 +33,7 @@ function heard(news) {
   if (moved.isEdit) drawNow(); else { ask(); draw(); }
 }
 
+/** @param {import("./model.js").News} news */
 function began(news) {
   view.program = new Program(news);
   document.title = `${news.hello} · Pevudlo`;
@@ -41,7 +46,10 @@ function began(news) {
   ask();
 }
 
-/** A moment of a script: its lines stand between the rows. @param {any} news */
+/**
+ * A moment of a script: its lines stand between the rows.
+ * @param {any} news
+ */
 function showMoment(news) {
   const { data } = view.link, { notes, comments, said } = news;
   view.program.script = { notes, comments, said, intro: data.intro, left: data.left };
@@ -57,15 +65,19 @@ function showMoments() {
   document.body.classList.add("record");
   if (moments.length < 2) return;
   place.hidden = false;
-  const buttons = moments.map(({ title }, i) => `<button data-moment="${i}">${i + 1} ${safe(title)}</button>`);
+  const titles = /** @type {string[]} */ (moments.map((/** @type {{title: string}} */ { title }) => title));
+  const buttons = titles.map((title, i) => `<button data-moment="${i}">${i + 1} ${safe(title)}</button>`);
   place.innerHTML = `<span>Moments:</span>${buttons.join("")}`;
-  place.addEventListener("click", event => {
-    const { moment } = event.target.dataset;
+  place.addEventListener("click", (/** @type {any} */ { target }) => {
+    const { moment } = target.dataset;
     if (moment !== undefined) view.link.go(Number(moment));
   });
 }
 
-/** Lines whose text alone is another: the rest stays as it is. @param {number[]} ids */
+/**
+ * Lines whose text alone is another: the rest stays as it is.
+ * @param {number[]} ids
+ */
 function renew(ids) {
   let isSame = true;
   for (const id of ids) {
@@ -86,10 +98,14 @@ async function ask() {
   if (came.hasGrown) lay();
   draw();
 }
+/** @type {import("./view.js").Item[]} */
 let drawn = [];
 let rested = { id: /** @type {any} */ (null), since: 0 };
 
-/** Whether a line has been selected for a while: who goes along many lines wants no whole value of each. */
+/**
+ * Whether a line has been selected for a while: who goes along many lines wants no whole value of each.
+ * @param {import("./view.js").ValueItem} item
+ */
 function isResting(item) {
   const now = performance.now();
   if (rested.id !== item.id) { rested = { id: item.id, since: now }; setTimeout(draw, RESTS + 10); }
@@ -112,6 +128,7 @@ function render() {
 }
 let drawnVersion = 0;
 
+/** @param {number} count @param {string} word */
 const plural = (count, word) => `${grouped(count)} ${word}${count === 1 ? "" : "s"}`;
 
 function drawBar() {
@@ -123,7 +140,7 @@ function drawBar() {
   progress.firstElementChild.style.width = total ? `${100 * (total - open) / total}%` : "100%";
   progress.setAttribute("aria-valuemax", String(total));
   progress.setAttribute("aria-valuenow", String(total - open));
-  for (const id of ["undo", "redo"]) {
+  for (const id of /** @type {["undo", "redo"]} */ (["undo", "redo"])) {
     $(id).disabled = !state[id];
     $(id).title = state[id] ? `${id}: ${state[id]}` : "";
   }
@@ -134,6 +151,7 @@ function drawBar() {
   $("late").textContent = [state.thrown?.[0], dropped].filter(Boolean).join(" ");
 }
 
+/** @param {number} total @param {number} open @param {State} state */
 function stateHtml(total, open, state) {
   if (!total) return "no rows";
   const running = state.out ? `, ${state.out} run now` : state.on ? "" : ", stopped";
@@ -143,7 +161,10 @@ function stateHtml(total, open, state) {
   return total === 1 ? "✓ the one row is settled" : `✓ all <b>${grouped(total)}</b> rows settled`;
 }
 
-/** The last edit, and what it changed or touched. */
+/**
+ * The last edit, and what it changed or touched.
+ * @param {number} open
+ */
 function saidHtml(open) {
   const { program } = view, { line, changedRows, touched, script } = program;
   if (view.isRecord) {
@@ -157,6 +178,7 @@ function saidHtml(open) {
   return `<code>${safe(line.slice(0, 60))}</code>${words}`;
 }
 
+/** @param {State} state */
 function drawHistory(state) {
   const history = $("history");
   history.hidden = !state.of;
@@ -185,13 +207,15 @@ function noticeHtml() {
     `<span>row ${first[0]}: ${code(faultWords(first))}</span>${ACTS}`;
 }
 
-/** Of a script the lines that were refused. */
+/**
+ * Of a script the lines that were refused.
+ * @param {import("./model.js").Step[]} log
+ */
 function badLines(log) {
-  const bad = log.filter(step => step.refused && step.number);
-  if (!bad.length || view.program.edits) return "";
-  const [{ number, refused }] = bad;
+  const bad = log.filter(step => step.refused && step.number), refused = bad[0]?.refused;
+  if (!refused || view.program.edits) return "";
   const words = `${plural(bad.length, "line")} of the script ${bad.length === 1 ? "was" : "were"} refused`;
-  return `<b>✕ ${words}</b><span>line ${number}: ${code(refused.hint || refused.text)}</span>`;
+  return `<b>✕ ${words}</b><span>line ${bad[0].number}: ${code(refused.hint || refused.text)}</span>`;
 }
 
 function drawNotice() {

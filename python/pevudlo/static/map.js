@@ -19,6 +19,7 @@ export function drawMap() {
   paint.fillRect(0, view.tops[view.selected] * scale, WIDE, 1.5);
 }
 
+/** @param {CanvasRenderingContext2D} paint @param {HTMLElement} list @param {number} scale */
 function drawWindow(paint, list, scale) {
   const top = list.scrollTop * scale, tall = Math.max(6, list.clientHeight * scale);
   paint.fillStyle = css("--sel-soft");
@@ -27,7 +28,10 @@ function drawWindow(paint, list, scale) {
   paint.strokeRect(0.5, top + 0.5, WIDE - 1, tall - 1);
 }
 
-/** What marks a line has. @param {import("./model.js").Program} program */
+/**
+ * What marks a line has.
+ * @param {import("./model.js").Program} program @param {import("./view.js").Item} item
+ */
 function markOf({ unsettled, faults, changedRows }, item) {
   const isChanged = changedRows.has(item.id);
   if (item.t !== "row") return isChanged ? "changed" : "";
@@ -36,6 +40,7 @@ function markOf({ unsettled, faults, changedRows }, item) {
   return isChanged ? "changed" : "";
 }
 
+/** @param {CanvasRenderingContext2D} paint @param {number} scale */
 function drawMarks(paint, scale) {
   const { items, tops, lh, program } = view, isMany = items.length > MANY, tall = Math.max(1, Math.min(lh * scale, 4));
   let last = -1, before = "";
@@ -49,6 +54,10 @@ function drawMarks(paint, scale) {
   }
 }
 
+/**
+ * @param {CanvasRenderingContext2D} paint @param {string} mark @param {number} y @param {number} tall
+ * @param {boolean} isRow
+ */
 function drawMark(paint, mark, y, tall, isRow) {
   if (mark.startsWith("open")) {
     paint.fillStyle = css("--open");
@@ -73,12 +82,12 @@ function drawMark(paint, mark, y, tall, isRow) {
 /** A click on the map, or a drag along it, scrolls the list. */
 export function watchMap() {
   const map = $("map"), list = $("list");
-  const go = event => {
+  const go = (/** @type {PointerEvent} */ event) => {
     const end = Math.max(view.tops[view.items.length], list.clientHeight);
     list.scrollTop = event.offsetY / map.clientHeight * end - list.clientHeight / 2;
     draw();
   };
-  map.addEventListener("pointerdown", event => {
+  map.addEventListener("pointerdown", (/** @type {PointerEvent} */ event) => {
     map.setPointerCapture(event.pointerId);
     go(event);
     map.onpointermove = go;

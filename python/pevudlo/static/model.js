@@ -47,7 +47,7 @@ export class Program {
     this.name = news.hello;
     this.isFollowed = Boolean(news.followed);
     /** @type {Map<string, Instruction>} */
-    this.table = new Map(news.grammar.map(([name, operands, flags, rules, stores, reads]) => [name, {
+    this.table = new Map((news.grammar ?? []).map(([name, operands, flags, rules, stores, reads]) => [name, {
       operands: operands ? operands.split(" ") : [], flags: flags ? flags.split(" ") : [],
       isRuled: Boolean(rules), isStored: Boolean(stores), reads,
     }]));
@@ -67,6 +67,10 @@ export class Program {
     this.fields = new Map();
     /** @type {number[]} */
     this.ids = [];
+    /** @type {Map<number, number>} where each row stands */
+    this.at = new Map();
+    /** @type {Map<string, number[]>|null} by key the places of the rows that write it, where they are known */
+    this.writers = null;
     /** @type {Map<number, string>} the instruction of each row */
     this.text = new Map();
     /** @type {string[]} */
@@ -83,18 +87,18 @@ export class Program {
     this.log = [];
     this.version = 0;
     this.edits = 0;
+    this.isOne = false;
     this.line = "";
     /** @type {Partial<News>} */
     this.state = {};
     this.fresh = 0;
     /** @type {any} of a script the lines that stand between its rows, and above them */
     this.script = { notes: [], comments: {}, intro: [], left: "", said: "" };
-    this.index();
     this.take({ ...news, since: 0 });
   }
 
-  /** @param {Partial<News>} news */
-  declare({ sets, fields }) {
+  /** @param {Object<string, number[]>} sets @param {[string, string, number][]} fields */
+  declare(sets, fields) {
     const before = JSON.stringify([...this.sets, ...this.fields]);
     this.sets = new Map(Object.entries(sets));
     this.fields = new Map(fields.map(([name, set, width]) => [name, { set, width }]));
@@ -107,12 +111,11 @@ export class Program {
 
   index() {
     this.at = new Map(this.ids.map((id, i) => [id, i]));
-    /** @type {Map<string, number[]>|null} by key the places of the rows that write it */
     this.writers = null;
   }
 
   /** @param {string} key */
-  axes(key) { return this.sets.get(this.setOf(key)) || [1]; }
+  axes(key) { return this.sets.get(this.setOf(key) ?? "") || [1]; }
   /** @param {string} key */
   setOf(key) {
     const dot = key.indexOf(".");
@@ -157,7 +160,7 @@ export class Program {
    * @param {string} key @param {number} place
    */
   writer(key, place) {
-    if (!this.writers) this.findWriters();
+    this.writers ??= this.findWriters();
     const at = this.writers.get(key);
     if (!at) return 0;
     let low = 0, high = at.length;
@@ -168,23 +171,31 @@ export class Program {
     return low ? this.ids[at[low - 1]] : 0;
   }
 
+  /** @returns {Map<string, number[]>} */
   findWriters() {
-    this.writers = new Map();
+    const writers = new Map();
     this.ids.forEach((id, i) => {
-      for (const key of this.work(this.text.get(id)).writes) {
-        const places = this.writers.get(key);
-        if (places) places.push(i); else this.writers.set(key, [i]);
+      for (const key of this.work(this.text.get(id) ?? "").writes) {
+        const places = writers.get(key);
+        if (places) places.push(i); else writers.set(key, [i]);
       }
     });
+    return writers;
   }
 
-  /** The key whose value stands in a row's line: a field before flags. @param {string} text */
+  /**
+   * The key whose value stands in a row's line: a field before flags.
+   * @param {string} text
+   */
   mainKey(text) {
     const { writes } = this.work(text);
     return writes.find(key => !key.includes(".")) ?? writes.find(key => !/carry|overflow/.test(key)) ?? writes[0];
   }
 
-  /** Keys of a set and a width share their columns. @param {string} key */
+  /**
+   * Keys of a set and a width share their columns.
+   * @param {string} key
+   */
   columns(key) { return `${this.setOf(key)} ${this.width(key)}`; }
   /** @param {string} key @param {number} row @returns {Value|undefined} */
   value(key, row) { return this.values.get(row)?.get(key); }
@@ -207,7 +218,7 @@ export class Program {
     if (news.since !== this.version) return null;
     const isEdit = news.edits !== this.edits;
     if (isEdit) this.beginEdit(news.edits === this.edits + 1);
-    if (news.sets) this.declare(news);
+    if (news.sets) this.declare(news.sets, news.fields ?? []);
     if (news.began) this.forgetAll();
     const moved = { rows: this.takeRows(news), texts: unrolled(news.texts?.ids), isEdit };
     for (const id of unrolled(news.touched)) this.touch(id);
@@ -314,6 +325,7 @@ export class Program {
     if (this.count > MOST_VALUES) this.forgetSome();
   }
 
+  /** @param {string} key @param {any} numbers */
   noteDigits(key, numbers) {
     if (this.width(key) === 1) return;
     let most = numbers[0];
@@ -332,7 +344,10 @@ export class Program {
   }
 }
 
-/** The processors at which two values differ, or null. */
+/**
+ * The processors at which two values differ, or null.
+ * @param {any} was @param {any} now
+ */
 function differing(was, now) {
   const changed = new Set();
   for (let i = 0; i < now.length; i++) if (was[i] !== now[i]) changed.add(i);

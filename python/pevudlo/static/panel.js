@@ -7,6 +7,8 @@ import { $, code, css, draw, fresh, isDark, isValue, keyOf, placeOf, root, rowOf
 const WIDE = 1000, MOST_CELLS = 256;
 const ACTS = '<button data-act="edit">Edit</button><button data-act="new">New row below</button>' +
   '<button data-act="delete">Delete</button>';
+/** @typedef {import("./model.js").Value} Value */
+/** @typedef {import("./view.js").ValueItem} ValueItem */
 let sig = "", reason = { row: 0, version: -1, text: "" };
 
 export const isPanelOpen = () => {
@@ -32,7 +34,7 @@ export function drawPanel() {
   const parts = partsOf(item), { program } = view;
   const now = [
     item.id, item.text, program.isSettled(rowOf(item)), view.base, root.dataset.theme, panel.clientWidth,
-    program.faults.get(item.id), reason.text, program.isSettled(rowOf(item)) ? "" : waits(item),
+    program.faults.get(rowOf(item)), reason.text, program.isSettled(rowOf(item)) ? "" : waits(item),
     parts.map(([key, row]) => {
       const value = shownOf(key, row);
       return [key, row, program.isSettled(row), value?.id, value?.changed?.size];
@@ -50,7 +52,7 @@ export function drawPanel() {
 
 /**
  * What stands in the panel: of each part its key, the row that wrote it, words, and whether it is the row's own.
- * @param {any} item @returns {[string, number, string, boolean][]}
+ * @param {ValueItem} item @returns {[string, number, string, boolean][]}
  */
 function partsOf(item) {
   const { program } = view, row = rowOf(item), key = keyOf(item), before = placeOf(item) - 1;
@@ -64,8 +66,10 @@ function partsOf(item) {
   return parts;
 }
 
+/** @param {string} key @param {number} row */
 const shownOf = (key, row) => have(key, row, false);
 
+/** @param {ValueItem} item */
 function headHtml(item) {
   const { program } = view;
   if (item.t === "look") {
@@ -86,7 +90,10 @@ function headHtml(item) {
   return html;
 }
 
-/** Of an unsettled row the rows that it waits for, and since which edit the last one of them is unsettled. */
+/**
+ * Of an unsettled row the rows that it waits for, and since which edit the last one of them is unsettled.
+ * @param {ValueItem} item
+ */
 async function askReason(item) {
   const { program, link } = view;
   if (item.t !== "row" || program.isSettled(item.id) || !link.since) {
@@ -97,16 +104,21 @@ async function askReason(item) {
   const { words, last } = chainOf(item.id);
   reason = { row: item.id, version: program.version, text: reason.row === item.id ? reason.text : "" };
   const line = await link.since(last), since = line ? `row ${last} is unsettled since the edit ${line}` : "";
-  const text = [...words, since].filter(Boolean).join(", ");
-  if (reason.row === item.id && text) { reason.text = `. ${text}`; draw(); }
+  giveReason(item.id, [...words, since].filter(Boolean).join(", "));
 }
 
+/** @param {number} row @param {string} text */
+function giveReason(row, text) {
+  if (reason.row === row && text) { reason.text = `. ${text}`; draw(); }
+}
+
+/** @param {number} id */
 function chainOf(id) {
-  const { program } = view, words = [];
+  const { program } = view, words = /** @type {string[]} */ ([]);
   let last = id;
   for (let count = 0; count < 1000; count++) {
-    const place = program.at.get(last), { reads, context, writes } = program.work(program.text.get(last));
-    const isOpen = key => key && program.unsettled.has(program.writer(key, place - 1));
+    const place = program.at.get(last) ?? 0, { reads, context, writes } = program.work(program.text.get(last) ?? "");
+    const isOpen = (/** @type {string|null} */ key) => key && program.unsettled.has(program.writer(key, place - 1));
     const key = [...reads, context, ...writes].find(isOpen);
     if (!key) break;
     const row = program.writer(key, place - 1);
@@ -116,6 +128,7 @@ function chainOf(id) {
   return { words, last };
 }
 
+/** @param {string} key @param {number} row @param {string} words @param {boolean} isOwn */
 function partHtml(key, row, words, isOwn) {
   const { program } = view, value = shownOf(key, row), axes = program.axes(key);
   const isZero = value && isOwn && key.includes(".") && (value.isStrip ? !value.ones : !value.numbers.some(Boolean));
@@ -128,12 +141,14 @@ function partHtml(key, row, words, isOwn) {
   return head + (value ? bodyHtml(key, row, value, axes) : "");
 }
 
+/** @param {string} key @param {number} row @param {Value} value @param {number[]} axes */
 function bodyHtml(key, row, value, axes) {
   const count = value.all ?? value.numbers.length;
   const html = value.isStrip || count > MOST_CELLS ? pictureHtml : gridHtml;
   return html(key, row, value, axes, count);
 }
 
+/** @param {string} key @param {number} row @param {Value} value @param {number[]} axes @param {number} count */
 function pictureHtml(key, row, value, axes, count) {
   const { program, base } = view, width = program.width(key);
   const { low, high } = value.isStrip ? value : shadesOf(value.numbers), each = grouped(Math.round(count / 256));
@@ -151,6 +166,7 @@ function pictureHtml(key, row, value, axes, count) {
   return `<canvas class="pic" ${name} ${more}></canvas>${scale}${below}`;
 }
 
+/** @param {any} canvas */
 function paintPicture(canvas) {
   const { key, row, across } = canvas.dataset, value = view.program.value(key, Number(row));
   if (!value) return;
@@ -170,6 +186,7 @@ function paintPicture(canvas) {
   paintChanged(mask, value.changed, fresh(), value.changed.size < 2000 ? Math.ceil(mask.width / 36) : 1);
 }
 
+/** @param {string} key @param {number} row @param {Value} value @param {number[]} axes @param {number} count */
 function gridHtml(key, row, value, axes, count) {
   const { program, base, ch } = view, width = program.width(key);
   const texts = Array.from(value.numbers, number => spelled(number, width, base));
@@ -195,7 +212,10 @@ function markCell() {
   if (view.cell >= 0) table?.querySelector(`[data-i="${view.cell}"]`)?.classList.add("cur");
 }
 
-/** What one number is, in words: of which processor, by which row, and what it was before the edit. */
+/**
+ * What one number is, in words: of which processor, by which row, and what it was before the edit.
+ * @param {string} key @param {number} row @param {number} i @param {Value} value
+ */
 export function told(key, row, i, value) {
   const { program } = view, width = program.width(key), number = value.numbers[i], axes = program.axes(key);
   const at = axes.length > 1 ? ` (${coordinates(i, axes).join(", ")})` : "";

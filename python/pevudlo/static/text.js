@@ -8,7 +8,13 @@ let known = { number: 0, text: "" };
 let heard = 0;
 let isSaved = false;
 
-// Where two texts differ: from a place on, up to an end in the first one, with what stands there in the second.
+/** @typedef {{start: number, end: number, text: string}} Edit what stands in a text from a place on up to an end */
+/** @typedef {{number: number, text: string}} Text */
+
+/**
+ * Where two texts differ: from a place on, up to an end in the first one, with what stands there in the second.
+ * @param {string} one @param {string} other
+ */
 function differs(one, other) {
   const shorter = Math.min(one.length, other.length);
   let start = 0;
@@ -18,9 +24,13 @@ function differs(one, other) {
   return { start, end: one.length - end, text: other.slice(start, other.length - end) };
 }
 
+/** @param {string} text @param {Edit} edit */
 const put = (text, edit) => text.slice(0, edit.start) + edit.text + text.slice(edit.end);
 
-// An edit of a text as one of another text, or null where both change the same part.
+/**
+ * An edit of a text as one of another text, or null where both change the same part.
+ * @param {Edit} edit @param {string} from @param {string} to @returns {Edit|null}
+ */
 function moved(edit, from, to) {
   const theirs = differs(from, to);
   if (edit.end < theirs.start) return edit;
@@ -28,21 +38,28 @@ function moved(edit, from, to) {
   return edit.start > theirs.end ? { start: edit.start + by, end: edit.end + by, text: edit.text } : null;
 }
 
-// Puts another text into the area; the cursor stays where it was in it.
+/**
+ * Puts another text into the area; the cursor stays where it was in it.
+ * @param {string} text
+ */
 function show(text) {
   if (area.value === text) return;
   const edit = differs(area.value, text);
   const by = text.length - area.value.length;
-  const place = (old) => (old <= edit.start ? old : Math.max(edit.start, old + by));
+  const place = (/** @type {number} */ old) => (old <= edit.start ? old : Math.max(edit.start, old + by));
   const [start, end, top] = [place(area.selectionStart), place(area.selectionEnd), area.scrollTop];
   area.value = text;
   area.setSelectionRange(start, end);
   area.scrollTop = top;
 }
 
+/** @param {string} words */
 function say(words) { $("text-answer").textContent = words; }
 
-// Another text is there: what was typed since the known one goes into it, where that is another part.
+/**
+ * Another text is there: what was typed since the known one goes into it, where that is another part.
+ * @param {Text} news
+ */
 function take(news) {
   const mine = known.number && known.text !== area.value ? differs(known.text, area.value) : null;
   const there = mine && moved(mine, known.text, news.text);
@@ -53,11 +70,13 @@ function take(news) {
   if (area.readOnly) say("The file has carriage returns: it can't be edited here.");
 }
 
+/** @param {string} name */
 async function get(name) {
   const answer = await fetch(name, { cache: "no-store" });
   return answer.json();
 }
 
+/** @param {Edit} edit @param {string} hold */
 async function post(edit, hold) {
   const body = { was: String(known.number), start: String(edit.start), end: String(edit.end), text: edit.text, hold };
   const answer = await fetch("text", {
@@ -67,7 +86,7 @@ async function post(edit, hold) {
   return isLong ? { wrong: "That is too much at once: put it into the file elsewhere." } : answer.json();
 }
 
-// Hands over what was typed. False where it can't be.
+/** Hands over what was typed. False where it can't be. */
 async function send() {
   const typed = area.value;
   const hold = isSaved ? "" : "yes";
@@ -76,9 +95,12 @@ async function send() {
   if (answer.other) { take(await get("text")); return true; }
   say(answer.wrong || "");
   if (answer.wrong) return false;
-  known = { number: answer.number, text: typed };
+  know({ number: answer.number, text: typed });
   return true;
 }
+
+/** @param {Text} text the one that the server has now */
+function know(text) { known = text; }
 
 // One thing after another, until what was typed is there and what is there is shown.
 let isBusy = false;
@@ -121,6 +143,7 @@ async function drawLines() {
   isDrawing = false;
 }
 
+/** @param {number} from @param {{head: string, number: number, lines: [string, string, string][]}} news */
 function draw(from, news) {
   const list = document.createElement("ol");
   for (const [name, mark, text] of news.lines) {
@@ -134,7 +157,7 @@ function draw(from, news) {
   beside.replaceChildren(list);
   placeLines();
   $("ran").textContent = news.head;
-  document.body.dataset.text = news.number;
+  document.body.dataset.text = String(news.number);
 }
 
 /** Watches the text, and shows it before the rest of the page, which takes its time where a program is large. */
@@ -142,7 +165,7 @@ export async function watchText() {
   area.addEventListener("input", settle);
   area.addEventListener("change", () => { isSaved = true; settle(); });
   area.addEventListener("scroll", () => { if (beside.firstElementChild) placeLines(); drawLines(); });
-  area.addEventListener("keydown", (event) => {
+  area.addEventListener("keydown", (/** @type {KeyboardEvent} */ event) => {
     if (!(event.ctrlKey || event.metaKey) || event.key !== "s") return;
     event.preventDefault();
     isSaved = true;

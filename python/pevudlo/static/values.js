@@ -3,6 +3,7 @@ import { BEFORE, COMPARED, NOW } from "./link.js";
 import { isValue, keyOf, placeOf, rowOf, view } from "./view.js";
 
 const LARGE = 1024, MOST_AT_ONCE = 200, AT_ONCE = 25;
+/** @typedef {{key: string, row: number, name: string, stamp: string, which: number}} Asked a value that is asked for */
 /** @type {Map<string, string>} what was asked for, by name, with the stamp that it had */
 const asked = new Map();
 let serial = 0;
@@ -21,23 +22,28 @@ export function have(key, row, isWhole) {
   return value && !value.isStale && (!isWhole || !value.isStrip) ? value : null;
 }
 
+/** @typedef {import("./view.js").ValueItem} ValueItem */
+/** @typedef {[string, number, boolean]} Wanted a key, the row that wrote it, and whether its value is wanted whole */
 /**
  * The context of a line and the row that wrote it, where it isn't all ones as it was declared.
- * @param {any} item @returns {[string, number]|null}
+ * @param {import("./view.js").RowItem} item @returns {[string, number]|null}
  */
 export function contextOf(item) {
   const { program } = view, { context } = program.work(item.text);
-  const row = context && program.writer(context, placeOf(item) - 1);
+  const row = context ? program.writer(context, placeOf(item) - 1) : 0;
   return context && (row || program.given.includes(context)) ? [context, row] : null;
 }
 
 /**
  * The values that a line needs, and of the selected one what the panel needs.
- * @returns {[string, number, boolean][]} key, row, and whether it is wanted whole
+ * @param {ValueItem} item @param {boolean} isPanel
  */
 export function needs(item, isPanel) {
-  const { program } = view, found = [], main = keyOf(item);
-  const want = (key, row, isWhole) => { if (program.isSettled(row)) found.push([key, row, isWhole || isSmall(key)]); };
+  const { program } = view, found = /** @type {Wanted[]} */ ([]), main = keyOf(item);
+  /** @param {string} key @param {number} row @param {boolean} isWhole */
+  const want = (key, row, isWhole) => {
+    if (program.isSettled(row)) found.push([key, row, isWhole || isSmall(key)]);
+  };
   if (item.t !== "row") { if (!item.pending) want(item.key, rowOf(item), isPanel); return found; }
   const { writes, reads } = program.work(item.text), before = placeOf(item) - 1, context = contextOf(item);
   for (const key of writes) want(key, item.id, isPanel && key === main);
@@ -48,18 +54,21 @@ export function needs(item, isPanel) {
   if (isPanel) for (const key of reads) want(key, program.writer(key, before), isSmall(key));
   return found;
 }
-const isSmall = key => view.program.processors(key) <= LARGE;
+const isSmall = (/** @type {string} */ key) => view.program.processors(key) <= LARGE;
 
-/** Of what is wanted, what isn't there and isn't asked for. */
+/**
+ * Of what is wanted, what isn't there and isn't asked for.
+ * @param {Wanted[]} wanted
+ */
 function missing(wanted) {
-  const { program } = view, looks = [], of = [];
+  const { program } = view, looks = /** @type {import("./link.js").Look[]} */ ([]), of = /** @type {Asked[]} */ ([]);
   const whole = new Set(wanted.filter(([, , isWhole]) => isWhole).map(([key, row]) => `${key}@${row}`));
   for (const [key, row, isWhole] of wanted) {
     if (!isWhole && whole.has(`${key}@${row}`)) continue;
     const name = `${key}@${row} ${isWhole}`, stamp = `${program.stamp(key, row)} ${program.edits}`;
     if (have(key, row, isWhole) || asked.get(name) === stamp) continue;
     asked.set(name, stamp);
-    const add = (isStrip, which) => {
+    const add = (/** @type {boolean} */ isStrip, /** @type {number} */ which) => {
       looks.push([key, row, isStrip ? 1 : 0, which]);
       of.push({ key, row, name, stamp, which });
     };
@@ -78,13 +87,13 @@ function missing(wanted) {
 
 /**
  * Asks for values that are wanted. Gives whether columns grew by what came.
- * @param {[string, number, boolean][]} wanted
+ * @param {Wanted[]} wanted
  */
 export async function ensure(wanted) {
   const { program, link } = view, { looks, of } = missing(wanted);
   if (!looks.length) return null;
   const came = await link.look(looks);
-  let was = null, hasGrown = false, isAny = false;
+  let was = /** @type {any} */ (null), hasGrown = false, isAny = false;
   of.forEach(({ key, row, name, stamp, which }, i) => {
     if (asked.get(name) === stamp && which !== BEFORE) asked.delete(name);
     const value = came?.[i], isNow = stamp === `${program.stamp(key, row)} ${program.edits}`;
@@ -112,7 +121,10 @@ export async function ensureAll() {
   }
 }
 
-/** Whether all that a line shows is there. */
+/**
+ * Whether all that a line shows is there.
+ * @param {import("./view.js").Item} item
+ */
 export function hasAll(item) {
   return !isValue(item) || !view.program.isSettled(rowOf(item)) || view.isRecord ||
     needs(item, false).every(([key, row, whole]) => have(key, row, whole));
