@@ -148,10 +148,13 @@ class RunningSession(Session):
         self.ledger.touch(touched, self._editions, self.board.texts, order, self.version + 1)
         self.ledger.turn(self.book.unsettled(), self.version + 1)
         self.see_faults()
+        self._seen = state_of(self.background)
 
     def see_rows(self) -> None:
-        super().see_rows()
-        _, self._editions = self.book.touched(NO_EDIT)
+        with self.book.lock:
+            super().see_rows()
+            _, self._editions = self.book.touched(NO_EDIT)
+            self._seen = state_of(self.background)
 
     def load(self, lines: Sequence[str]) -> list[Step]:
         """Hands over a whole script. Gives the steps that were refused. Its edits can't be taken back.
