@@ -272,8 +272,7 @@ class Machine:
 
     def raw(self, line: str) -> list[str]:
         """The lines of the reply to a line of a script, as they come; a refusal is a reply here. None for a comment."""
-        answer = self._talk.tell(line)
-        return [] if answer is None else list(answer.lines)
+        return self._talk.tell_lines(line)
 
     def tell(self, lines: Iterable[str]) -> list[int | None]:
         """Tells lines that declare or edit, one by one. Gives the id of the row that each put in, and None of others.

@@ -3,7 +3,7 @@
 from __future__ import annotations
 
 import threading
-from collections.abc import Iterable, Mapping, Sequence
+from collections.abc import Callable, Iterable, Mapping, Sequence
 from contextlib import nullcontext
 from dataclasses import dataclass, field, replace
 from typing import Protocol, TypeVar
@@ -29,6 +29,8 @@ from pevudlo.lang.replies import (
 )
 
 Kind = TypeVar("Kind", bound=Reply)
+Told = TypeVar("Told")
+KEPT = Verdict(Word.KEPT)
 
 LOOKS = ("show", "list", "faults")
 """The commands that change no row."""
@@ -93,17 +95,26 @@ class Talk:
         One is asked and noted at a time of all threads, and over the library as a whole before Ctrl-C. A `settle` is no
         edit, and holds nobody up.
         """
+        return self._in_turn(line, self._answer)
+
+    def tell_lines(self, line: str) -> list[str]:
+        """The lines of the reply to a line, which is told as by `tell`. None for an empty line or a comment."""
+        return self._in_turn(line, self._lines)
+
+    def _in_turn(self, line: str, ask: Callable[[str], Told]) -> Told:
+        """What comes of asking a line, in a turn."""
         if line == "settle":
-            return self._answer(line)
+            return ask(line)
+        me = threading.get_ident()
         try:
-            self.waiting.add(threading.get_ident())
+            self.waiting.add(me)
             with self.lock:
                 if not self._is_inside:
-                    return self._answer(line)
+                    return ask(line)
                 with undisturbed():
-                    return self._answer(line)
+                    return ask(line)
         finally:
-            self.waiting.discard(threading.get_ident())
+            self.waiting.discard(me)
 
     def tell_edits(self, lines: Iterable[str]) -> list[Reply]:
         """The replies to lines that declare or edit, one after another, as a whole before Ctrl-C.
@@ -128,8 +139,15 @@ class Talk:
         ask = getattr(self.peer, "settle_line", None)
         return of_kind(parse(ask() if ask is not None else self.peer.ask("settle")), Settled).count
 
-    def _answer(self, line: str) -> Answer | None:
+    def _lines(self, line: str) -> list[str]:
         """Asks one line, and notes its reply."""
+        lines = self.peer.ask(line)
+        if lines:
+            self._note(line, lines, parse(lines))
+        return lines
+
+    def _answer(self, line: str) -> Answer | None:
+        """As `_lines`, and reads the reply."""
         lines = self.peer.ask(line)
         if not lines:
             return None
@@ -173,8 +191,10 @@ class Talk:
     def _note(self, line: str, lines: list[str], reply: Reply) -> None:
         """Notes a reply, and on the board what it declares."""
         self.board.note(line, lines[0])
-        self._edits += line.split(" ")[0] in EDITS and isinstance(reply, (Ok, RowAdded))
-        self._is_settled = self._is_settled or isinstance(reply, Settled) or reply == Verdict(Word.KEPT)
+        if isinstance(reply, (Ok, RowAdded)):
+            self._edits += line.split(" ", 1)[0] in EDITS
+        elif not self._is_settled:
+            self._is_settled = isinstance(reply, Settled) or reply == KEPT
 
     def ask(self, line: str, kind: type[Kind]) -> Kind:
         """The reply to a command, which is of this kind."""
@@ -209,7 +229,7 @@ class Talk:
             return 0, ()
         if isinstance(answer.reply, Settled):
             return len(before) - answer.reply.count, () if answer.reply.count else before
-        if answer.reply == Verdict(Word.KEPT):
+        if answer.reply == KEPT:
             after = self._unsettled()
             ran = self.board.ordered[int(words[0])]
             same = tuple(row for row in before if after is not None and row not in (ran, *after))
@@ -222,7 +242,7 @@ class Talk:
             return answer.reply.faults
         if isinstance(answer.reply, Settled):
             return self.faults()
-        if answer.reply == Verdict(Word.KEPT):
+        if answer.reply == KEPT:
             row = self.board.ordered[int(answer.line.split(" ")[1])]
             return tuple(fault for fault in self.faults() if fault.row == row)
         return ()

@@ -149,6 +149,9 @@ MADE: tuple[tuple[str, Callable[..., Reply]], ...] = (
     ("refused (9|20) N", lambda number, detail: Refused(int(number), int(detail))),
     ("refused N", lambda number: Refused(int(number))),
 )
+PLAIN: dict[str, Reply] = {"ok": Ok(), "nothing": Nothing(), "kept": Verdict(Word.KEPT)}
+"""Replies that come most often, by their line."""
+
 FORMS = tuple((re.compile(form.replace("N", NUMBER)), made) for form, made in MADE)
 ROW = re.compile(f"{NUMBER} edition {NUMBER} (waiting|out|settled) (.+)".replace("N", NUMBER))
 FAULT = re.compile(f"{NUMBER} (collision|bad-address) {NUMBER}")
@@ -191,6 +194,8 @@ def parse(lines: Sequence[str]) -> Reply:
     if not lines:
         raise NoReply("a reply has a line")
     first, *more = lines
+    if first in PLAIN and not more:
+        return PLAIN[first]
     word, _, rest = first.partition(" ")
     if word in ("rows", "faults"):
         if rest != str(len(more)):

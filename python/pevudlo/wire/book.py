@@ -15,11 +15,12 @@ from typing import Optional
 
 from pevudlo.lang.replies import Word
 from pevudlo.values.words import Words, room_of
-from pevudlo.wire.library import SOME_ROWS, Calls, Held, Library
+from pevudlo.wire.library import SOME_ROWS, Calls, Held, Library, check_line
 from pevudlo.wire.library_calls import Outcome, trouble
 
 EDITS = ("set ", "field ", "input ", "insert ", "delete ", "replace ")
 LOOKS = ("show ", "list", "faults")
+KEPT = [Word.KEPT.value]
 WORDS = {1: Word.KEPT, 2: Word.REPEATED, 3: Word.STALE, 4: Word.GONE, 5: Word.FOREIGN}
 
 Keep = Callable[[str], Optional[Callable[[str], None]]]
@@ -95,19 +96,21 @@ class Book(Library):
         """The lines of the reply to one line, as `Library.ask`. Who waits for news is told of all but looks."""
         if line == "settle" or line.startswith(LOOKS):
             return super().ask(line)
+        check_line(line)
+        me = get_ident()
         try:
-            self.waiting.add(get_ident())
+            self.waiting.add(me)
             with self.lock:
-                kept = self._kept(line)
-                lines = super().ask(line)
+                kept = None if self.keep is None else self._kept(line)
+                lines = self._turn(line)
                 if kept is not None and not lines[0].startswith("refused"):
                     kept(lines[0])
-                if lines == [Word.KEPT.value]:
+                if lines == KEPT:
                     self._has_run(1)
                 self.tell()
                 return lines
         finally:
-            self.waiting.discard(get_ident())
+            self.waiting.discard(me)
 
     def ask_all(self, lines: Sequence[str]) -> list[list[str]]:
         """The replies to many lines, of each of which is told what `ask` tells."""

@@ -36,6 +36,12 @@ MOST_AT_ONCE = 4_096
 """So many rows are run in one call at most, behind which Ctrl-C ends a settle."""
 
 
+def check_line(line: str) -> None:
+    """Raises ValueError where a text has a line feed."""
+    if "\n" in line:
+        raise ValueError("one line is asked at a time")
+
+
 def drop(close: Callable[..., int], handle: Handle, process: int) -> None:
     """Closes a handle that nobody holds any more. In a child of the process that opened it nothing is done."""
     if os.getpid() == process:
@@ -153,8 +159,7 @@ class Library:
         Bytes that are not UTF-8 stand in the text as surrogates (`errors="surrogateescape"`).
         Raises ValueError where the text has a line feed, and Ended where the session is over.
         """
-        if "\n" in line:
-            raise ValueError("one line is asked at a time")
+        check_line(line)
         if line == "settle":
             return [f"settled {self.settle()}"]
         try:
