@@ -83,6 +83,7 @@ SET = "set S 4\n"
 FIELDS = "field a S 8\nfield b S 8\nfield c S 8\n"
 HEAD = SET + FIELDS + "input a 0 1 2 3 4\ninput b 0 5 6 7 8\n"
 ADD, SUB, MAX = "u-add-3-1L c a b 8\n", "u-subtract-3-1L b a c 8\n", "u-max-3-1L a b c 8\n"
+SEND = "send-1L c b a 8 none\n"
 
 MORE = "input a 1 9 9\n"
 WIDE = SET + "field a S 128\nfield b S 100\nfield c S 128\n" + f"input a 0 {2**127} {2**64} 1 {2**128 - 1}\n"
@@ -107,6 +108,7 @@ KEPT: dict[str, tuple[str, ...]] = {
     ),
     "typed and saved": (HEAD + ADD + SUB, HEAD + ADD[:9] + "\n" + SUB + TYPED, HEAD + ADD[:9] + "\n" + SUB),
     "a row that goes": (HEAD + ADD + SUB + MAX, HEAD + ADD + MAX, HEAD),
+    "a row that comes to be refused": (HEAD + ADD, HEAD + ADD + SEND, HEAD + ADD + SEND + SUB, HEAD + ADD + SUB),
     "a field above its set": (SET, "field a S 8\n" + SET, "field a S 8\n" + SET + ADD),
     "a look below a new row": (HEAD + ADD + "show b end\n", HEAD + ADD + SUB + "# Here.\nshow b end\n"),
     "a look behind a row that goes": (HEAD + ADD + SUB + "show b end\n", HEAD + ADD + SUB + "show b end\ndelete 2\n"),
@@ -148,7 +150,9 @@ WRONG = (
     ("document", "(hold or not self.meaning.is_held)", "True", ("typed and saved",)),
     ("book", '            self._tell(f"delete {row.book}", Ok, done)\n', "", ("a row that goes",)),
     ("document", "if not piece.names <= known:", "if False:", ("a field above its set",)),
-    ("meaning", "rest[at] = each._replace(anchor=last)", "pass", ("a look below a new row",)),
+    ("meaning", "shown[at] = each._replace(anchor=last)", "pass", ("a look below a new row",)),
+    ("book", "self._by_address |= ids_by_address(put)", "pass", ("a row that comes to be refused",)),
+    ("book", "bool(self.faults) or not", "not", ("a row that comes to be refused",)),
     ("meaning", "if self._former:", "if False:", ("a look behind a row that goes",)),
     ("book", "        self._inputs = wanted\n", "", ("input that is taken out",)),
     ("document", "if header_of(lines) != header_of(self.meaning.lines):", "if False:", ("a profile",)),

@@ -23,7 +23,7 @@ from pevudlo.document.lines import (
     RowTaker,
     line_at,
 )
-from pevudlo.document.marks import MOST, note_on, refusal_text, row_mark, short
+from pevudlo.document.marks import MOST, kept_mark, note_on, refusal_text, row_mark, short
 from pevudlo.document.meaning import FileRow
 from pevudlo.document.origins import input_lines, lines_of_rows, row_above, row_before, writer
 from pevudlo.document.states import Mark, State
@@ -44,6 +44,9 @@ def line_name(number: int) -> str:
 
 def mark_of(document: Document, number: int, done: Update, most: int = MOST, named: Naming = line_name) -> Mark:
     """What stands beside the line of an index behind an update. Rows are looked at again that it touched."""
+    kept = kept_mark(document, number, done, most)
+    if kept is not None:
+        return kept
     line = line_at(document, number)
     match line:
         case RefusedLine():

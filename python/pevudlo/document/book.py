@@ -16,6 +16,7 @@ from pevudlo.hints.meanings import Where
 from pevudlo.lang.board import Board
 from pevudlo.lang.causes import causes
 from pevudlo.lang.grammar import PROFILE_COMMAND
+from pevudlo.lang.instructions import may_be_refused
 from pevudlo.lang.keys import axes_of
 from pevudlo.lang.profiles import USUAL
 from pevudlo.lang.replies import NoReply, Ok, Reply, RowAdded, RowFault, Settled
@@ -48,6 +49,8 @@ class Book:
         self.board = self.talk.board
         self.verdicts = Verdicts(self._second, self.board)
         self.faults: dict[int, RowFault] = {}
+        # The rows that may be refused for their data, by their ids. None where that isn't known yet.
+        self._by_address: set[int] | None = None
         # A number for each row, which is another one once the row was touched.
         self.editions: dict[int, int] = {}
         self.refused: dict[int, str] = {}
@@ -121,6 +124,9 @@ class Book:
                 place = f"after {last}" if last else "start"
                 row.book = self._tell(f"insert {place} {row.text}", RowAdded, done).row
             last = row.book
+        if self._by_address is not None:
+            self._by_address -= {row.book for row in gone}
+            self._by_address |= ids_by_address(put)
         return bool(left_out)
 
     def to_inputs(self, inputs: Iterable[Shown], done: Update) -> None:
@@ -148,8 +154,14 @@ class Book:
             inner = inner_of(self.peer)
             touched = self._ask(inner, len(done.sent)) if isinstance(inner, Library) else self._list(rows)
             done.touched = frozenset(touched)
-        if done.sent or done.count:
+        if (done.sent or done.count) and self._may_have_faults(rows, done):
             self.faults = {fault.row: fault for fault in self.talk.faults()}
+
+    def _may_have_faults(self, rows: Sequence[FileRow], done: Update) -> bool:
+        """Whether rows are refused for their data now, or were before an update: others than before alone may be."""
+        if self._by_address is None:
+            self._by_address = ids_by_address(rows)
+        return bool(self.faults) or not self._by_address.isdisjoint(done.touched)
 
     # What is seen.
 
@@ -242,6 +254,11 @@ def same_ends(old: Sequence[FileRow], new: Sequence[FileRow]) -> Hunk:
     for one, other in [*zip(old[:low], new[:low]), *zip(old[hunk.end :], new[hunk.new_end :])]:
         other.book = one.book
     return hunk
+
+
+def ids_by_address(rows: Iterable[FileRow]) -> set[int]:
+    """The ids of the rows that may be refused for their data."""
+    return {row.book for row in rows if may_be_refused(row.text)}
 
 
 def pairs(gone: Sequence[FileRow], put: Sequence[FileRow]) -> list[tuple[FileRow, FileRow]]:

@@ -54,16 +54,21 @@ def note_on(document: Document, number: int) -> str:
     return note_of(shown.piece.line, document.book.board) if is_input else ""
 
 
+def kept_mark(document: Document, number: int, done: Update, most: int) -> Mark | None:
+    """What stood beside the row of a line before, where the row wasn't touched since."""
+    shown = document.shown[number]
+    row = shown.row
+    if row is None or shown.refused or row.book in done.touched:
+        return None
+    kept = document.marks.get(row.book)
+    return kept[1] if kept is not None and kept[0] == (document.book.editions[row.book], most) else None
+
+
 def row_mark(document: Document, row: FileRow, done: Update, most: int) -> Mark:
-    """What stands beside a row."""
+    """What stands beside a row. It is kept where the row wasn't touched."""
     if row.book in document.book.faults:
         return Mark(State.FAULT, f"it stores nothing, since {document.book.cause(row)}")
-    is_touched = row.book in done.touched
-    kept = document.marks.get(row.book)
-    at = document.book.editions[row.book], most
-    if kept is not None and kept[0] == at and not is_touched:
-        return kept[1]
-    parts, is_other = [], False
+    is_touched, parts, is_other = row.book in done.touched, list[str](), False
     for key, numbers in document.written(row).items():
         before = document.earlier(row, key) if is_touched else None
         is_other = is_other or before is None or before != numbers
@@ -72,7 +77,7 @@ def row_mark(document: Document, row: FileRow, done: Update, most: int) -> Mark:
     state = State.KEPT if not is_touched else State.NEW if is_other else State.SAME
     mark = Mark(state, "  ".join(parts))
     if not is_touched:
-        document.marks[row.book] = at, mark
+        document.marks[row.book] = (document.book.editions[row.book], most), mark
     return mark
 
 

@@ -255,47 +255,52 @@ def spliced(
     end = start + sum(shown.row is not None for shown in olds)
     if not may_splice(before, low, news, start - end):
         return None
-    shown = read_again(olds if hold and len(olds) == len(news) else [], news, before.rows[:start], verdicts, above)
+    last = before.rows[start - 1] if start else None
+    shown = read_again(olds if hold and len(olds) == len(news) else [], news, last, verdicts, above)
     put = [each.row for each in shown if each.row is not None]
-    rows = [*before.rows[:start], *put]
-    rest = moved_looks(before.shown[len(before.lines) - same[1] :], rows[-1] if rows else None)
     here = [low + at for at, each in enumerate(shown) if each.row is not None]
     told = [low + at for at, each in enumerate(shown) if each.may_be_told]
     stop, more = len(before.lines) - same[1], len(lines) - len(before.lines)
-    return Meaning(
+    meaning = Meaning(
         lines,
-        [*before.shown[:low], *shown, *rest],
-        [*rows, *before.rows[end:]],
+        before.shown.copy(),
+        before.rows.copy(),
         head=before.head,
         row_lines=put_between(before.row_lines, low, here, stop, more),
         told_lines=put_between(before.told_lines, low, told, stop, more),
         is_straight=True,
         is_held=before.is_held or any(each.refused and each.row is not None for each in shown),
         has_inputs=any(each.kind is Kind.INPUT for each in (*olds, *shown)),
-        hunk=Hunk(start, end, len(rows)),
+        hunk=Hunk(start, end, start + len(put)),
     )
+    meaning.shown[low:stop] = shown
+    meaning.rows[start:end] = put
+    move_looks(meaning.shown, high, put[-1] if put else last)
+    return meaning
 
 
 def put_between(numbers: list[int], low: int, here: list[int], stop: int, more: int) -> list[int]:
     """Lines below `low`, those `here`, and those from `stop` on, before which so many more stand now."""
-    below = numbers[bisect_left(numbers, stop) :]
-    return [*numbers[: bisect_left(numbers, low)], *here, *([at + more for at in below] if more else below)]
+    start, end = bisect_left(numbers, low), bisect_left(numbers, stop)
+    if not more and numbers[start:end] == here:
+        return numbers
+    below = numbers[end:]
+    return [*numbers[:start], *here, *([at + more for at in below] if more else below)]
 
 
 def read_again(
-    olds: Sequence[Shown], news: Sequence[Piece], rows: list[FileRow], verdicts: Verdicts, above: set[str]
+    olds: Sequence[Shown], news: Sequence[Piece], last: FileRow | None, verdicts: Verdicts, above: set[str]
 ) -> list[Shown]:
-    """What new lines are, below these rows. A refused one keeps the row of the old line in its place, if it has one."""
+    """What new lines are, below a row. A refused one keeps the row of the old line in its place, if it has one."""
     shown: list[Shown] = []
     for at, piece in enumerate(news):
         refused = verdicts.of(piece, above)
         held = olds[at].row if refused and olds else None
         text = held.text if held is not None else piece.text if piece.kind is Kind.ROW and not refused else ""
         row = FileRow(text) if text else None
-        if row is not None:
-            rows.append(row)
+        last = row or last
         is_look = piece.kind is Kind.SHOW and piece.place == "end" and not refused
-        shown.append(Shown(piece, refused, row, rows[-1] if rows and is_look else None))
+        shown.append(Shown(piece, refused, row, last if is_look else None))
     return shown
 
 
@@ -312,11 +317,11 @@ def may_splice(before: Meaning, low: int, news: Sequence[Piece], more: int) -> b
     )
 
 
-def moved_looks(rest: list[Shown], last: FileRow | None) -> list[Shown]:
-    """The lines below those that were read anew: looks up to the next row are taken behind the last one now."""
-    for at, each in enumerate(rest):
+def move_looks(shown: list[Shown], low: int, last: FileRow | None) -> None:
+    """Of the lines from `low` on, looks up to the next row are taken behind the last one now."""
+    for at in range(low, len(shown)):
+        each = shown[at]
         if each.row is not None:
             break
         if each.kind is Kind.SHOW and each.piece.place == "end" and not each.refused:
-            rest[at] = each._replace(anchor=last)
-    return rest
+            shown[at] = each._replace(anchor=last)

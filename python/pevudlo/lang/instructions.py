@@ -157,6 +157,14 @@ INSTRUCTIONS: dict[str, Instruction] = {each.name: each for each in ELEMENTWISE 
 BY_FUNCTION: dict[str, Instruction] = {each.function: each for each in INSTRUCTIONS.values()}
 
 
+BY_ADDRESS = frozenset(each.name for each in INSTRUCTIONS.values() if each.is_by_address)
+
+
+def may_be_refused(text: str) -> bool:
+    """Whether a row of this text may be refused for its data when it runs: a get, or a send."""
+    return text.split(" ", 1)[0] in BY_ADDRESS
+
+
 def read(text: str) -> tuple[Instruction, dict[Operand, str]]:
     """The instruction of a text in its spelling, and its words by operand. Raises ValueError for another text."""
     words = text.split(" ")
