@@ -1,0 +1,7 @@
+mod Least
+mod Others
+mod Rising
+mod Rooms
+mod Same
+mod Spans
+mod Words
