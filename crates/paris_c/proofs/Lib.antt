@@ -5,3 +5,4 @@ mod FaultNumbers
 mod Numbers
 mod FaultWords
 mod WideLemmas
+mod Summaries

@@ -37,6 +37,7 @@ status_text status =
     else if status == 108 then codes "no profile has this number"
     else if status == 109 then codes "no row is ready"
     else if status == 110 then codes "the order is not executed"
+    else if status == 111 then codes "the two values differ in width or in the number of their processors"
     else []
 
 -- the text of a cause, by its number; no other number has one

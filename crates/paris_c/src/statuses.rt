@@ -41,6 +41,9 @@ pub(crate) const NOTHING: u32 = 109;
 /// The order is not executed.
 pub(crate) const NOT_RUN: u32 = 110;
 
+/// Two values have another width or another number of processors.
+pub(crate) const UNLIKE: u32 = 111;
+
 /// The cause of a row that is refused for its data: two messages meet at a processor.
 pub(crate) const COLLISION: u32 = 1;
 

@@ -42,6 +42,7 @@ pub(crate) fn status_text(status: u32) -> &'static [u8]
         108 => b"no profile has this number",
         109 => b"no row is ready",
         110 => b"the order is not executed",
+        111 => b"the two values differ in width or in the number of their processors",
         _ => b"",
     }
 }

@@ -25,7 +25,7 @@ pub struct Wide {
 
 impl Wide {
     /// A number in two words.
-    fn of(number: u128) -> Wide
+    pub(crate) fn of(number: u128) -> Wide
         ensures { result ≡ wide_of number }
     {
         Wide {
