@@ -9,7 +9,7 @@ _paris_options() {
         watch) echo '--help --plain --workers' ;;
         lsp) echo '--help --stdio --workers' ;;
         help) echo '--help lesson machine scripts instructions idioms people python embedding editors glossary' ;;
-        *) echo '--build --desk --help --quiet --version --where --workers explain prompt page live watch lsp help' ;;
+        *) echo '--build --desk --help --quiet --version --where --workers explain prompt page live watch lsp check help' ;;
     esac
 }
 

@@ -1,6 +1,6 @@
 # Completion of fish for paris.
 
-set -l commands explain prompt page live watch lsp help
+set -l commands explain prompt page live watch lsp check help
 set -l first "not __fish_seen_subcommand_from $commands"
 complete -c paris -n $first -a explain -d 'say of each line what came of it'
 complete -c paris -n $first -a prompt -d 'take commands one by one'
@@ -8,6 +8,7 @@ complete -c paris -n $first -a page -d 'write a page of a script'
 complete -c paris -n $first -a live -d 'serve a page on which a program is edited'
 complete -c paris -n $first -a watch -d 'follow a file that is edited'
 complete -c paris -n $first -a lsp -d 'serve an editor'
+complete -c paris -n $first -a check -d 'compare looks with what is wanted'
 complete -c paris -n $first -a help -d 'show a page, or what there is for a word'
 complete -c paris -f -n '__fish_seen_subcommand_from help' -a 'lesson machine scripts instructions idioms people python embedding editors glossary'
 complete -c paris -n $first -l desk -d 'the script is in parts'

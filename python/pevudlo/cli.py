@@ -24,6 +24,7 @@ COMMANDS = {
     "live": "pevudlo.live.command",
     "watch": "pevudlo.document.command",
     "lsp": "pevudlo.lsp.command",
+    "check": "pevudlo.exercise.command",
     "help": "pevudlo.help.command",
 }
 # The names under which the package is installed.

@@ -60,7 +60,9 @@ def test_a_script_in_parts_and_one_that_is_refused() -> None:
 def test_help_names_each_command() -> None:
     ran = run("--help")
     assert (ran.returncode, ran.stderr) == (0, "") and ran.stdout == run("-h").stdout
-    assert all(command in ran.stdout for command in ("explain", "prompt", "page", "live", "watch", "lsp", "help"))
+    assert all(
+        command in ran.stdout for command in ("explain", "prompt", "page", "live", "watch", "lsp", "check", "help")
+    )
 
 
 @pytest.mark.parametrize("command", cli.COMMANDS)

@@ -45,6 +45,7 @@ def test_scripts() -> None:
         ("lve", "live"),
         ("wacth", "watch"),
         ("lps", "lsp"),
+        ("chekc", "check"),
     ],
 )
 def test_a_word_that_is_nearly_a_command_gets_that_one_s_usage(word: str, command: str) -> None:
@@ -141,7 +142,7 @@ def usage_lines(said: str) -> list[str]:
     return said.split("\n\n")[0].splitlines()
 
 
-OF_FILES = ("explain", "prompt", "page", "live", "watch")
+OF_FILES = ("explain", "prompt", "page", "live", "watch", "check")
 WITH_WORKERS = (*OF_FILES, "lsp")
 COMMANDS = (*WITH_WORKERS, "help")
 

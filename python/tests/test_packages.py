@@ -45,6 +45,7 @@ STANDS_ON = {
     "live": TALKING + " client document running",
     "document": TALKING,
     "lsp": TALKING + " document version",
+    "exercise": "arguments document draw files wire",
     "notebook": TALKING + " document",
     "follow": "document draw interrupts lang values wire",
     "algorithms": "",
