@@ -24,6 +24,7 @@ pub mod OwnOrders
 pub mod Pending
 pub mod Playing
 pub mod RanIds
+pub mod MostRead
 pub mod ReadyRuns
 pub mod Recalling
 pub mod Recipes

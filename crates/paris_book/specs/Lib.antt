@@ -4,6 +4,7 @@ pub mod Indexed
 pub mod Kept
 pub mod Laws
 pub mod Marks
+pub mod MostRead
 pub mod Origins
 pub mod RanIds
 pub mod Rounds

@@ -1,6 +1,6 @@
 //! The book: edits, orders, results and looks.
 
-ghost use Rattle.std.specs.Prelude.{◌≡◌, ◌≤◌, Ok, Err, IsSome, IfOk, IfErr, OnOk, OnErr};
+ghost use Rattle.std.specs.Prelude.{◌≡◌, ◌+◌, ◌^◌, ◌≤◌, Ok, Err, IsSome, IfOk, IfErr, OnOk, OnErr};
 ghost use Rattle.paris_names.specs.Faults.{IsFaultOf};
 ghost use Rattle.paris_names.specs.declared.limits.TheConstants.{MAX_EDITS};
 ghost use Rattle.paris_events.specs.declared.edits.Edit.TheVariants as EditCase;
@@ -12,10 +12,12 @@ ghost use Rattle.paris_machine.specs.Results.{verdict_of, after_bring};
 ghost use Rattle.paris_machine.specs.Edits.{edit_fault, edit_answer, accepted};
 ghost use Rattle.paris_machine.specs.Settling.{unsettled_rows};
 ghost use Rattle.paris_book.specs.Among.{look_shown, shared_shown};
+ghost use Rattle.paris_book.specs.MostRead.{most_read_by};
 ghost use Rattle.paris_book.specs.Origins.{origin_reply};
 
 use crate::look::{Look, SharedLook};
 use crate::loose::Loose;
+use paris_depends::Looks;
 use paris_events::{Edit, EditReply, Verdict};
 use paris_exec::{Done, Order};
 use paris_names::{Fault, KeyName, Profile, RowId, Spot};
@@ -97,7 +99,22 @@ impl Book {
         ensures err { IfErr result (λ fault. (self.new ≡ self.old)
             × IsFaultOf (edit_fault self.old edit.now) fault) }
     {
-        self.loose.apply(edit)
+        let mut looks = Looks::new();
+        self.edit_counted(edit, &mut looks)
+    }
+
+    /// Makes an edit that is lent, as `edit` does, and counts the entries of the index of keys that are read for it: the more rows it
+    /// touches, the more they may be, however many others there are.
+    pub fn edit_counted(&mut self, edit: &Edit, looks: &mut Looks) -> Result<EditReply, Fault>
+        requires { looks.old ≤ 2 ^ 62 }
+        ensures ok { IfOk result (λ answer. (edit_fault self.old edit.now ≡ None)
+            × (answer ≡ edit_answer self.old edit.now)
+            × (self.new ≡ accepted self.old edit.now)) }
+        ensures err { IfErr result (λ fault. (self.new ≡ self.old)
+            × IsFaultOf (edit_fault self.old edit.now) fault) }
+        ensures read { OnOk result (looks.new ≤ looks.old + most_read_by self.old self.new) }
+    {
+        self.loose.apply(edit, looks)
     }
 
     /// Gives a key numbers of one word each from a processor on: the edit of input data with these numbers, which needs no list of
@@ -108,7 +125,26 @@ impl Book {
         ensures err { IfErr result (λ fault. (self.new ≡ self.old)
             × IsFaultOf (edit_fault self.old (EditCase.Input key from words.now)) fault) }
     {
-        self.loose.set_words(key, from, words)
+        let mut looks = Looks::new();
+        self.set_words_counted(key, from, words, &mut looks)
+    }
+
+    /// Gives a key numbers as `set_words` does, and counts the entries of the index of keys that are read for it.
+    pub fn set_words_counted(
+        &mut self,
+        key: KeyName,
+        from: u64,
+        words: &[u64],
+        looks: &mut Looks,
+    ) -> Result<(), Fault>
+        requires { looks.old ≤ 2 ^ 62 }
+        ensures ok { OnOk result ((edit_fault self.old (EditCase.Input key from words.now) ≡ None)
+            × (self.new ≡ accepted self.old (EditCase.Input key from words.now))) }
+        ensures err { IfErr result (λ fault. (self.new ≡ self.old)
+            × IsFaultOf (edit_fault self.old (EditCase.Input key from words.now)) fault) }
+        ensures read { OnOk result (looks.new ≤ looks.old + most_read_by self.old self.new) }
+    {
+        self.loose.set_words(key, from, words, looks)
     }
 
     /// An order for the first row that waits and whose keys read all have the start or a settled row as origin. `None` where there

@@ -29,4 +29,5 @@ mod work;
 
 pub use book::Book;
 pub use look::Look;
+pub use paris_depends::Looks;
 pub use settlement::{SettleFault, execute_inside};

@@ -1,6 +1,6 @@
 //! Rows that an edit makes unsettled.
 
-ghost use Rattle.std.specs.Prelude.{◌≡◌, ◌+◌, ◌<◌, ◌≤◌, length, drop, map, Some, IsSome, IfOk};
+ghost use Rattle.std.specs.Prelude.{◌≡◌, ◌+◌, ◌^◌, ◌<◌, ◌≤◌, length, drop, map, Some, IsSome, IfOk};
 ghost use Rattle.paris_names.specs.declared.keys.Key.{Key as AnyKey};
 ghost use Rattle.paris_names.specs.Keys.{has_key};
 ghost use Rattle.paris_names.specs.declared.limits.TheConstants.{MAX_EDITS};
@@ -8,9 +8,11 @@ ghost use Rattle.paris_model.specs.Instructions.{writes};
 ghost use Rattle.paris_program.specs.Program.{IsProgram, AreOwn, place_of, row_of};
 ghost use Rattle.paris_depends.specs.Sweeps.{touched};
 ghost use Rattle.paris_book.specs.Marks.{unsettled_by_ids, is_among, ids_in, data_plan, writes_either};
+ghost use Rattle.paris_book.specs.MostRead.{most_read};
 ghost use Rattle.paris_book.specs.Rows.{RowData as RowShape};
 
 use crate::program_rows::Rows;
+use paris_depends::Looks;
 use paris_instr::Plan;
 use paris_names::{Key, RowId, has_key};
 use std::alloc::{AllocError, Global};
@@ -61,22 +63,26 @@ fn written_by_either(alloc: Global, old: &Plan, new: &Plan) -> Result<Vec<Key>, 
     Ok(keys)
 }
 
-/// The ids of the rows from a place on that become unsettled where the row just before it gets another plan.
+/// The ids of the rows from a place on that become unsettled where the row just before it gets another plan. Entries of the index that
+/// are read are counted.
 pub(crate) fn unsettled_by_replace(
     alloc: Global,
     rows: &Rows,
     id: RowId,
     below: usize,
     plan: &Plan,
+    looks: &mut Looks,
 ) -> Result<Vec<RowId>, AllocError>
     requires within { below ≤ length rows.now.rows }
     requires there { IsSome (place_of rows.now.rows id.0) }
-    ensures { IfOk result (λ ids. (row : RowShape) → row_of rows.now.rows id.0 ≡ Some row → ids_in ids.items ≡ touched data_plan (writes_either row.plan plan.now) (drop below rows.now.rows)) }
+    requires looks { looks.old ≤ 2 ^ 62 }
+    ensures ids { IfOk result (λ ids. (row : RowShape) → row_of rows.now.rows id.0 ≡ Some row → ids_in ids.items ≡ touched data_plan (writes_either row.plan plan.now) (drop below rows.now.rows)) }
+    ensures read { IfOk result (λ ids. looks.new ≤ looks.old + most_read (length ids.items)) }
 {
     match rows.row(id) {
         Some(row) => {
             let keys = written_by_either(alloc, row.plan(), plan)?;
-            rows.affected(alloc, below, keys.as_slice())
+            rows.affected(alloc, below, keys.as_slice(), looks)
         }
         None => unreachable!(),
     }

@@ -1,6 +1,6 @@
 //! The rows of a book in program order.
 
-ghost use Rattle.std.specs.Prelude.{◌≡◌, ◌^◌, ◌<◌, ◌≤◌, ◌↔◌, true, [], length, drop, map, remove, slice_get, take, Some, IsSome, IfOk, IfSome, OnOk, OnErr};
+ghost use Rattle.std.specs.Prelude.{◌≡◌, ◌+◌, ◌^◌, ◌<◌, ◌≤◌, ◌↔◌, true, [], length, drop, map, remove, slice_get, take, Some, IsSome, IfOk, IfSome, OnOk, OnErr};
 ghost use Rattle.std.specs.Option.{option_copied, option_map};
 ghost use Rattle.paris_names.specs.Keys.{has_key};
 ghost use Rattle.paris_names.specs.declared.limits.TheConstants.{MAX_ROWS};
@@ -12,6 +12,7 @@ ghost use Rattle.paris_machine.specs.Settling.{unsettled_rows};
 ghost use Rattle.paris_book.specs.Entries.{Entry, ChangedAt, entry_plan, machine_row};
 ghost use Rattle.paris_book.specs.Indexed.{IsUnsettledAt};
 ghost use Rattle.paris_book.specs.Marks.{data_plan, is_among, ids_in, out_data, kept_data, again_data, recalled_data, stale_data};
+ghost use Rattle.paris_book.specs.MostRead.{most_read};
 ghost use Rattle.paris_book.specs.SharedIndexes.{CanAddIn, indexed_in};
 ghost use Rattle.paris_book.specs.Statuses.{next_unsettled};
 
@@ -139,26 +140,21 @@ impl Rows {
     }
 
     /// The ids of the rows from a place on that become unsettled where just these keys get new recipes at that place, in program
-    /// order.
+    /// order. Entries of the index that are read are counted.
     pub(crate) fn affected(
         &self,
         alloc: Global,
         place: usize,
         keys: &[Key],
+        looks: &mut Looks,
     ) -> Result<Vec<RowId>, AllocError>
         requires within { place ≤ length self.now.rows }
         requires few { length keys.now ≤ 128 }
-        ensures { IfOk result (λ ids. ids_in ids.items ≡ touched data_plan (has_key keys.now) (drop place self.now.rows)) }
+        requires looks { looks.old ≤ 2 ^ 62 }
+        ensures ids { IfOk result (λ ids. ids_in ids.items ≡ touched data_plan (has_key keys.now) (drop place self.now.rows)) }
+        ensures read { IfOk result (λ ids. looks.new ≤ looks.old + most_read (length ids.items)) }
     {
-        let mut looks = Looks::new();
-        affected(
-            alloc,
-            &self.program,
-            self.index.get(),
-            place,
-            keys,
-            &mut looks,
-        )
+        affected(alloc, &self.program, self.index.get(), place, keys, looks)
     }
 
     /// How many rows are unsettled.

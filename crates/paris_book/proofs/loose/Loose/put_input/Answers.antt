@@ -1,4 +1,4 @@
-use Rattle.std.proofs.Common.{List, ℕ, nat_eq, ◌≡◌, ◌+◌, [], ◌∷◌, Option, Some, sym, ap, ◌∙◌, length, refl, subst}
+use Rattle.std.proofs.Common.{List, ℕ, nat_eq, ◌≡◌, ◌+◌, ◌≤◌, map, [], ◌∷◌, Option, Some, sym, ap, ◌∙◌, length, refl, subst}
 use Rattle.std.proofs.Math.Path.{ap₂}
 use Rattle.std.specs.List.{IsDistinct}
 use Rattle.std.specs.Option.{IfSome, IsSome}
@@ -9,7 +9,8 @@ use Rattle.paris_machine.specs.Edits.{input_changed, input_set}
 use Rattle.paris_machine.specs.declared.inputs.Input.{Input}
 use Rattle.paris_names.specs.declared.ids.RowId.{RowId}
 use Rattle.paris_program.specs.Program.{AreOwn, ids_of}
-use Rattle.paris_book.specs.Entries.{Entry}
+use Rattle.paris_book.specs.Entries.{Entry, machine_row}
+use Rattle.paris_book.specs.TouchedIds.{touched_ids}
 use Rattle.paris_book.specs.Among.{CanGive, given_numbers, input_given, inputs_of}
 use Rattle.paris_book.specs.Marks.{is_among, unsettled_by_ids, ids_in}
 use Rattle.paris_book.proofs.Swept.{swept_entries}
@@ -19,11 +20,12 @@ use Rattle.paris_book.proofs.InputEdits.{Present, present, input_agree, input_wh
 use Rattle.paris_book.proofs.TouchedEdits.{input_enough}
 use Rattle.paris_book.proofs.Values.{Agree}
 use Rattle.paris_book.proofs.Calls.{few_edits, width_given}
+use Rattle.paris_book.proofs.MostRead.{found_touched}
 use Rattle.paris_book.proofs.loose.Loose.put_input.Goals as goal
 
 rows_are : (c : goal.After-end_edit) → c.end_edit.new.rows.rows ≡ swept_entries (c.self.inside.edits + 1) (has_key (c.args.key ∷ [])) c.self.inside.rows.rows
 rows_are c =
-    input_rows (c.self.inside.edits + 1) c.args.key c.self.inside.rows.rows c.end_edit.new.rows.rows (ids_in c.in_ok-ids.ids.items) (subst (λ (l : List Entry). IsDistinct nat_eq (ids_of l)) c.own_all.ensures.rows c.end_edit.ensures.sound.distinct) c.in_ok-ids.ensures
+    input_rows (c.self.inside.edits + 1) c.args.key c.self.inside.rows.rows c.end_edit.new.rows.rows (ids_in c.in_ok-ids.ids.items) (subst (λ (l : List Entry). IsDistinct nat_eq (ids_of l)) c.own_all.ensures.rows c.end_edit.ensures.sound.distinct) c.in_ok-ids.ensures.ids
     (c.end_edit.ensures.rows ∙ ap (λ js. unsettled_by_ids (c.self.inside.edits + 1) (ids_in js) c.own_all.new.self.rows) c.as_slice-2.ensures.value ∙ ap (λ (l : List Entry). unsettled_by_ids (c.self.inside.edits + 1) (ids_in c.in_ok-ids.ids.items) l) c.own_all.ensures.rows)
 
 was : (c : goal.After-end_edit) → Present (inputs_of c.self.inside.inputs) c.args.key
@@ -76,4 +78,9 @@ returns-clause-enough c =
     input_enough old new c.self.inside.rows.rows c.end_edit.new.rows.rows (subst IsAtRest (sym c.self.view_is) c.requires.rests) refl refl (invariant_of-self-2 c).ids_apart
     (c.self.inside.edits + 1) (has_key (c.args.key ∷ [])) (ids_in c.in_ok-ids.ids.items) (rows_are c)
     (subst (λ (i : Inputs). Agree (has_key (c.args.key ∷ [])) (start_world (inputs_of c.self.inside.inputs)) (start_world i)) (sym (inputs_are c)) (input_agree (inputs_of c.self.inside.inputs) c.args.key (made c)))
-    c.in_ok-ids.ensures
+    c.in_ok-ids.ensures.ids
+
+pub returns-clause-touched : goal.returns-clause-touched
+returns-clause-touched c =
+    subst (λ (s : State). length c.in_ok-ids.ids.items ≤ length (touched_ids s.edits (map machine_row c.end_edit.new.rows.rows))) c.self.view_is
+    (found_touched c.self.inside.edits (has_key (c.args.key ∷ [])) [] c.self.inside.rows.rows c.end_edit.new.rows.rows c.in_ok-ids.ids.items c.in_ok-ids.ensures.ids (rows_are c))

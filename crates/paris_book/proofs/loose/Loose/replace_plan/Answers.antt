@@ -1,10 +1,11 @@
 use Rattle.std.specs.Prelude.{IsSome}
-use Rattle.std.proofs.Common.{List, refl, ◌≡◌, ◌+◌, ◌++◌, ◌∷◌, Ok, sym, ap, ap₂, ◌∙◌, subst, take, drop}
+use Rattle.std.proofs.Common.{append_assoc, List, [], refl, length, map, ◌≡◌, ◌+◌, ◌≤◌, ◌++◌, ◌∷◌, Ok, sym, ap, ap₂, ◌∙◌, subst, take, drop}
 use Rattle.paris_depends.specs.Sweeps.{touched}
 use Rattle.paris_instr.specs.Resolve.{IsFittedTo}
 use Rattle.paris_names.specs.declared.ids.RowId.{RowId}
 use Rattle.paris_program.specs.Program.{AreOwn, place_in, place_of, with_row}
-use Rattle.paris_book.specs.Entries.{Entry}
+use Rattle.paris_book.specs.Entries.{Entry, machine_row}
+use Rattle.paris_book.specs.TouchedIds.{touched_ids}
 use Rattle.paris_machine.specs.State.{State, find_row}
 use Rattle.paris_machine.specs.CutOff.{IsAtRest}
 use Rattle.paris_machine.specs.Edits.{replaced_from}
@@ -17,6 +18,7 @@ use Rattle.paris_book.proofs.Replaces.{replace_whole, replace_view}
 use Rattle.paris_book.proofs.Targets.{Target, target_of, target_row, target_there, target_some, target_within, target_place, target_drop}
 use Rattle.paris_book.proofs.Calls.{few_edits, fitted_plan}
 use Rattle.paris_book.proofs.TouchedEdits.{replace_enough}
+use Rattle.paris_book.proofs.MostRead.{found_touched}
 use Rattle.paris_book.proofs.loose.Loose.replace_plan.Goals as goal
 
 pub end_edit-requires-clause-own : goal.end_edit-requires-clause-own
@@ -53,7 +55,7 @@ rows_are c =
     ∙ ap (λ k. with_row c.self.inside.rows.rows k c.in_ok-row-in-Some.row) (target_place c.self.inside.rows.rows (find_row c.args.self.now c.args.id) c.args.id.0 c.args.below t)
     ∙ ap (with_row c.self.inside.rows.rows t.place) (c.in_ok-row-in-Some.ensures ∙ ap (replaced_data c.args.plan (c.self.inside.edits + 1)) (target_row c.self.inside.rows.rows (find_row c.args.self.now c.args.id) c.args.id.0 c.args.below c.in-Some.row.now t c.in-Some.ensures.value)))
     c.end_edit.ensures.sound.distinct
-    (c.in_ok-ids.ensures t.row t.by_id ∙ ap (λ k. touched data_plan (writes_either t.row.plan c.args.plan) (drop k c.self.inside.rows.rows)) t.just_below)
+    (c.in_ok-ids.ensures.ids t.row t.by_id ∙ ap (λ k. touched data_plan (writes_either t.row.plan c.args.plan) (drop k c.self.inside.rows.rows)) t.just_below)
     (c.end_edit.ensures.rows ∙ ap (λ js. unsettled_by_ids (c.self.inside.edits + 1) (ids_in js) c.replace.new.self.rows) c.as_slice-2.ensures.value)
 
 next_is : (c : goal.After-end_edit) → c.end_edit.new.rows.next_id ≡ c.self.inside.rows.next_id
@@ -88,4 +90,14 @@ returns-clause-enough c =
     let new : State = state_of c.self.inside.board c.end_edit.new.edits c.end_edit.new.rows.next_id (inputs_of c.self.inside.inputs) c.end_edit.new.rows.rows in
     replace_enough old new c.self.inside.rows.rows c.end_edit.new.rows.rows (subst IsAtRest (sym c.self.view_is) c.requires.rests) refl refl (invariant_of-self-2 c).ids_apart
     t.place refl (c.args.id.0, t.row) (drop (t.place + 1) c.self.inside.rows.rows) behind (c.self.inside.edits + 1) c.args.plan (ids_in c.in_ok-ids.ids.items) (rows_are c)
-    (c.in_ok-ids.ensures t.row t.by_id ∙ ap (λ k. touched data_plan (writes_either t.row.plan c.args.plan) (drop k c.self.inside.rows.rows)) t.just_below)
+    (c.in_ok-ids.ensures.ids t.row t.by_id ∙ ap (λ k. touched data_plan (writes_either t.row.plan c.args.plan) (drop k c.self.inside.rows.rows)) t.just_below)
+
+pub returns-clause-touched : goal.returns-clause-touched
+returns-clause-touched c =
+    let t = target c in
+    let es = c.self.inside.rows.rows in
+    let new : Entry = (c.args.id.0, replaced_data c.args.plan (c.self.inside.edits + 1) t.row) in
+    subst (λ (s : State). length c.in_ok-ids.ids.items ≤ length (touched_ids s.edits (map machine_row c.end_edit.new.rows.rows))) c.self.view_is
+    (found_touched c.self.inside.edits (writes_either t.row.plan c.args.plan) (take t.place es ++ new ∷ []) (drop (t.place + 1) es) c.end_edit.new.rows.rows c.in_ok-ids.ids.items
+    (c.in_ok-ids.ensures.ids t.row t.by_id ∙ ap (λ k. touched data_plan (writes_either t.row.plan c.args.plan) (drop k es)) t.just_below)
+    (rows_are c ∙ sym (append_assoc (take t.place es) (new ∷ []) (swept_entries (c.self.inside.edits + 1) (writes_either t.row.plan c.args.plan) (drop (t.place + 1) es)))))

@@ -1,4 +1,4 @@
-use Rattle.std.proofs.Common.{List, refl, subst, arith, length, ◌≡◌, ◌+◌, ◌++◌, sym, ap, ap₂, ◌∙◌, take, drop, remove}
+use Rattle.std.proofs.Common.{List, map, ◌≤◌, refl, subst, arith, length, ◌≡◌, ◌+◌, ◌++◌, sym, ap, ap₂, ◌∙◌, take, drop, remove}
 use Rattle.paris_names.specs.Keys.{has_key}
 use Rattle.paris_model.specs.Instructions.{writes}
 use Rattle.paris_depends.proofs.FewKeys.{writes-few}
@@ -8,7 +8,8 @@ use Rattle.paris_machine.specs.CutOff.{IsAtRest}
 use Rattle.paris_machine.specs.Edits.{delete_fault, deleted_from}
 use Rattle.paris_names.specs.declared.ids.RowId.{RowId}
 use Rattle.paris_program.specs.Program.{AreOwn, place_in}
-use Rattle.paris_book.specs.Entries.{Entry}
+use Rattle.paris_book.specs.Entries.{Entry, machine_row}
+use Rattle.paris_book.specs.TouchedIds.{touched_ids}
 use Rattle.paris_book.specs.Among.{inputs_of}
 use Rattle.paris_book.specs.Marks.{is_among, data_plan, unsettled_by_ids, ids_in}
 use Rattle.paris_book.proofs.Swept.{swept_entries}
@@ -19,6 +20,7 @@ use Rattle.paris_book.proofs.Deletes.{delete_whole, delete_view}
 use Rattle.paris_book.proofs.Targets.{Target, target_of, target_there, target_row, target_place, target_drop}
 use Rattle.paris_book.proofs.Calls.{few_edits}
 use Rattle.paris_book.proofs.TouchedEdits.{delete_enough}
+use Rattle.paris_book.proofs.MostRead.{found_touched}
 use Rattle.paris_book.proofs.loose.Loose.take_out.Goals as goal
 
 pub end_edit-requires-clause-own : goal.end_edit-requires-clause-own
@@ -40,7 +42,7 @@ rows_are c =
     delete_rows (c.self.inside.edits + 1) t.place (has_key (writes t.row.plan)) c.self.inside.rows.rows c.delete.new.self.rows c.end_edit.new.rows.rows (ids_in c.in_ok-ids-in-Some.ids.items)
     (c.in_ok-delete.ensures.ok ∙ ap (λ (l : List Entry). remove l (place_in l c.args.id.0)) c.own_all.ensures.rows ∙ ap (remove c.self.inside.rows.rows) (target_place c.self.inside.rows.rows (find_row c.args.self.now c.args.id) c.args.id.0 c.in_ok-below.below t))
     c.end_edit.ensures.sound.distinct
-    (c.in_ok-ids-in-Some.ensures
+    (c.in_ok-ids-in-Some.ensures.ids
     ∙ ap (λ ks. touched data_plan (has_key ks) (drop c.in_ok-below.below c.self.inside.rows.rows)) (c.writes.ensures ∙ ap writes c.plan.ensures ∙ ap (λ (x : RowData). writes x.plan) same)
     ∙ ap (λ k. touched data_plan (has_key (writes t.row.plan)) (drop k c.self.inside.rows.rows)) t.just_below)
     (c.end_edit.ensures.rows ∙ ap (λ js. unsettled_by_ids (c.self.inside.edits + 1) (ids_in js) c.delete.new.self.rows) c.as_slice-2.ensures.value)
@@ -74,6 +76,18 @@ returns-clause-enough c =
     let new : State = state_of c.self.inside.board c.end_edit.new.edits c.end_edit.new.rows.next_id (inputs_of c.self.inside.inputs) c.end_edit.new.rows.rows in
     delete_enough old new c.self.inside.rows.rows c.end_edit.new.rows.rows (subst IsAtRest (sym c.self.view_is) c.requires.rests) refl refl (invariant_of-self-2 c).ids_apart
     t.place refl (c.args.id.0, t.row) (drop (t.place + 1) c.self.inside.rows.rows) behind (c.self.inside.edits + 1) (ids_in c.in_ok-ids-in-Some.ids.items) (rows_are c)
-    (c.in_ok-ids-in-Some.ensures
+    (c.in_ok-ids-in-Some.ensures.ids
     ∙ ap (λ ks. touched data_plan (has_key ks) (drop c.in_ok-below.below c.self.inside.rows.rows)) (c.writes.ensures ∙ ap writes c.plan.ensures ∙ ap (λ (x : RowData). writes x.plan) same)
     ∙ ap (λ k. touched data_plan (has_key (writes t.row.plan)) (drop k c.self.inside.rows.rows)) t.just_below)
+
+pub returns-clause-touched : goal.returns-clause-touched
+returns-clause-touched c =
+    let t = target c in
+    let es = c.self.inside.rows.rows in
+    let same = target_row es (find_row c.args.self.now c.args.id) c.args.id.0 c.in_ok-below.below c.in-Some.row.now t c.in-Some.ensures.value in
+    subst (λ (s : State). length c.in_ok-ids-in-Some.ids.items ≤ length (touched_ids s.edits (map machine_row c.end_edit.new.rows.rows))) c.self.view_is
+    (found_touched c.self.inside.edits (has_key (writes t.row.plan)) (take t.place es) (drop (t.place + 1) es) c.end_edit.new.rows.rows c.in_ok-ids-in-Some.ids.items
+    (c.in_ok-ids-in-Some.ensures.ids
+    ∙ ap (λ ks. touched data_plan (has_key ks) (drop c.in_ok-below.below es)) (c.writes.ensures ∙ ap writes c.plan.ensures ∙ ap (λ (x : RowData). writes x.plan) same)
+    ∙ ap (λ k. touched data_plan (has_key (writes t.row.plan)) (drop k es)) t.just_below)
+    (rows_are c))

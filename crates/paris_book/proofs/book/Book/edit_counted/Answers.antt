@@ -3,7 +3,7 @@ use Rattle.std.specs.Prelude.{Result, Ok, Err, IfOk, IfErr}
 use Rattle.paris_machine.specs.CutOff.{IsAtRest}
 use Rattle.paris_machine.specs.Edits.{edited_by}
 use Rattle.paris_machine.proofs.Rests.{off_off}
-use Rattle.paris_book.proofs.book.Book.apply.Goals as goal
+use Rattle.paris_book.proofs.book.Book.edit_counted.Goals as goal
 
 either_way : {T E : Type 0} (r : Result T E) (P : T → Type 0) (Q : E → Type 0) (R : Type 0) → ((x : T) → P x → R) → ((e : E) → Q e → R) → IfOk r P → IfErr r Q → R
 either_way (Ok x) P Q R f g ok err = f x ok
