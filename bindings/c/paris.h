@@ -51,7 +51,8 @@ enum paris_status {
   PARIS_PARTLY = 107,   /* there was no memory left while rows were settled: those that ran are settled */
   PARIS_NO_PROFILE = 108, /* no profile has this number */
   PARIS_NOTHING = 109,  /* no row is ready */
-  PARIS_NOT_RUN = 110   /* the order is not executed */
+  PARIS_NOT_RUN = 110,  /* the order is not executed */
+  PARIS_UNLIKE = 111    /* the two values differ in width or in the number of their processors */
 };
 
 /* Why a row is refused for its data: paris_faults tells of these rows. Such a row is settled, and changes nothing. */
@@ -74,6 +75,21 @@ typedef struct paris_wide {
   uint64_t low;
   uint64_t high;
 } paris_wide;
+
+/* A sum in three words: (high * 2^64 + middle) * 2^64 + low. */
+typedef struct paris_sum {
+  uint64_t low;
+  uint64_t middle;
+  uint64_t high;
+} paris_sum;
+
+/* What some numbers come to: the least, the greatest, their sum, and how many are other than 0. */
+typedef struct paris_stretch {
+  paris_wide least;
+  paris_wide greatest;
+  paris_sum sum;
+  uint64_t others;
+} paris_stretch;
 
 /* A place of the program: its start, its end, or, by any other number, the place just after the row with that id. */
 #define PARIS_START UINT64_C(0)
@@ -123,6 +139,24 @@ uint32_t paris_get_wide(paris_handle *handle, const uint8_t *key, size_t key_len
    numbers the key has, and the id of the row that has to be settled first at PARIS_PENDING. Where the room reaches past the last number
    the call is PARIS_WRONG_ROOM, and *told is how many the key has. For all else it is as paris_get. It takes no memory. */
 uint32_t paris_part(paris_handle *handle, const uint8_t *key, size_t key_len, uint64_t place, uint64_t from, uint64_t *room, size_t len, uint64_t *told);
+
+/* *count is of how many processors the number that a key holds at a place is other than 0, so of a flag on how many it is set, and the id of
+   the row that has to be settled first at PARIS_PENDING. What `show` refuses is refused, by the same fault. A key may have any width. It
+   takes no memory. */
+uint32_t paris_count(paris_handle *handle, const uint8_t *key, size_t key_len, uint64_t place, uint64_t *count);
+
+/* Puts what the numbers that a key holds at a place come to into a room, in as many stretches of the processors as the room has places: of
+   n processors and k places, stretch i is of those from i * n / k on, up to before (i + 1) * n / k, both rounded down. *told is how many
+   numbers there are, at PARIS_WRONG_ROOM too, and the id of the row that has to be settled first at PARIS_PENDING. A room with no place,
+   or with more places than there are processors, is PARIS_WRONG_ROOM. What `show` refuses is refused, by the same fault. A key may have
+   any width. It takes no memory. */
+uint32_t paris_summary(paris_handle *handle, const uint8_t *key, size_t key_len, uint64_t place, paris_stretch *room, size_t len, uint64_t *told);
+
+/* Puts a 1 into a room for each stretch, as paris_summary cuts them, in which what a key holds at a place differs from what it holds there in
+   another session, and a 0 for each other stretch. *told is how many processors there are. Rooms and statuses are as in paris_summary,
+   of the first session, and where that shows a value, of the other one. Where the two values haven't the same width and as many
+   processors, the call is PARIS_UNLIKE. Either session that is closed is PARIS_CLOSED. It takes no memory. */
+uint32_t paris_differs(paris_handle *handle, paris_handle *other, const uint8_t *key, size_t key_len, uint64_t place, uint8_t *room, size_t len, uint64_t *told);
 
 /* Puts the ids of the rows in program order into a room of as many words. *count is how many they are, at PARIS_WRONG_ROOM too. */
 uint32_t paris_rows(paris_handle *handle, uint64_t *room, size_t len, size_t *count);

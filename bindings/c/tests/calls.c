@@ -7,6 +7,8 @@ static void closed_handles(void) {
   uint64_t told = 7, room[4] = {7, 7, 7, 7};
   uint8_t text[1] = {7};
   paris_wide wide[2] = {{7, 7}, {7, 7}};
+  paris_handle other = {0};
+  paris_stretch stretches[1] = {{{7, 7}, {7, 7}, {7, 7, 7}, 7}};
   WANT(paris_close(&handle), PARIS_CLOSED);
   WANT(paris_answer(&handle, bytes("list"), 4, &len), PARIS_CLOSED);
   WANT(paris_reply(&handle, text, 1), PARIS_CLOSED);
@@ -15,6 +17,9 @@ static void closed_handles(void) {
   WANT(paris_set_wide(&handle, bytes("a"), 1, 0, wide, 2), PARIS_CLOSED);
   WANT(paris_get_wide(&handle, bytes("a"), 1, PARIS_END, wide, 2, &told), PARIS_CLOSED);
   WANT(paris_part(&handle, bytes("a"), 1, PARIS_END, 0, room, 4, &told), PARIS_CLOSED);
+  WANT(paris_count(&handle, bytes("a"), 1, PARIS_END, &told), PARIS_CLOSED);
+  WANT(paris_summary(&handle, bytes("a"), 1, PARIS_END, stretches, 1, &told), PARIS_CLOSED);
+  WANT(paris_differs(&handle, &other, bytes("a"), 1, PARIS_END, text, 1, &told), PARIS_CLOSED);
   WANT(paris_rows(&handle, room, 4, &len), PARIS_CLOSED);
   WANT(paris_settle(&handle, &told), PARIS_CLOSED);
   WANT(paris_faults(&handle, room, 4, &len), PARIS_CLOSED);
@@ -22,6 +27,7 @@ static void closed_handles(void) {
   WANT(told, 7);
   WANT(room[0], 7);
   WANT(wide[0].high, 7);
+  WANT(stretches[0].others, 7);
   WANT(text[0], 7);
 }
 
@@ -214,6 +220,159 @@ static void parts_of_arrays(void) {
   WANT(paris_close(&handle), PARIS_OK);
 }
 
+static void counts_of_numbers(void) {
+  static const uint64_t a[4] = {0, 20, 0, UINT64_MAX}, flags[4] = {1, 0, 0, 0};
+  paris_handle handle = {0};
+  uint64_t count = 9;
+  declare(&handle);
+  WANT(paris_count(&handle, bytes("a"), 1, PARIS_START, &count), PARIS_OK);
+  WANT(count, 0);
+  WANT(paris_count(&handle, bytes("s.context"), 9, PARIS_END, &count), PARIS_OK);
+  WANT(count, 4);
+  WANT(paris_set(&handle, bytes("a"), 1, 0, a, 4), PARIS_OK);
+  WANT(paris_set(&handle, bytes("s.context"), 9, 0, flags, 4), PARIS_OK);
+  WANT(paris_count(&handle, bytes("a"), 1, PARIS_END, &count), PARIS_OK);
+  WANT(count, 2);
+  WANT(paris_count(&handle, bytes("s.context"), 9, PARIS_END, &count), PARIS_OK);
+  WANT(count, 1);
+  WANT(paris_count(&handle, bytes("d"), 1, PARIS_END, &count), 7);
+  WANT(paris_count(&handle, bytes("a"), 1, 1, &count), 10);
+  WANT(paris_count(&handle, bytes("1"), 1, PARIS_END, &count), PARIS_NO_KEY);
+  WANT_REPLY(&handle, "insert end u-add-3-1L c a b 64", "row 1\n");
+  WANT(paris_count(&handle, bytes("c"), 1, PARIS_END, &count), PARIS_PENDING);
+  WANT(count, 1);
+  WANT(paris_close(&handle), PARIS_OK);
+}
+
+enum { WIDE_ONES = 128 };
+
+static bool is_less(paris_wide one, paris_wide other) { return one.high < other.high || (one.high == other.high && one.low < other.low); }
+
+/* What wide numbers come to, by their words. */
+static paris_stretch summed_up(const paris_wide *numbers, size_t len) {
+  paris_stretch all = {numbers[0], numbers[0], {0, 0, 0}, 0};
+  for (size_t i = 0; i < len; i++) {
+    paris_sum *sum = &all.sum;
+    if (is_less(numbers[i], all.least)) all.least = numbers[i];
+    if (is_less(all.greatest, numbers[i])) all.greatest = numbers[i];
+    sum->low += numbers[i].low;
+    uint64_t carry = sum->low < numbers[i].low;
+    sum->middle += carry;
+    sum->high += carry && !sum->middle;
+    sum->middle += numbers[i].high;
+    sum->high += sum->middle < numbers[i].high;
+    all.others += numbers[i].low || numbers[i].high;
+  }
+  return all;
+}
+
+static bool is_stretch(const paris_stretch *one, const paris_stretch *other) { return !memcmp(one, other, sizeof *one); }
+
+/* A session with numbers of 128 bits: small ones, great ones and zeros. */
+static void declare_wide(paris_handle *handle, paris_wide *numbers) {
+  WANT(paris_open_profile(handle, 2), PARIS_OK);
+  WANT_REPLY(handle, "set s 128", "ok\n");
+  WANT_REPLY(handle, "field a s 128", "ok\n");
+  for (uint64_t i = 0; i < WIDE_ONES; i++) {
+    paris_wide small = {(i * 37) % 101, 0}, great = {UINT64_MAX - i, UINT64_MAX - (i * 53) % 97}, none = {0, 0};
+    numbers[i] = i % 3 == 0 ? great : i % 7 == 0 ? none : small;
+  }
+  WANT(paris_set_wide(handle, bytes("a"), 1, 0, numbers, WIDE_ONES), PARIS_OK);
+}
+
+static void summaries_of_stretches(void) {
+  static paris_wide numbers[WIDE_ONES];
+  static paris_stretch room[WIDE_ONES + 1];
+  paris_handle handle = {0};
+  uint64_t told = 0;
+  declare_wide(&handle, numbers);
+  for (size_t parts = 1; parts <= WIDE_ONES; parts++) {
+    memset(room, 9, sizeof room);
+    paris_stretch after = room[parts];
+    WANT(paris_summary(&handle, bytes("a"), 1, PARIS_END, room, parts, &told), PARIS_OK);
+    WANT(told, WIDE_ONES);
+    for (size_t i = 0; i < parts; i++) {
+      size_t start = i * WIDE_ONES / parts, stop = (i + 1) * WIDE_ONES / parts;
+      paris_stretch wanted = summed_up(numbers + start, stop - start);
+      WANT(is_stretch(&room[i], &wanted), true);
+    }
+    WANT(is_stretch(&room[parts], &after), true);
+  }
+  paris_stretch before = room[0];
+  WANT(paris_summary(&handle, bytes("a"), 1, PARIS_END, room, 0, &told), PARIS_WRONG_ROOM);
+  WANT(told, WIDE_ONES);
+  told = 0;
+  WANT(paris_summary(&handle, bytes("a"), 1, PARIS_END, room, WIDE_ONES + 1, &told), PARIS_WRONG_ROOM);
+  WANT(told, WIDE_ONES);
+  WANT(paris_summary(&handle, bytes("d"), 1, PARIS_END, room, 1, &told), 7);
+  WANT(paris_summary(&handle, bytes("a"), 1, 1, room, 1, &told), 10);
+  WANT(paris_summary(&handle, bytes("1"), 1, PARIS_END, room, 1, &told), PARIS_NO_KEY);
+  WANT_REPLY(&handle, "insert end lognot-2-1L a a 128", "row 1\n");
+  WANT(paris_summary(&handle, bytes("a"), 1, PARIS_END, room, 1, &told), PARIS_PENDING);
+  WANT(told, 1);
+  WANT(is_stretch(&room[0], &before), true);
+  WANT(paris_close(&handle), PARIS_OK);
+}
+
+/* However many the stretches are, the one that has the processor differs and no other. */
+static void want_difference(int line, paris_handle *handle, paris_handle *other, size_t processor) {
+  for (size_t parts = 1; parts <= WIDE_ONES; parts++) {
+    uint8_t room[WIDE_ONES + 1] = {0};
+    uint64_t told = 0;
+    memset(room, 9, sizeof room);
+    WANT_AT(line, paris_differs(handle, other, bytes("a"), 1, PARIS_END, room, parts, &told), PARIS_OK);
+    WANT_AT(line, told, WIDE_ONES);
+    for (size_t i = 0; i < parts; i++) {
+      bool has_it = i * WIDE_ONES / parts <= processor && processor < (i + 1) * WIDE_ONES / parts;
+      WANT_AT(line, room[i], has_it);
+    }
+    WANT_AT(line, room[parts], 9);
+  }
+}
+
+static void differences_of_sessions(void) {
+  static paris_wide numbers[WIDE_ONES];
+  static const paris_wide two[1] = {{2, 0}}, top[1] = {{0, UINT64_C(1) << 63}};
+  paris_handle handle = {0}, other = {0};
+  uint8_t room[2] = {9, 9};
+  uint64_t told = 0;
+  declare_wide(&handle, numbers);
+  WANT(paris_differs(&handle, &other, bytes("a"), 1, PARIS_END, room, 2, &told), PARIS_CLOSED);
+  WANT(paris_differs(&other, &handle, bytes("a"), 1, PARIS_END, room, 2, &told), PARIS_CLOSED);
+  WANT(paris_snapshot(&handle, &other), PARIS_OK);
+  want_difference(__LINE__, &handle, &other, WIDE_ONES);
+  for (size_t at = 0; at < WIDE_ONES; at += 21) {
+    WANT(paris_set_wide(&other, bytes("a"), 1, at, at % 2 ? two : top, 1), PARIS_OK);
+    want_difference(__LINE__, &handle, &other, at);
+    want_difference(__LINE__, &other, &handle, at);
+    WANT(paris_set_wide(&other, bytes("a"), 1, at, numbers + at, 1), PARIS_OK);
+  }
+  want_difference(__LINE__, &handle, &other, WIDE_ONES);
+  WANT(paris_differs(&handle, &other, bytes("a"), 1, PARIS_END, room, 0, &told), PARIS_WRONG_ROOM);
+  WANT(told, WIDE_ONES);
+  WANT(paris_differs(&handle, &other, bytes("1"), 1, PARIS_END, room, 2, &told), PARIS_NO_KEY);
+  WANT(paris_differs(&handle, &other, bytes("d"), 1, PARIS_END, room, 2, &told), 7);
+  WANT_REPLY(&other, "insert end lognot-2-1L a a 128", "row 1\n");
+  WANT(paris_differs(&handle, &other, bytes("a"), 1, PARIS_END, room, 2, &told), PARIS_PENDING);
+  WANT(told, 1);
+  WANT(paris_differs(&other, &handle, bytes("a"), 1, PARIS_END, room, 2, &told), PARIS_PENDING);
+  WANT(told, 1);
+  WANT(paris_differs(&handle, &other, bytes("a"), 1, 1, room, 2, &told), 10);
+  WANT(paris_open(&other), PARIS_OK);
+  WANT_REPLY(&other, "set s 128", "ok\n");
+  WANT(paris_differs(&handle, &other, bytes("a"), 1, PARIS_END, room, 2, &told), 7);
+  WANT_REPLY(&other, "field a s 64", "ok\n");
+  WANT(paris_differs(&handle, &other, bytes("a"), 1, PARIS_END, room, 2, &told), PARIS_UNLIKE);
+  WANT(paris_open_profile(&other, 2), PARIS_OK);
+  WANT_REPLY(&other, "set s 64", "ok\n");
+  WANT_REPLY(&other, "field a s 128", "ok\n");
+  WANT(paris_differs(&handle, &other, bytes("a"), 1, PARIS_END, room, 2, &told), PARIS_UNLIKE);
+  WANT(room[0], 9);
+  WANT(room[1], 9);
+  WANT(paris_close(&other), PARIS_OK);
+  WANT(paris_close(&handle), PARIS_OK);
+}
+
 /* A session with two sends on four processors: the first one's addresses are 0 0 1 1, so messages meet at the processors 0 and 1, and
    the second one's 2 4 2 0, so processor 1 holds an address outside the set. */
 static void send_twice(paris_handle *handle) {
@@ -320,6 +479,9 @@ int main(void) {
   wide_numbers();
   sums_of_arrays();
   parts_of_arrays();
+  counts_of_numbers();
+  summaries_of_stretches();
+  differences_of_sessions();
   rows_that_are_refused();
   texts_and_short_rooms();
   scripts_and_short_rooms();

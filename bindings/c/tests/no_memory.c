@@ -248,6 +248,39 @@ static void origin(paris_handle *handle, const char *key, struct told *told) {
   put(told, &row, sizeof row);
 }
 
+static void counted(paris_handle *handle, const char *key, struct told *told) {
+  long before = seen;
+  uint64_t count = 0;
+  told->status = paris_count(handle, bytes(key), strlen(key), PARIS_START, &count);
+  WANT(!told->status && seen == before);
+  put(told, &count, sizeof count);
+}
+
+static void summed_up(paris_handle *handle, const char *key, struct told *told) {
+  long before = seen;
+  paris_stretch room[3];
+  uint64_t count = 0;
+  told->status = paris_summary(handle, bytes(key), strlen(key), PARIS_START, room, 3, &count);
+  WANT(!told->status && seen == before);
+  put(told, room, sizeof room);
+}
+
+/* A session beside its snapshot, which is made where no memory is refused. */
+static void compared(paris_handle *handle, const char *key, struct told *told) {
+  static paris_handle copy = {0};
+  bool was_watching = watching;
+  uint8_t room[3] = {9, 9, 9};
+  uint64_t count = 0;
+  watching = false;
+  WANT(paris_snapshot(handle, &copy) == PARIS_OK);
+  watching = was_watching;
+  long before = seen;
+  told->status = paris_differs(handle, &copy, bytes(key), strlen(key), PARIS_START, room, 3, &count);
+  WANT(!told->status && seen == before);
+  put(told, room, sizeof room);
+  WANT(paris_close(&copy) == PARIS_OK);
+}
+
 static void look(paris_handle *handle, struct told *told);
 
 /* A session in the same state, which is looked at and closed. Where there is no memory none is open. */
@@ -318,6 +351,9 @@ static const struct step STEPS[] = {
     {"", release},
     {"", snapshot},
     {"b", part},
+    {"a", counted},
+    {"e", summed_up},
+    {"a", compared},
     {"take", answer},
     {"settle", settle_line},
     {"show c end", answer},
