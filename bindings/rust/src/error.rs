@@ -16,7 +16,7 @@ pub enum Error {
     /// The row with this id has to be settled first.
     Pending(u64),
     /// The room has another length than the numbers that are to be put there, or reaches past the last of
-    /// them. They are so many.
+    /// them, or they can't be cut into so many stretches. They are so many.
     WrongRoom(usize),
     /// The script is too long, or the session has answered as many lines as it can count.
     TooMany,
@@ -33,6 +33,8 @@ pub enum Error {
     NothingReady,
     /// The order is not executed. A [`Done`](crate::Done) is, so no call here gives this.
     NotRun,
+    /// The two values differ in width or in the number of their processors.
+    Unlike,
     /// The library answered by a status that this package doesn't know.
     Unknown(u32),
 }
@@ -51,6 +53,7 @@ impl Error {
             sys::NO_PROFILE => Error::NoProfile,
             sys::NOTHING => Error::NothingReady,
             sys::NOT_RUN => Error::NotRun,
+            sys::UNLIKE => Error::Unlike,
             _ => Fault::of_number(status).map_or(Error::Unknown(status), Error::Fault),
         }
     }
@@ -69,6 +72,7 @@ impl Error {
             Error::NoProfile => sys::NO_PROFILE,
             Error::NothingReady => sys::NOTHING,
             Error::NotRun => sys::NOT_RUN,
+            Error::Unlike => sys::UNLIKE,
             Error::Unknown(status) => status,
         }
     }
@@ -104,6 +108,9 @@ impl Display for Error {
             Error::NoProfile => f.write_str("no profile has this number"),
             Error::NothingReady => f.write_str("no row is ready"),
             Error::NotRun => f.write_str("the order is not executed"),
+            Error::Unlike => {
+                f.write_str("the two values differ in width or in the number of their processors")
+            }
             Error::Unknown(status) => write!(
                 f,
                 "the library answered by status {status}, which this package doesn't know"
@@ -122,7 +129,7 @@ mod tests {
     fn an_error_keeps_its_status() {
         for status in 1..200 {
             let error = Error::of_status(status, 7);
-            let is_known = matches!(status, 1..=23 | 101..=110);
+            let is_known = matches!(status, 1..=23 | 101..=111);
             assert_eq!(error.status(), status);
             assert_eq!(error == Error::Unknown(status), !is_known, "{error:?}");
         }

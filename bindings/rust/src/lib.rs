@@ -39,6 +39,7 @@ mod place;
 mod profile;
 mod refused;
 mod session;
+mod summary;
 mod sys;
 mod verdict;
 
@@ -49,4 +50,5 @@ pub use place::Place;
 pub use profile::Profile;
 pub use refused::{Cause, RowFault};
 pub use session::{transcript, Session};
+pub use summary::{Sum, Summary};
 pub use verdict::Verdict;

@@ -3,6 +3,7 @@ use crate::order::{Done, Order};
 use crate::place::Place;
 use crate::profile::Profile;
 use crate::refused::RowFault;
+use crate::summary::Summary;
 use crate::sys::{self, Handle};
 use crate::verdict::Verdict;
 use std::fmt::{self, Debug, Formatter};
@@ -131,6 +132,81 @@ impl Session {
         self.0
             .part(key.as_ref(), place.number(), from, room)
             .map(|told| told as usize)
+    }
+
+    /// Of how many processors the number that a key holds at a place is other than 0: of a flag on how many
+    /// it is set.
+    ///
+    /// ```
+    /// # use paris::{Place, Session};
+    /// # fn main() -> Result<(), paris::Error> {
+    /// let mut session = Session::new()?;
+    /// session.answer("set s 4")?;
+    /// session.answer("field a s 8")?;
+    /// session.set("a", 1, &[7, 0, 9])?;
+    ///
+    /// assert_eq!(session.count("a", Place::End)?, 2);
+    /// assert_eq!(session.count("s.context", Place::End)?, 4);
+    /// # Ok(())
+    /// # }
+    /// ```
+    pub fn count(&self, key: impl AsRef<[u8]>, place: Place) -> Result<u64, Error> {
+        self.0.count(key.as_ref(), place.number())
+    }
+
+    /// What the numbers that a key holds at a place come to in so many stretches of the processors. Of n
+    /// processors and k parts, stretch i is of those from i * n / k on, up to before (i + 1) * n / k, both
+    /// rounded down. No part, or more parts than processors, are [`Error::WrongRoom`].
+    ///
+    /// ```
+    /// # use paris::{Place, Session};
+    /// # fn main() -> Result<(), paris::Error> {
+    /// let mut session = Session::new()?;
+    /// session.answer("set s 4")?;
+    /// session.answer("field a s 8")?;
+    /// session.set("a", 0, &[7, 3, 0, 9])?;
+    /// let halves = session.summary("a", Place::End, 2)?;
+    ///
+    /// assert_eq!((halves[0].least, halves[0].greatest, halves[0].others), (3, 7, 2));
+    /// assert_eq!(halves[1].sum.narrow(), Some(9));
+    /// # Ok(())
+    /// # }
+    /// ```
+    pub fn summary(
+        &self,
+        key: impl AsRef<[u8]>,
+        place: Place,
+        parts: usize,
+    ) -> Result<Vec<Summary>, Error> {
+        self.0.summary(key.as_ref(), place.number(), parts)
+    }
+
+    /// In which of so many stretches, as [`summary`](Session::summary) cuts them, what a key holds at a place
+    /// differs from what it holds there in another session. Values of another width, or of another number
+    /// of processors, are [`Error::Unlike`].
+    ///
+    /// ```
+    /// # use paris::{Place, Session};
+    /// # fn main() -> Result<(), paris::Error> {
+    /// let mut session = Session::new()?;
+    /// session.answer("set s 4")?;
+    /// session.answer("field a s 8")?;
+    /// let before = session.snapshot()?;
+    /// session.set("a", 2, &[7])?;
+    ///
+    /// assert_eq!(session.differs(&before, "a", Place::End, 2)?, [false, true]);
+    /// # Ok(())
+    /// # }
+    /// ```
+    pub fn differs(
+        &self,
+        other: &Session,
+        key: impl AsRef<[u8]>,
+        place: Place,
+        parts: usize,
+    ) -> Result<Vec<bool>, Error> {
+        self.0
+            .differs(&other.0, key.as_ref(), place.number(), parts)
     }
 
     /// The ids of the rows in program order.

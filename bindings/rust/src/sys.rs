@@ -6,6 +6,7 @@
 #![allow(unsafe_code)]
 
 use crate::error::Error;
+use crate::summary::{Sum, Summary};
 use std::cell::UnsafeCell;
 use std::ffi::c_void;
 use std::ptr;
@@ -21,6 +22,7 @@ pub(crate) const PARTLY: u32 = 107;
 pub(crate) const NO_PROFILE: u32 = 108;
 pub(crate) const NOTHING: u32 = 109;
 pub(crate) const NOT_RUN: u32 = 110;
+pub(crate) const UNLIKE: u32 = 111;
 
 #[repr(C)]
 struct Words {
@@ -46,6 +48,52 @@ impl Wide {
 
     fn number(self) -> u128 {
         u128::from(self.high) << 64 | u128::from(self.low)
+    }
+}
+
+/// A sum in three words.
+#[repr(C)]
+#[derive(Clone, Copy, Default)]
+struct SumWords {
+    low: u64,
+    middle: u64,
+    high: u64,
+}
+
+/// What the numbers of a stretch come to.
+#[repr(C)]
+#[derive(Clone, Copy)]
+struct Stretch {
+    least: Wide,
+    greatest: Wide,
+    sum: SumWords,
+    others: u64,
+}
+
+impl Stretch {
+    fn none() -> Stretch {
+        Stretch {
+            least: Wide::of(0),
+            greatest: Wide::of(0),
+            sum: SumWords::default(),
+            others: 0,
+        }
+    }
+
+    fn summary(self) -> Summary {
+        let low = Wide {
+            low: self.sum.low,
+            high: self.sum.middle,
+        };
+        Summary {
+            least: self.least.number(),
+            greatest: self.greatest.number(),
+            sum: Sum {
+                high: self.sum.high,
+                low: low.number(),
+            },
+            others: self.others,
+        }
     }
 }
 
@@ -103,6 +151,32 @@ extern "C" {
         place: u64,
         from: u64,
         room: *mut u64,
+        len: usize,
+        told: *mut u64,
+    ) -> u32;
+    fn paris_count(
+        handle: *mut Words,
+        key: *const u8,
+        key_len: usize,
+        place: u64,
+        count: *mut u64,
+    ) -> u32;
+    fn paris_summary(
+        handle: *mut Words,
+        key: *const u8,
+        key_len: usize,
+        place: u64,
+        room: *mut Stretch,
+        len: usize,
+        told: *mut u64,
+    ) -> u32;
+    fn paris_differs(
+        handle: *mut Words,
+        other: *mut Words,
+        key: *const u8,
+        key_len: usize,
+        place: u64,
+        room: *mut u8,
         len: usize,
         told: *mut u64,
     ) -> u32;
@@ -428,6 +502,73 @@ impl Handle {
             )
         };
         outcome(status, told).map(|()| told)
+    }
+
+    /// Of how many processors a number is other than 0.
+    pub(crate) fn count(&self, key: &[u8], place: u64) -> Result<u64, Error> {
+        let mut count = 0;
+        // SAFETY: the handle is in no other call, and the key is a slice.
+        let status =
+            unsafe { paris_count(self.0.get(), key.as_ptr(), key.len(), place, &mut count) };
+        outcome(status, count).map(|()| count)
+    }
+
+    /// What the numbers of so many stretches come to.
+    pub(crate) fn summary(
+        &self,
+        key: &[u8],
+        place: u64,
+        parts: usize,
+    ) -> Result<Vec<Summary>, Error> {
+        let mut told = 0;
+        let mut room = vec![Stretch::none(); parts];
+        let (name, start) = (key.as_ptr(), room.as_mut_ptr());
+        // SAFETY: the handle is in no other call, and the key and the room are slices.
+        let status = unsafe {
+            paris_summary(
+                self.0.get(),
+                name,
+                key.len(),
+                place,
+                start,
+                parts,
+                &mut told,
+            )
+        };
+        outcome(status, told)?;
+        Ok(room.into_iter().map(Stretch::summary).collect())
+    }
+
+    /// In which of so many stretches this session and another one differ.
+    pub(crate) fn differs(
+        &self,
+        other: &Handle,
+        key: &[u8],
+        place: u64,
+        parts: usize,
+    ) -> Result<Vec<bool>, Error> {
+        if ptr::eq(self, other) {
+            // The library wants two handles.
+            return self.differs(&self.snapshot()?, key, place, parts);
+        }
+        let mut told = 0;
+        let mut room = vec![0; parts];
+        let (name, start) = (key.as_ptr(), room.as_mut_ptr());
+        // SAFETY: the handles are two, and in no other call, and the key and the room are slices.
+        let status = unsafe {
+            paris_differs(
+                self.0.get(),
+                other.0.get(),
+                name,
+                key.len(),
+                place,
+                start,
+                parts,
+                &mut told,
+            )
+        };
+        outcome(status, told)?;
+        Ok(room.into_iter().map(|differs| differs != 0).collect())
     }
 
     /// An order for the first row that is ready, if there is one.

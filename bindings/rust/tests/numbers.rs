@@ -20,6 +20,7 @@ fn errors() -> BTreeMap<&'static str, Error> {
         ("NO_PROFILE", Error::NoProfile),
         ("NOTHING", Error::NothingReady),
         ("NOT_RUN", Error::NotRun),
+        ("UNLIKE", Error::Unlike),
     ])
 }
 
