@@ -14,16 +14,13 @@ from pevudlo.document.pieces import Kind, first_command, piece_of
 from pevudlo.document.update import Update
 from pevudlo.document.watched import PERIOD, Glimpse, Watched
 from pevudlo.files import put_text
-from pevudlo.hints.meanings import Where
 from pevudlo.lang.grammar import PROFILE_COMMAND, wrong_column
 from pevudlo.lang.replies import NoReply, parse
 from pevudlo.client.news import News
 from pevudlo.live.running import BY_THEMSELVES as THEMSELVES
 from pevudlo.live.running import given_in, step_of
 from pevudlo.live.session import CHANGING, Session, Step, Stopped
-from pevudlo.record.looks import Looker
-from pevudlo.running.background import Background
-from pevudlo.talk import LOOKS, Talk
+from pevudlo.talk import LOOKS
 from pevudlo.wire.book import Book
 from pevudlo.wire.library import Library
 from pevudlo.wire.peers import Peer
@@ -71,9 +68,10 @@ class SessionPeer:
 class FollowedSession(Session):
     """A session of a file. `text` is its text, `number` counts texts, and `done` is what the last update did."""
 
+    kept_edits = 0
+
     def __init__(self, path: Path, library: Path, workers: int = 2, is_quiet: bool = True) -> None:
         self._anew = set[str]()
-        self._before: Book | None = None
         # Whether the rows are those of a program that was listed, so that what an update touches tells what is other.
         self._is_listed = False
         super().__init__(library, workers, is_quiet)
@@ -123,7 +121,7 @@ class FollowedSession(Session):
                 with self._telling(self.file.path.name):
                     before = self._still()
                     self.done = self.document.update(text, hold)
-                    self._before = before if self._is_listed else None
+                    self.before = before if self._is_listed else None
                     self._see_text()
             except (PipeError, Stopped, NoReply, MemoryError) as error:
                 self.trouble = self.trouble or str(error)
@@ -134,7 +132,7 @@ class FollowedSession(Session):
     def _still(self) -> Book | None:
         """The present program, to be compared with. None where there is no memory for it, or no program."""
         try:
-            return self._book.still() if self._book.is_open else None
+            return self.book.still() if self.book.is_open else None
         except MemoryError:
             return None
 
@@ -288,29 +286,11 @@ class FollowedSession(Session):
             self.ledger.forget()
             self._begin()
         self._is_new = False
-        return self._book
-
-    def _begin(self) -> None:
-        """Opens the library, whose rows run in the workers."""
-        book = self._book = Book(self._library)
-        talk = self._talk = Talk(book, Where.LIVE)
-        self._lister = Looker(book, talk.board)
-        self._background = Background(book, lambda: talk.board, self._workers, 0)
-
-    @property
-    def book(self) -> Book:
-        return self._book
-
-    @property
-    def before(self) -> Book | None:
-        return self._before
+        return self.book
 
     def _begun_second(self) -> Peer:
         """What gives the verdicts, with nothing declared."""
         return Library(self._library)
-
-    def _end(self) -> None:
-        self._background.close()
 
     def _step(self, line: str) -> Step:
         """One command. Raises Stopped where the program has ended."""
@@ -329,7 +309,7 @@ class FollowedSession(Session):
     def told_line(self, line: str) -> list[str]:
         """The reply to one line of the document. Raises PipeError."""
         if line.split(" ", 1)[0] not in CHANGING:
-            return self._book.ask(line)
+            return self.book.ask(line)
         self._note_given(line)
         try:
             return list(self._step(line).lines)
@@ -338,7 +318,7 @@ class FollowedSession(Session):
 
     def told_lines(self, lines: Sequence[str]) -> list[list[str]]:
         """The replies to the lines that a new book is told."""
-        replies = self._book.ask_all(lines)
+        replies = self.book.ask_all(lines)
         for line, reply in zip(lines, replies):
             if reply:
                 self.board.note(line, reply[0])

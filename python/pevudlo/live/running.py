@@ -11,19 +11,16 @@ from collections import deque
 from collections.abc import Sequence
 from pathlib import Path
 
-from pevudlo.hints.meanings import Where
 from pevudlo.lang.replies import Ok, Word
 from pevudlo.client.news import News, shortened
 from pevudlo.live.session import CHANGING, Session, Step
 from pevudlo.progress import line_of
-from pevudlo.record.looks import Looker
 from pevudlo.running.background import Background
 from pevudlo.running.crew import News as Result
 from pevudlo.running.held import bytes_text
 from pevudlo.running.history import Step as Kept
 from pevudlo.running.words import WHY
-from pevudlo.talk import EDITS, Answer, Talk
-from pevudlo.wire.book import Book
+from pevudlo.talk import EDITS, Answer
 from pevudlo.wire.pipe import is_comment
 
 EVERY = 0.04
@@ -61,26 +58,14 @@ class RunningSession(Session):
         self._number = 0
         self._marks: list[int] = []
         self._undone: list[list[str]] = []
-        self._before: Book | None = None
         self._editions = 0
         self._seen: tuple[int, int, int, bool] | None = None
         super().__init__(library, workers, is_quiet)
 
     def _begin(self) -> None:
-        """Opens the library, and starts a thread that tells the tabs of results."""
-        self._book = Book(self._library)
-        talk = self._talk = Talk(self._book, Where.LIVE)
-        self._lister = Looker(self._book, talk.board)
-        self.background = Background(self._book, lambda: talk.board, self._workers)
+        """Begins a program, and starts a thread that tells the tabs of results."""
+        super()._begin()
         threading.Thread(target=self._gather, args=(self.background,), daemon=True).start()
-
-    @property
-    def book(self) -> Book:
-        return self._book
-
-    @property
-    def before(self) -> Book | None:
-        return self._before
 
     # Edits.
 
@@ -139,7 +124,7 @@ class RunningSession(Session):
     def _turned(self, line: str, steps: Sequence[Kept]) -> None:
         """The program is another, and what was there before stays to be compared with."""
         self.edits, self.line = self.edits + 1, line
-        self._before = self.book.beside(steps[-1].held) if steps else None
+        self.before = self.book.beside(steps[-1].held) if steps else None
 
     def _see_edit(self, is_moved: bool) -> None:
         """Sees which rows an edit touched, and the order where it `is_moved`. No list of all rows is made."""
@@ -314,9 +299,6 @@ class RunningSession(Session):
 
     def restart(self) -> None:
         raise ValueError(BY_THEMSELVES)
-
-    def _end(self) -> None:
-        self.background.close()
 
 
 def step_of(answer: Answer, number: int = 0) -> Step:

@@ -16,6 +16,7 @@ from math import prod
 from pathlib import Path
 
 from pevudlo.hints.explanation import Explanation
+from pevudlo.hints.meanings import Where
 from pevudlo.lang.board import Board
 from pevudlo.lang.causes import causes
 from pevudlo.lang.keys import axes_of, width_of
@@ -26,6 +27,8 @@ from pevudlo.client.ledger import Ledger
 from pevudlo.client.news import News, said, shortened
 from pevudlo.progress import Progress, progress
 from pevudlo.record.looks import Looker
+from pevudlo.running.background import Background
+from pevudlo.running.history import MOST_STEPS
 from pevudlo.talk import Talk
 from pevudlo.wire.book import Book
 from pevudlo.wire.pipe import is_comment
@@ -99,8 +102,12 @@ NOW, BEFORE, COMPARED = range(3)
 class Session:
     """One program and what is known of it. `version` rises with each change, and `edits` with each edit.
 
-    `number` counts the texts of a file that is followed, and is 0 without one. `line` is the last edit.
+    `number` counts the texts of a file that is followed, and is 0 without one. `line` is the last edit. `book` is the
+    session of the library whose rows these are, and `before` the program before the last edit, where it is kept.
     """
+
+    kept_edits = MOST_STEPS
+    """How many edits are kept to be taken back."""
 
     def __init__(self, library: Path, workers: int = 2, is_quiet: bool = True) -> None:
         """`is_quiet` says that a terminal isn't told how far a command is."""
@@ -115,6 +122,7 @@ class Session:
         self._library, self._workers, self._is_quiet = library, workers, is_quiet
         self._news = threading.Condition()
         self._closed, self._faults_seen = False, 0
+        self.before: Book | None = None
         self._begin()
 
     @property
@@ -127,16 +135,6 @@ class Session:
     def board(self) -> Board:
         """What is declared."""
         return self._talk.board
-
-    @property
-    def book(self) -> Book:
-        """The session of the library whose rows these are."""
-        raise NotImplementedError
-
-    @property
-    def before(self) -> Book | None:
-        """The program before the last edit, where it is kept."""
-        return None
 
     # What is done.
 
@@ -299,12 +297,12 @@ class Session:
     # What runs the rows.
 
     def _begin(self) -> None:
-        """Begins a program with nothing declared."""
-        raise NotImplementedError
+        """Begins a program with nothing declared, whose rows run in the workers."""
+        self.book = Book(self._library)
+        talk = self._talk = Talk(self.book, Where.LIVE)
+        self._lister = Looker(self.book, talk.board)
+        self.background = Background(self.book, lambda: talk.board, self._workers, self.kept_edits)
 
     def _end(self) -> None:
         """Ends what runs the rows."""
-        raise NotImplementedError
-
-    _talk: Talk
-    _lister: Looker
+        self.background.close()
