@@ -97,9 +97,10 @@ def native(tmp_path: Path, monkeypatch: pytest.MonkeyPatch, says: Says) -> Path:
         build.below(folder).mkdir()
         for name in (program.NAME, library_places.LIBRARY):
             (build.below(folder) / name).touch(mode=0o755)
-    for module in (program, library_places, version):
+    for module in (program, version):
         monkeypatch.setattr(module, "NATIVE", folder)
-        monkeypatch.setattr(module, "ROOT", tmp_path / "none")
+    for place in (program, library_places, version):
+        monkeypatch.setattr(place, "ROOT", tmp_path / "none")
     for variable in (program.VARIABLE, library_places.LIBRARY_VARIABLE):
         monkeypatch.delenv(variable, raising=False)
     monkeypatch.setattr(program, "by_repository", lambda looked: None)

@@ -5,9 +5,11 @@ from __future__ import annotations
 import os
 import shutil
 import subprocess
+from collections.abc import Callable, Iterable
+from dataclasses import dataclass
 from functools import cache
 from pathlib import Path
-from typing import Callable, Iterable
+from typing import Optional
 
 from pevudlo.wire.builds import BUILD_VARIABLE, allowed
 
@@ -19,11 +21,13 @@ ROOT = PACKAGE.parents[1]
 # The programs and the libraries of a package that was installed with them.
 NATIVE = PACKAGE / "native"
 
-
 WHEEL = (
     "a wheel has the program and the library: at the top of the repository, `make wheel` and then "
     "`pip install out/pevudlo-*.whl`"
 )
+
+Place = Callable[[list[str]], Optional[Path]]
+"""Where something may be: gives it, or notes why it isn't there."""
 
 
 class NotFound(Exception):
@@ -50,23 +54,49 @@ def files_of_builds(folder: Path, name: str) -> list[Path]:
         raise NotFound([str(error)], name) from None
 
 
-def by_variable(looked: list[str]) -> Path | None:
-    """The program that the variable names. A variable that is wrong is an error and not passed over."""
-    named = os.environ.get(VARIABLE, "")
-    if not named:
-        looked.append(f"the variable {VARIABLE} isn't set")
+@dataclass(frozen=True)
+class Sought:
+    """A file that is looked for: its name, what it is, the variable that may name it, and whether a path is one."""
+
+    name: str
+    words: str
+    variable: str
+    is_one: Callable[[Path], bool]
+
+    def named(self, path: str | os.PathLike[str], said: str) -> Path:
+        """The file of a path that was `said`. Raises NotFound where it is none."""
+        if not self.is_one(Path(path)):
+            raise NotFound([f"{said} is no {self.words}"], self.name)
+        return Path(path).absolute()
+
+    def by_variable(self, looked: list[str]) -> Path | None:
+        """The file that the variable names. A variable that is wrong is an error and not passed over."""
+        path = os.environ.get(self.variable, "")
+        if path:
+            return self.named(path, f"{self.variable} names {path}, which")
+        looked.append(f"the variable {self.variable} isn't set")
         return None
-    if not is_program(Path(named)):
-        raise NotFound([f"{VARIABLE} names {named}, which is no program"])
-    return Path(named).absolute()
+
+    def by_package(self, looked: list[str]) -> Path | None:
+        """The file that was installed with this package."""
+        found = next(filter(self.is_one, files_of_builds(NATIVE, self.name)), None)
+        if found is None:
+            looked.append("this package was installed without one")
+        return found
+
+    def found(self, path: str | os.PathLike[str] | None, *places: Place) -> Path:
+        """The file of a path, or of the first of some places that has it. Raises NotFound where there is none."""
+        if path is not None:
+            return self.named(path, os.fspath(path))
+        looked: list[str] = []
+        for place in (self.by_variable, self.by_package, *places):
+            found = place(looked)
+            if found is not None:
+                return found
+        raise NotFound(looked, self.name, WHEEL)
 
 
-def by_package(looked: list[str]) -> Path | None:
-    """The program that was installed with this package."""
-    found = next(filter(is_program, files_of_builds(NATIVE, NAME)), None)
-    if found is None:
-        looked.append("this package was installed without one")
-    return found
+PROGRAM = Sought(NAME, "program", VARIABLE, is_program)
 
 
 def by_repository(looked: list[str], root: Path = ROOT) -> Path | None:
@@ -107,14 +137,4 @@ def find(program: str | os.PathLike[str] | None = None) -> Path:
     A path without a folder, or from the present folder on, is that of a file there: it isn't looked for on the PATH.
     Raises NotFound where none of these is there, or where the one that is named isn't.
     """
-    if program is not None:
-        if not is_program(Path(program)):
-            raise NotFound([f"{os.fspath(program)} is no program"])
-        return Path(program).absolute()
-    places: tuple[Callable[[list[str]], Path | None], ...] = (by_variable, by_package, by_repository, by_path)
-    looked: list[str] = []
-    for place in places:
-        found = place(looked)
-        if found is not None:
-            return found
-    raise NotFound(looked, advice=WHEEL)
+    return PROGRAM.found(program, by_repository, by_path)
