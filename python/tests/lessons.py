@@ -3,7 +3,7 @@
 from __future__ import annotations
 
 import re
-from collections.abc import Iterator
+from collections.abc import Callable, Iterator
 from dataclasses import dataclass, field
 
 from pevudlo.wire.program import ROOT
@@ -83,6 +83,21 @@ def expected(block: Block) -> Iterator[tuple[str, list[str] | None]]:
         assert not said or line.split(" ")[0] in TOLD, line
         yield line, said or None
         at = end
+
+
+def compare(block: Block, before: list[str], ask: Callable[[str], list[str]]) -> int:
+    """Asks all lines, compares the replies with what the page says, and gives how many it says."""
+    for line in before:
+        assert not ask(line)[0].startswith("refused"), line
+    said = 0
+    for line, wanted in expected(block):
+        reply = ask(line)
+        if wanted is None:
+            assert re.fullmatch(r"ok|row \d+|settled \d+", reply[0]), (line, reply)
+        else:
+            assert reply == wanted, line
+            said += 1
+    return said
 
 
 def scripts(page: str = "LESSON.md") -> Iterator[tuple[Block, list[str]]]:

@@ -11,7 +11,7 @@ from pathlib import Path
 from random import Random
 
 import pytest
-from lessons import Block, expected, parts, scripts
+from lessons import Block, compare, expected, parts, scripts
 from paris_model_book import Book
 
 from pevudlo.prompt.help import help_for
@@ -25,29 +25,16 @@ BLOCKS = [block for block, _ in scripts(PAGE)]
 IDS = [f"{block.part}-{at}" for at, block in enumerate(BLOCKS)]
 
 
-def compare(block: Block, ask: Callable[[str], list[str]]) -> int:
-    """Asks all lines, compares the replies with what the page says, and gives how many it says."""
-    said = 0
-    for line, wanted in expected(block):
-        reply = ask(line)
-        if wanted is None:
-            assert re.fullmatch(r"ok|row \d+|settled \d+", reply[0]), (line, reply)
-        else:
-            assert reply == wanted, line
-            said += 1
-    return said
-
-
 @pytest.mark.parametrize("block", BLOCKS, ids=IDS)
 def test_the_program_answers_what_the_page_says(block: Block) -> None:
     assert block.begins_anew
     with Pipe(find_program()) as pipe:
-        assert compare(block, pipe.ask) > 0
+        assert compare(block, [], pipe.ask) > 0
 
 
 @pytest.mark.parametrize("block", BLOCKS, ids=IDS)
 def test_the_definitions_give_what_the_page_says(block: Block) -> None:
-    assert compare(block, Book().answer) > 0
+    assert compare(block, [], Book().answer) > 0
 
 
 def test_each_idiom_has_a_section_of_prose_and_scripts() -> None:

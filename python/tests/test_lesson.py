@@ -6,31 +6,15 @@ import os
 import re
 import subprocess
 import sys
-from collections.abc import Callable
 
 import pytest
-from lessons import Block, expected, parts, scripts
+from lessons import Block, compare, parts, scripts
 from paris_model_book import Book
 from pevudlo.wire.pipe import Pipe
 from pevudlo.wire.program import ROOT, find
 
 SCRIPTS = list(scripts())
 NAMES = [f"{block.part.split('.')[0]}-{block.lines[0].replace(' ', '-')}-{at}" for at, (block, _) in enumerate(SCRIPTS)]
-
-
-def compare(block: Block, before: list[str], ask: Callable[[str], list[str]]) -> int:
-    """Asks all lines, compares the replies with what the lesson says, and gives how many it says."""
-    for line in before:
-        assert not ask(line)[0].startswith("refused"), line
-    said = 0
-    for line, wanted in expected(block):
-        reply = ask(line)
-        if wanted is None:
-            assert re.fullmatch(r"ok|row \d+|settled \d+", reply[0]), (line, reply)
-        else:
-            assert reply == wanted, line
-            said += 1
-    return said
 
 
 @pytest.mark.parametrize(("block", "before"), SCRIPTS, ids=NAMES)
