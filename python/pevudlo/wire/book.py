@@ -9,11 +9,13 @@ import ctypes
 import threading
 from collections.abc import Callable, Iterator, Sequence
 from contextlib import contextmanager
-from ctypes import c_bool, c_uint32, c_uint64
+from ctypes import c_bool, c_uint8, c_uint32, c_uint64
 from threading import get_ident
 from typing import Optional
 
 from pevudlo.lang.replies import Word
+from pevudlo.values.shaped import Pending
+from pevudlo.values.stretches import STRETCH_WORDS, Stretch, stretches_of
 from pevudlo.values.words import Words, room_of
 from pevudlo.wire.library import SOME_ROWS, Calls, Held, Library, check_line
 from pevudlo.wire.library_calls import Outcome, trouble
@@ -224,6 +226,46 @@ class Book(Library):
             raise trouble(outcome)
         return ids
 
+    # What a value comes to. None where the look is refused.
+
+    def count(self, key: str, place: int) -> int | Pending | None:
+        """Of how many processors the number that a key holds at a place is other than 0."""
+        name = key.encode("utf-8", "surrogateescape")
+        outcome, told = self._call("paris_count", name, len(name), place, self._told_at)
+        return told if outcome == Outcome.OK else unseen(outcome, told)
+
+    def summary(self, key: str, parts: int, place: int) -> list[Stretch] | Pending | None:
+        """What the numbers that a key holds at a place come to in so many stretches of the processors.
+
+        Of n processors stretch i is of those from i * n // parts on, up to before (i + 1) * n // parts.
+        Raises ValueError where there are fewer processors than parts, or no part.
+        """
+        room = (c_uint64 * (STRETCH_WORDS * max(parts, 0)))()
+        name = key.encode("utf-8", "surrogateescape")
+        at = ctypes.addressof(room)
+        outcome, told = self._call("paris_summary", name, len(name), place, at, max(parts, 0), self._told_at)
+        if outcome != Outcome.OK:
+            return unseen(outcome, told, parts)
+        return stretches_of(memoryview(room).cast("B").cast("Q").tolist())
+
+    def differs(self, other: Book, key: str, parts: int, place: int) -> list[bool] | Pending | None:
+        """In which of so many stretches what a key holds at a place differs from what it holds there in another book.
+
+        The stretches are those of `summary`. Raises ValueError as that, and where the values have not the same width
+        and as many processors.
+        """
+        if other._at == self._at:
+            return self.differs(self.still(), key, parts, place)
+        room = (c_uint8 * max(parts, 0))()
+        name = key.encode("utf-8", "surrogateescape")
+        at = ctypes.addressof(room)
+        first, second = sorted((self, other), key=id)
+        with first.lock, second.lock:
+            other._check_open()
+            words = name, len(name), place, at, max(parts, 0), self._told_at
+            outcome, told = self._call("paris_differs", other._at, *words)
+        return [flag != 0 for flag in room] if outcome == Outcome.OK else unseen(outcome, told, parts)
+
     # Snapshots.
 
     def snapshot(self) -> Held:
@@ -269,3 +311,18 @@ class Book(Library):
         if outcome != Outcome.OK:
             raise trouble(outcome)
         return told
+
+
+def unseen(outcome: int, told: int, parts: int = 0) -> Pending | None:
+    """The row that is pending, where a look at so many stretches is not answered, or None where it is refused.
+
+    Raises ValueError where the processors, of which it told how many, can't be cut so, or two values are not alike.
+    """
+    match outcome:
+        case Outcome.PENDING:
+            return Pending(told)
+        case Outcome.WRONG_ROOM:
+            raise ValueError(f"{told:,} processors can't be cut into {parts:,} stretches")
+        case Outcome.UNLIKE:
+            raise ValueError("the two values differ in width or in the number of their processors")
+    return None

@@ -36,6 +36,7 @@ class Outcome(IntEnum):
     NO_PROFILE = 108
     NOTHING = 109
     NOT_RUN = 110
+    UNLIKE = 111
 
 
 class Handle(ctypes.Structure):
@@ -55,6 +56,9 @@ CALLS: dict[str, tuple[Any, ...]] = {
     "paris_set_wide": (c_void_p, c_char_p, c_size_t, c_uint64, c_void_p, c_size_t),
     "paris_get": (c_void_p, c_char_p, c_size_t, c_uint64, c_void_p, c_size_t, c_void_p),
     "paris_get_wide": (c_void_p, c_char_p, c_size_t, c_uint64, c_void_p, c_size_t, c_void_p),
+    "paris_count": (c_void_p, c_char_p, c_size_t, c_uint64, c_void_p),
+    "paris_summary": (c_void_p, c_char_p, c_size_t, c_uint64, c_void_p, c_size_t, c_void_p),
+    "paris_differs": (c_void_p, c_void_p, c_char_p, c_size_t, c_uint64, c_void_p, c_size_t, c_void_p),
     "paris_take": (c_void_p, c_void_p),
     "paris_execute": (c_void_p,),
     "paris_bring": (c_void_p, c_void_p, c_void_p, c_void_p),
