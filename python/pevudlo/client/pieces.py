@@ -13,6 +13,7 @@ from enum import Enum
 
 from pevudlo.draw.arrays import array_of
 from pevudlo.lang.profiles import WORD
+from pevudlo.values.stretches import Stretch
 
 STRETCHES = 256
 HEAD = struct.Struct("<BBHIII")
@@ -55,15 +56,27 @@ def whole(numbers: Sequence[int], width: int) -> bytes:
 
 def strip(numbers: Sequence[int], width: int, before: Sequence[int] | None) -> bytes:
     """A value of many numbers in stretches. `before` are the numbers before the last edit, where they are known."""
-    most, least, sums = ends_of(numbers, width)
-    low, high, count = min(least), max(most), len(numbers)
-    shades = [scaled(ends, low, high) for ends in (most, least)]
+    changed, flags = differing(numbers, before)
+    return strip_of(ends_of(numbers, width), width, len(numbers), changed, flags)
+
+
+def summed(found: Sequence[Stretch], width: int, count: int, differs: Sequence[bool] | None) -> bytes:
+    """A value of so many numbers by what its stretches come to, and in which of them the last edit changed some."""
+    ends = [each.greatest for each in found], [each.least for each in found], [each.sum for each in found]
+    flags = bytes(differs or STRETCHES)
+    return strip_of(ends, width, count, sum(flags), flags)
+
+
+def strip_of(ends: tuple[list[int], list[int], list[int]], width: int, count: int, changed: int, flags: bytes) -> bytes:
+    """A value in stretches. `ends` are of each the greatest number, the least, and the sum."""
+    most, least, sums = ends
+    low, high = min(least), max(most)
+    shades = [scaled(numbers, low, high) for numbers in (most, least)]
     room, sizes = max(1, high - low), [stop - start for start, stop in stretches(count)]
     means = bytes((whole - low * size) * 255 // (room * size) for whole, size in zip(sums, sizes))
-    changed, flags = differing(numbers, before)
-    ends = ENDS.pack(low & LOW, low >> WORD, high & LOW, high >> WORD, sum(sums) if width == 1 else 0, changed)
+    words = low & LOW, low >> WORD, high & LOW, high >> WORD
     head = HEAD.pack(Kind.STRIP.value, size_of(width), 0, STRETCHES, count, 0)
-    return head + ends + b"".join(shades) + means + flags
+    return head + ENDS.pack(*words, sum(sums) if width == 1 else 0, changed) + b"".join(shades) + means + flags
 
 
 def ends_of(numbers: Sequence[int], width: int) -> tuple[list[int], list[int], list[int]]:

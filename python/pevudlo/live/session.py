@@ -30,6 +30,7 @@ from pevudlo.record.looks import Looker
 from pevudlo.running.background import Background
 from pevudlo.running.history import MOST_STEPS
 from pevudlo.talk import Talk
+from pevudlo.values.shaped import Pending
 from pevudlo.wire.book import Book
 from pevudlo.wire.pipe import is_comment
 
@@ -38,6 +39,9 @@ KEPT_STEPS = 60
 
 MOST_LOOKS = 512
 """So many values are given at once."""
+
+Given = tuple[Sequence[int], int, bool, Sequence[int] | None]
+"""Numbers of a value, their width, whether they are wanted in stretches, and what they were before the last edit."""
 
 CHANGING = ("paris", "set", "field", "input", "insert", "delete", "replace", "take", "bring", "release", "settle")
 
@@ -225,25 +229,37 @@ class Session:
         for look in wanted[:MOST_LOOKS]:
             with self.lock:
                 found = self._look(look, seen, edits)
-            yield pieces.empty(found) if isinstance(found, pieces.Kind) else pieces.packed(*found)
+            yield pieces.packed(*found) if isinstance(found, tuple) else found
 
-    def _look(
-        self, look: Look, seen: int, edits: int
-    ) -> tuple[Sequence[int], int, bool, Sequence[int] | None] | pieces.Kind:
+    def _look(self, look: Look, seen: int, edits: int) -> Given | bytes:
         """One value, or why there is none. The lock is held."""
         if self.board.axes_of(look.key) is None or (look.row and look.row not in self.ledger.rows):
-            return pieces.Kind.NONE
-        width, before = width_of(self.board, look.key), self.before if edits == self.edits else None
+            return pieces.empty(pieces.Kind.NONE)
+        before = self.before if edits == self.edits else None
         if look.which == BEFORE:
-            was = None if before is None else self._numbers(before, look)
-            return pieces.Kind.NONE if was is None or isinstance(was, int) else (was, width, look.is_strip, None)
+            return pieces.empty(pieces.Kind.NONE) if before is None else self._value(before, look, None)
         if not self.ledger.is_current(look.key, look.row, seen):
-            return pieces.Kind.OTHER
-        now = self._numbers(self.book, look)
+            return pieces.empty(pieces.Kind.OTHER)
+        return self._value(self.book, look, before if look.which == COMPARED else None)
+
+    def _value(self, book: Book, look: Look, before: Book | None) -> Given | bytes:
+        """What a row left of a key, beside what it was before, or why there is nothing. A large value is summed up."""
+        count, width = prod(axes_of(self.board, look.key)), width_of(self.board, look.key)
+        if look.is_strip and count > pieces.STRETCHES:
+            return self._strip(book, look, before)
+        now = self._numbers(book, look)
         if now is None or isinstance(now, int):
-            return pieces.Kind.NONE if now is None else pieces.Kind.PENDING
-        was = self._numbers(before, look) if before is not None and look.which == COMPARED else None
+            return pieces.empty(pieces.Kind.NONE if now is None else pieces.Kind.PENDING)
+        was = None if before is None else self._numbers(before, look)
         return now, width, look.is_strip, None if isinstance(was, int) else was
+
+    def _strip(self, book: Book, look: Look, before: Book | None) -> bytes:
+        """A large value in stretches, by the library, or why there is nothing."""
+        count, width = prod(axes_of(self.board, look.key)), width_of(self.board, look.key)
+        found = book.summary(look.key, pieces.STRETCHES, look.row)
+        if found is None or isinstance(found, Pending):
+            return pieces.empty(pieces.Kind.NONE if found is None else pieces.Kind.PENDING)
+        return pieces.summed(found, width, count, None if before is None else differing(book, before, look))
 
     def _numbers(self, book: Book, look: Look) -> Sequence[int] | int | None:
         """What a row left of a key, the row that it waits for, or None where there is nothing."""
@@ -306,3 +322,12 @@ class Session:
     def _end(self) -> None:
         """Ends what runs the rows."""
         self.background.close()
+
+
+def differing(book: Book, before: Book, look: Look) -> list[bool] | None:
+    """In which stretches a value is other than in an earlier book. None where it was none there, or another kind."""
+    try:
+        found = book.differs(before, look.key, pieces.STRETCHES, look.row)
+    except ValueError:
+        return None
+    return found if isinstance(found, list) else None
