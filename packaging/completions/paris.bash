@@ -8,8 +8,10 @@ _paris_options() {
         live) echo '--follow --help --port --quiet --shared --workers' ;;
         watch) echo '--help --plain --workers' ;;
         lsp) echo '--help --stdio --workers' ;;
+        check) echo '--help --workers' ;;
+        serve) echo '--check --class --folder --help --looking --most-processors --names --origin --port --rate --workers' ;;
         help) echo '--help lesson machine scripts instructions idioms people python embedding editors glossary' ;;
-        *) echo '--build --desk --help --quiet --version --where --workers explain prompt page live watch lsp check help' ;;
+        *) echo '--build --desk --help --quiet --version --where --workers explain prompt page live watch lsp check serve help' ;;
     esac
 }
 

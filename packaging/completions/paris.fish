@@ -1,6 +1,6 @@
 # Completion of fish for paris.
 
-set -l commands explain prompt page live watch lsp check help
+set -l commands explain prompt page live watch lsp check serve help
 set -l first "not __fish_seen_subcommand_from $commands"
 complete -c paris -n $first -a explain -d 'say of each line what came of it'
 complete -c paris -n $first -a prompt -d 'take commands one by one'
@@ -9,6 +9,7 @@ complete -c paris -n $first -a live -d 'serve a page on which a program is edite
 complete -c paris -n $first -a watch -d 'follow a file that is edited'
 complete -c paris -n $first -a lsp -d 'serve an editor'
 complete -c paris -n $first -a check -d 'compare looks with what is wanted'
+complete -c paris -n $first -a serve -d 'serve an exercise to a class'
 complete -c paris -n $first -a help -d 'show a page, or what there is for a word'
 complete -c paris -f -n '__fish_seen_subcommand_from help' -a 'lesson machine scripts instructions idioms people python embedding editors glossary'
 complete -c paris -n $first -l desk -d 'the script is in parts'
@@ -28,3 +29,12 @@ complete -c paris -n '__fish_seen_subcommand_from lsp' -l stdio -d 'over standar
 complete -c paris -n '__fish_seen_subcommand_from live' -l shared -d 'all tabs edit'
 complete -c paris -n '__fish_seen_subcommand_from prompt' -l program -d 'rows run in a program of their own'
 complete -c paris -n '__fish_seen_subcommand_from live' -l follow -d 'hold the page in step with the file'
+complete -c paris -n '__fish_seen_subcommand_from serve' -l class -x -d 'how many students'
+complete -c paris -n '__fish_seen_subcommand_from serve' -l check -r -d 'a solution'
+complete -c paris -n '__fish_seen_subcommand_from serve' -l names -r -d 'a file of names'
+complete -c paris -n '__fish_seen_subcommand_from serve' -l looking -x -d 'seats that look'
+complete -c paris -n '__fish_seen_subcommand_from serve' -l port -x -d 'port'
+complete -c paris -n '__fish_seen_subcommand_from serve' -l origin -x -d 'what the proxy is called'
+complete -c paris -n '__fish_seen_subcommand_from serve' -l folder -r -d 'where files are written'
+complete -c paris -n '__fish_seen_subcommand_from serve' -l rate -x -d 'edits a second'
+complete -c paris -n '__fish_seen_subcommand_from serve' -l most-processors -x -d 'processors of a set'

@@ -24,6 +24,7 @@ COMMANDS = {
     "live": "pevudlo.live.command",
     "watch": "pevudlo.document.command",
     "lsp": "pevudlo.lsp.command",
+    "serve": "pevudlo.serve.command",
     "check": "pevudlo.exercise.command",
     "help": "pevudlo.help.command",
 }

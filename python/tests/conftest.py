@@ -6,12 +6,9 @@ import os
 import signal
 from collections.abc import Iterator
 from pathlib import Path
-from typing import Any
 
 import pytest
-from browsers import PATIENCE
-from selenium import webdriver
-from selenium.webdriver.chrome.service import Service
+from browsers import started
 from selenium.webdriver.remote.webdriver import WebDriver
 
 from pevudlo import NotFound, find_library
@@ -45,18 +42,6 @@ def library(request: pytest.FixtureRequest) -> bool:
 @pytest.fixture(scope="session")
 def browser() -> Iterator[WebDriver]:
     """Debian's Chromium, which notes what pages complain of."""
-    options: Any = webdriver.ChromeOptions()
-    for word in (
-        "--headless=new",
-        "--no-sandbox",
-        "--disable-gpu",
-        "--disable-dev-shm-usage",
-        "--window-size=1500,1400",
-    ):
-        options.add_argument(word)
-    options.set_capability("goog:loggingPrefs", {"browser": "ALL"})
-    driver = webdriver.Chrome(service=Service("/usr/bin/chromedriver"), options=options)
-    driver.set_page_load_timeout(PATIENCE)
-    driver.set_script_timeout(PATIENCE)
+    driver = started()
     yield driver
     driver.quit()

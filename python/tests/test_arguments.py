@@ -61,7 +61,8 @@ def test_help_names_each_command() -> None:
     ran = run("--help")
     assert (ran.returncode, ran.stderr) == (0, "") and ran.stdout == run("-h").stdout
     assert all(
-        command in ran.stdout for command in ("explain", "prompt", "page", "live", "watch", "lsp", "check", "help")
+        command in ran.stdout
+        for command in ("explain", "prompt", "page", "live", "watch", "lsp", "check", "serve", "help")
     )
 
 

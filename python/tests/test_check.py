@@ -47,7 +47,7 @@ def test_each_exercise_has_a_solution() -> None:
     assert len(EXERCISES) == 6
 
 
-@pytest.mark.parametrize("file", EXERCISES, ids=lambda file: file.stem)
+@pytest.mark.parametrize("file", EXERCISES, ids=[file.stem for file in EXERCISES])
 def test_a_solution_gives_what_its_comments_say_by_the_definitions(file: Path) -> None:
     book, said, lines = Book(), 0, (LESSON / "solutions" / file.name).read_text().splitlines()
     for line, below in zip(lines, [*lines[1:], ""]):
@@ -59,7 +59,7 @@ def test_a_solution_gives_what_its_comments_say_by_the_definitions(file: Path) -
     assert said >= 3
 
 
-@pytest.mark.parametrize("file", EXERCISES, ids=lambda file: file.stem)
+@pytest.mark.parametrize("file", EXERCISES, ids=[file.stem for file in EXERCISES])
 def test_an_exercise_wants_what_its_solution_gives_and_is_not_done_yet(file: Path) -> None:
     solution = LESSON / "solutions" / file.name
     exercise = file.read_text().splitlines()
@@ -252,7 +252,8 @@ def test_the_page_shows_what_is_written(tmp_path: Path) -> None:
 
 
 def test_a_folder_of_files(tmp_path: Path) -> None:
-    for name, row in (("Ann", TWICE), ("Bob", [])):
+    programs: dict[str, list[str]] = {"Ann": TWICE, "Bob": []}
+    for name, row in programs.items():
         put(tmp_path, f"{name}.paris", *HEAD, *row, *LOOK, "# values 2 4 6 8")
     put(tmp_path, "notes.txt", "nothing")
     status, written, _ = check(tmp_path)
@@ -267,7 +268,7 @@ def test_a_folder_of_files(tmp_path: Path) -> None:
 def test_what_cannot_be_checked(tmp_path: Path) -> None:
     (tmp_path / "empty").mkdir()
     file = put(tmp_path, "a.paris", *HEAD)
-    for words, said in (
+    wrong: list[tuple[list[str | Path], str]] = [
         (["/nope"], "can't read /nope: No such file or directory"),
         (
             [tmp_path / "empty"],
@@ -275,7 +276,8 @@ def test_what_cannot_be_checked(tmp_path: Path) -> None:
         ),
         ([file, "/nope"], "can't read /nope: No such file or directory"),
         ([file, file], "the solution has no look, so nothing is wanted"),
-    ):
+    ]
+    for words, said in wrong:
         assert check(*words) == (2, "", f"paris check: {said}\n")
     status, written, usage = check()
     assert (status, written) == (2, "") and is_usage_of("check", usage)

@@ -143,7 +143,7 @@ def usage_lines(said: str) -> list[str]:
 
 
 OF_FILES = ("explain", "prompt", "page", "live", "watch", "check")
-WITH_WORKERS = (*OF_FILES, "lsp")
+WITH_WORKERS = (*OF_FILES, "lsp", "serve")
 COMMANDS = (*WITH_WORKERS, "help")
 
 

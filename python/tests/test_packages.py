@@ -46,6 +46,7 @@ STANDS_ON = {
     "document": TALKING,
     "lsp": TALKING + " document version",
     "exercise": "arguments document draw files wire",
+    "serve": "arguments document draw exercise files lang wire",
     "notebook": TALKING + " document",
     "follow": "document draw interrupts lang values wire",
     "algorithms": "",

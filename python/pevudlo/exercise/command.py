@@ -59,9 +59,8 @@ class Checker:
         verdicts, told, done = list[Verdict](), list[str](), 0
         for end in stretches(lines):
             self._document.update_lines(lines[:end])
-            for at in (at for at in at_lines if done <= at < end):
-                wanted = checks[at_lines.index(at)].said
-                verdicts.append(self._told(at, lines, wanted, told))
+            here = [(at, check.said) for at, check in zip(at_lines, checks) if done <= at < end]
+            verdicts += [self._told(at, lines, wanted, told) for at, wanted in here]
             done = end
         self._document.update_lines(lines)
         return verdicts, told

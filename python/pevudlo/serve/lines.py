@@ -1,0 +1,128 @@
+"""A text that several people edit: its unit is the line, each has an id for ever, and an edit says what it saw."""
+
+from __future__ import annotations
+
+from collections.abc import Sequence
+from dataclasses import dataclass, replace
+from enum import Enum
+
+START = 0
+"""The id behind which a line is put at the start of the text."""
+
+LAST = -1
+"""The id that stands for the line which the same edit put in last."""
+
+MOST_NAMED = 40
+"""So many letters of a name stand in a line that came second."""
+
+
+class Op(Enum):
+    """What is done to a line."""
+
+    REPLACE = "replace"
+    INSERT = "insert"
+    DELETE = "delete"
+
+
+@dataclass(frozen=True)
+class Change:
+    """What somebody wants: a line gets another text, a line comes behind another one, or a line goes.
+
+    `was` is the line's text as it was seen.
+    """
+
+    op: Op
+    id: int
+    was: str = ""
+    text: str = ""
+
+
+@dataclass(frozen=True)
+class Done:
+    """What was done to a line: all who see the text do the same. `after` is the line behind which one was put.
+
+    `was` is the text that it had, which is told to nobody.
+    """
+
+    op: Op
+    id: int
+    text: str = ""
+    after: int = START
+    was: str = ""
+
+
+@dataclass(frozen=True)
+class Clash:
+    """Another one was first: the line's present text, None where it is gone, and the one that it was to get."""
+
+    id: int
+    theirs: str | None
+    mine: str
+
+
+class Lines:
+    """The lines with their ids. `by` says who wrote a line last."""
+
+    def __init__(self, texts: Sequence[str] = (), by: int = 0) -> None:
+        self.texts = list(texts)
+        self.ids = list(range(1, len(self.texts) + 1))
+        self.by = dict.fromkeys(self.ids, by)
+        self.next = len(self.texts) + 1
+        # Of a line that is gone the one behind which it stood.
+        self._before: dict[int, int] = {}
+
+    def at(self, number: int) -> int | None:
+        """Where a line stands, or None where there is none of this id."""
+        return self.ids.index(number) if number in self.by else None
+
+    def take(self, change: Change, who: int, name: str) -> tuple[list[Done], Clash | None]:
+        """Does what somebody wants as far as it goes, and says what was done.
+
+        Where the line isn't what it was when it was seen, it stays, and a new text is put below it as a comment.
+        """
+        if change.op is Op.INSERT:
+            return [self._put(change.id, change.text, who)], None
+        at = self.at(change.id)
+        present = None if at is None else self.texts[at]
+        if at is not None and present == change.was:
+            return [self._change(at, change, who)], None
+        if change.op is Op.DELETE:
+            return [], None if present is None else Clash(change.id, present, "")
+        if present == change.text:
+            return [], None
+        kept = self._put(change.id, f"#? {name[:MOST_NAMED]}: {change.text}", who)
+        return [kept], Clash(change.id, present, change.text)
+
+    def take_all(self, changes: Sequence[Change], who: int, name: str) -> tuple[list[Done], list[Clash], list[int]]:
+        """Does several changes of one edit. What was done, where another one was first, and the ids of new lines."""
+        done, clashes, put, last = list[Done](), list[Clash](), list[int](), START
+        for change in changes:
+            wanted = replace(change, id=last) if change.id == LAST else change
+            made, clash = self.take(wanted, who, name)
+            done += made
+            clashes += [] if clash is None else [clash]
+            put += [made[0].id] if change.op is Op.INSERT else []
+            last = made[-1].id if made else last
+        return done, clashes, put
+
+    def _change(self, at: int, change: Change, who: int) -> Done:
+        """Gives a line another text, or takes it out."""
+        was = self.texts[at]
+        if change.op is Op.REPLACE:
+            self.texts[at], self.by[change.id] = change.text, who
+            return Done(Op.REPLACE, change.id, change.text, was=was)
+        before = self.ids[at - 1] if at else START
+        self._before[change.id] = before
+        del self.texts[at], self.ids[at], self.by[change.id]
+        return Done(Op.DELETE, change.id, after=before, was=was)
+
+    def _put(self, after: int, text: str, who: int) -> Done:
+        """Puts a line in behind another one, or where that was."""
+        while after != START and after not in self.by:
+            after = self._before.get(after, START)
+        at = 0 if after == START else self.ids.index(after) + 1
+        number, self.next = self.next, self.next + 1
+        self.ids.insert(at, number)
+        self.texts.insert(at, text)
+        self.by[number] = who
+        return Done(Op.INSERT, number, text, after)

@@ -1,0 +1,297 @@
+"""A program that seats edit: its lines, the book that runs it, and what each line gives as far as it is settled."""
+
+from __future__ import annotations
+
+import json
+import time
+from collections.abc import Callable, Iterable, Sequence
+from dataclasses import dataclass, field
+from math import prod
+from pathlib import Path
+
+from pevudlo.document.answers import words_of
+from pevudlo.document.document import Document
+from pevudlo.document.lines import (
+    Comment,
+    Declaration,
+    FormerRow,
+    InputData,
+    LivingRow,
+    Look,
+    PassedOver,
+    RefusedLine,
+    RowTaker,
+    line_at,
+)
+from pevudlo.document.marks import note_on, refusal_text
+from pevudlo.draw.visible import visible
+from pevudlo.lang.keys import axes_of, width_of
+from pevudlo.lang.profiles import WORD
+from pevudlo.lang.replies import Faults, NoReply, parse
+from pevudlo.serve.limits import Limits, Size, check_line, check_size, size_of
+from pevudlo.serve.lines import Change, Clash, Done, Lines, Op
+from pevudlo.serve.turns import Patient
+from pevudlo.wire.library import Library
+from pevudlo.wire.library_calls import END_NUMBER, START_NUMBER
+from pevudlo.wire.pipe import PipeError
+
+MOST_SHOWN = 64
+"""So many numbers of a key stand beside a line."""
+
+MOST_NUMBERS = 4_096
+"""So many numbers of a key are told where one asks for all of them."""
+
+MOST_KEYS = 8
+"""Of so many keys it is told what a row leaves."""
+
+Told = dict[str, object]
+
+
+@dataclass(frozen=True)
+class Edit:
+    """What an edit did: its number, what was done to lines, where another one was first, and the ids of new lines."""
+
+    number: int
+    done: Sequence[Done]
+    clashes: Sequence[Clash]
+    put: Sequence[int]
+
+
+@dataclass
+class Chapter:
+    """A text that a program began anew with, or was left with: when that was."""
+
+    name: str
+    time: float
+    texts: list[str]
+
+
+@dataclass
+class Standing:
+    """What is known of the rows at a moment: those that are unsettled, and those that are refused for their data."""
+
+    unsettled: frozenset[int] = frozenset()
+    ran: int = -1
+    values: dict[tuple[int, str], tuple[int, str]] = field(default_factory=dict)
+    looks: dict[tuple[int, str], str] = field(default_factory=dict)
+
+
+class Room:
+    """A program. `wake` is told its book where rows may be ready, and `number` counts the edits."""
+
+    def __init__(self, name: str, texts: Sequence[str], library: Path, wake: Callable[[Patient], None]) -> None:
+        self.name, self.number, self.edited = name, 0, 0.0
+        self.trouble = ""
+        self.lines = Lines()
+        self.given = Size(0, 0, 0)
+        self.chapters: list[Chapter] = []
+        self._library, self._wake = library, wake
+        self._standing = Standing()
+        self._document = Document(self._begun, begin_second=lambda: Library(library))
+        self._book: Patient | None = None
+        self.begin(texts, "the beginning")
+
+    def close(self) -> None:
+        """Ends the book."""
+        self._document.close()
+
+    @property
+    def document(self) -> Document:
+        """The lines as a document, in step with them."""
+        return self._document
+
+    @property
+    def book(self) -> Patient:
+        """The running book."""
+        assert self._book is not None
+        return self._book
+
+    # Edits.
+
+    def begin(self, texts: Sequence[str], name: str, by: int = 0) -> None:
+        """A new chapter: the program begins anew with a text. The one that it had is kept."""
+        if self.chapters:
+            self.chapters[-1].texts = list(self.lines.texts)
+        self.chapters.append(Chapter(name, time.time(), list(texts)))
+        first = self.lines.next
+        self.lines = Lines()
+        self.lines.next = first
+        for at, text in enumerate(texts):
+            self.lines.take(Change(Op.INSERT, first + at - 1 if at else 0, text=text), by, "")
+        self.given = size_of(texts)
+        self.number += 1
+        self._update()
+
+    def edit(self, changes: Sequence[Change], who: int, name: str, limits: Limits) -> Edit:
+        """Does the changes of one edit. Raises Refused, with nothing done, where they are too large."""
+        for change in changes:
+            check_line(change.text)
+        check_size(self._after(changes), limits, self.given)
+        done, clashes, put = self.lines.take_all(changes, who, name)
+        if done:
+            self.number += 1
+            self.edited = time.time()
+            self._update()
+        return Edit(self.number, done, clashes, put)
+
+    def _after(self, changes: Sequence[Change]) -> list[str]:
+        """The texts after some changes, as far as it says how large the program is: their places don't matter."""
+        texts = dict(zip(self.lines.ids, self.lines.texts))
+        for at, change in enumerate(changes):
+            if change.op is Op.DELETE:
+                texts.pop(change.id, None)
+            else:
+                texts[change.id if change.op is Op.REPLACE else -1 - at] = change.text
+        return list(texts.values())
+
+    def _update(self) -> None:
+        """Brings the book in step with the lines."""
+        try:
+            self._document.update_lines(list(self.lines.texts))
+            self.trouble = ""
+        except (PipeError, NoReply, MemoryError) as error:
+            self.trouble = str(error)
+        self._standing.looks.clear()
+        self._standing.ran = -1
+        if self._book is not None and self._book.is_open:
+            self._wake(self._book)
+
+    def _begun(self) -> Patient:
+        """Another book, with nothing declared."""
+        self._book = Patient(self._library)
+        self._standing = Standing()
+        return self._book
+
+    # What is seen.
+
+    @property
+    def is_settled(self) -> bool:
+        """Whether all rows are settled, as it was seen last."""
+        return not self._standing.unsettled and not self.trouble
+
+    @property
+    def left(self) -> int:
+        """How many rows were unsettled when it was looked last."""
+        return len(self._standing.unsettled)
+
+    def look(self) -> None:
+        """Sees which rows are settled by now."""
+        if self.trouble or not self.book.is_open:
+            return
+        ran = self.book.ran
+        if ran == self._standing.ran:
+            return
+        self._standing.unsettled, self._standing.ran = frozenset(self.book.unsettled()), ran
+        reply = parse(self.book.ask("faults"))
+        found = reply.faults if isinstance(reply, Faults) else ()
+        self._document.book.faults = {fault.row: fault for fault in found}
+
+    @property
+    def faults(self) -> int:
+        """How many rows are refused for their data."""
+        return 0 if self.trouble else len(self._document.book.faults)
+
+    @property
+    def refused(self) -> int:
+        """How many lines are refused."""
+        shown = self._document.shown
+        return 0 if self.trouble else sum(bool(shown[at].refused) for at in self._document.told_lines)
+
+    def gives(self, ids: Iterable[int]) -> dict[int, str]:
+        """What some lines give, as JSON, by their ids: those that are there."""
+        places = ((number, self.lines.at(number)) for number in ids)
+        return {number: self._gives(at) for number, at in places if at is not None}
+
+    def _gives(self, at: int) -> str:
+        """What the line of an index gives, as JSON."""
+        if self.trouble:
+            return json.dumps({"s": "refused", "t": visible(self.trouble)})
+        document, line = self._document, line_at(self._document, at)
+        match line:
+            case LivingRow(row):
+                return self._of_row(row.book, row.text)
+            case Look(key, anchor):
+                return self._of_look(key, START_NUMBER if anchor is None else anchor.book)
+            case RefusedLine():
+                return json.dumps({"s": "refused", "t": visible(refusal_text(document, at))})
+            case FormerRow() | RowTaker():
+                return json.dumps({"s": "gone", "t": words_of(line, lambda number: f"line {number + 1}")})
+            case PassedOver():
+                return json.dumps({"s": "passed"})
+            case InputData():
+                note = note_on(document, at)
+                return json.dumps({"s": "note", "t": visible(note)}) if note else "{}"
+            case Declaration() | Comment():
+                return "{}"
+
+    def _of_row(self, row: int, text: str) -> str:
+        """What a row leaves, or that it is unsettled, or why it stores nothing."""
+        if row in self._standing.unsettled:
+            return '{"s":"wait"}'
+        document = self._document
+        if row in document.book.faults:
+            return json.dumps({"s": "fault", "t": visible(document.book.cause(document.rows[self._place(row)]))})
+        edition, known = document.book.editions.get(row, 0), self._standing.values.get((row, text))
+        if known is not None and known[0] == edition:
+            return known[1]
+        values = [self._value(key, row) for key in document.book.board.keys_written(text)[:MOST_KEYS]]
+        if any(value is None for value in values):
+            return '{"s":"wait"}'
+        told = json.dumps({"s": "row", "v": values}, separators=(",", ":"))
+        self._standing.values[row, text] = edition, told
+        return told
+
+    def _place(self, row: int) -> int:
+        """Which row of the document has this id."""
+        return next(at for at, each in enumerate(self._document.rows) if each.book == row)
+
+    def _of_look(self, key: str, row: int) -> str:
+        """What a look sees."""
+        known = self._standing.looks.get((row, key))
+        if known is None:
+            value = self._value(key, row)
+            if value is None:
+                return '{"s":"wait"}'
+            known = json.dumps({"s": "look", "v": [value]}, separators=(",", ":"))
+            self._standing.looks[row, key] = known
+        return known
+
+    def numbers(self, key: str, row: int) -> Sequence[int] | None:
+        """The numbers of a key behind a row, 0 for the start. None where they are pending."""
+        board = self._document.book.board
+        told = self.book.look(key, row, prod(axes_of(board, key)), width_of(board, key) > WORD)
+        return None if isinstance(told, int) else told
+
+    def _value(self, key: str, row: int, most: int = MOST_SHOWN) -> list[object] | None:
+        """A key's name, width, axes, and first numbers, as they are told. None where they are pending."""
+        numbers, board = self.numbers(key, row), self._document.book.board
+        if numbers is None:
+            return None
+        return [key, width_of(board, key), list(axes_of(board, key)), " ".join(map(str, numbers[:most]))]
+
+    def whole(self, number: int, key: str) -> Told:
+        """The numbers of a key that a line gives, as far as they are told at once."""
+        at = self.lines.at(number)
+        shown = None if at is None or self.trouble else self._document.shown[at]
+        if shown is None or shown.refused or self._document.book.board.set_of(key) is None:
+            return {"value": None}
+        row = shown.row or shown.anchor
+        return {"value": self._value(key, START_NUMBER if row is None else row.book, MOST_NUMBERS), "at": self.number}
+
+    def seen(self, at: int | None) -> Sequence[int] | None:
+        """What the look in the line of an index sees, where it is one and settled."""
+        shown = None if at is None or self.trouble else self._document.shown[at]
+        if shown is None or shown.refused or not shown.key:
+            return None
+        numbers = self.numbers(shown.key, START_NUMBER if shown.anchor is None else shown.anchor.book)
+        return None if numbers is None else list(numbers)
+
+    def end(self, key: str) -> Sequence[int] | None:
+        """What a key holds at the end, where that is settled."""
+        return self.numbers(key, END_NUMBER)
+
+    def text(self) -> Told:
+        """The whole text, as a seat is told it."""
+        lines = self.lines
+        told = [[number, text, lines.by[number]] for number, text in zip(lines.ids, lines.texts)]
+        return {"name": self.name, "n": self.number, "lines": told}
