@@ -227,7 +227,7 @@ class People:
 
     async def join(self, name: str) -> Client:
         """A client that joins by a name."""
-        token = self.server.token("The class").removeprefix("join:")
+        token = self.server.token("(?:The class|All others)").removeprefix("join:")
         client = await self.open({"do": "join", "token": token, "name": name})
         while "many come at once" in client.bye:
             await asyncio.sleep(0.1)

@@ -254,7 +254,7 @@ def test_names_have_an_address_each(tmp_path: Path) -> None:
     (tmp_path / "names").write_text("Ann\nBob <b>\n")
     with served("--class", "2", EXERCISE, "--names", "names", cwd=tmp_path) as server:
         assert "join" not in server.words
-        addresses = tmp_path / "2-who-takes-part-class/addresses.txt"
+        addresses = tmp_path / "2-who-takes-part-served/addresses.txt"
         assert addresses.stat().st_mode & 0o077 == 0
         told = dict(line.split(": ", 1) for line in addresses.read_text().splitlines())
         assert list(told) == ["Ann", "Bob <b>", "Looking 1"]
@@ -399,14 +399,16 @@ def test_buckets() -> None:
 def test_how_large_a_program_is() -> None:
     lines = ["set S 64x64", "field a S 9", "field b S 64", "u-add-3-1L a a a 9", "u-move-1L b b 64", "u-nope a"]
     # (a sum leaves its field of two bytes, and the carry and the overflow flag of one)
-    assert size_of(lines) == Size(2, 4096 * (2 + 1 + 1) + 4096 * 8, 4096)
-    assert size_of([]) == Size(0, 0, 0) and size_of(["u-add-3-1L a a a 9"]) == Size(1, 0, 0)
+    assert size_of(lines) == Size(2, 4096 * (2 + 1 + 1) + 4096 * 8, 4096, len("".join(lines)))
+    assert size_of([]) == Size(0, 0, 0) and size_of(["u-add-3-1L a a a 9"]) == Size(1, 0, 0, 18)
+    with pytest.raises(Refused, match="4,000,000 letters at most"):
+        check_size(Size(0, 0, 0, 4_000_001), 1, Limits(), Size(0, 0, 0))
     limits = Limits(rows=1, value_bytes=10_000, processors=4096)
     with pytest.raises(Refused, match="2 rows are too many"):
-        check_size(lines, limits, Size(0, 0, 0))
+        check_size(size_of(lines), 6, limits, Size(0, 0, 0))
     with pytest.raises(Refused, match="of values, and 0 MB are allowed"):
-        check_size(lines[:4], limits, Size(0, 0, 0))
-    check_size(lines, limits, size_of(lines))
+        check_size(size_of(lines[:4]), 4, limits, Size(0, 0, 0))
+    check_size(size_of(lines), 6, limits, size_of(lines))
 
 
 def test_lines_that_are_none() -> None:

@@ -101,7 +101,7 @@ def test_a_class_in_five_browsers(browsers: list[WebDriver], server: Server) -> 
     teacher.find_element(By.XPATH, "//tr[2]//button[.='Wall']").click()
     until(wall, lambda: one(wall, "#whose").text == "Ann" and gives(wall, LOOK + len(ROWS)) == "→ a 9 2 7 50")
     # Handed in, and a page that is loaded again is at the same seat.
-    one(ann, "#acts button").click()
+    ann.find_element(By.XPATH, "//button[.='Hand in']").click()
     until(ann, lambda: one(ann, "#said").text.startswith("Handed in at "))
     until(teacher, lambda: board(teacher, 1, 6) != "")
     ann.refresh()
@@ -124,3 +124,40 @@ def test_what_is_refused_is_said_on_the_page(browsers: list[WebDriver], server: 
     type_into(browsers[2], 0, "set T 4096", Keys.ARROW_DOWN)
     until(browsers[2], lambda: "a set of 4,096 processors is too large" in one(browsers[2], "#said").text)
     until(browsers[2], lambda: texts(browsers[2])[0].startswith("# Let each processor"))
+
+
+def test_one_program_in_two_browsers(browsers: list[WebDriver], libparis: Path, tmp_path: Path) -> None:
+    teacher, ann = browsers[:2]
+    file = tmp_path / "double.paris"
+    file.write_text("set S 4\nfield a S 8\ninput a 0 1 2 3 4\nu-add-3-1L a a a 8\nshow a end\n")
+    with served(file, cwd=tmp_path) as server:
+        open_at(teacher, server, server.teacher)
+        open_at(ann, server, server.token("All others"))
+        one(ann, "#name").send_keys("Ann", Keys.ENTER)
+        until(ann, lambda: gives(ann, 4) == "→ a 2 4 6 8")
+        # Who teaches sees where Ann is, and what she types, before it is sent; then the line with her sign.
+        type_into(ann, 3, "u-multiply-3-1L a a a 8")
+        until(teacher, lambda: "Ann: u-multiply" in one(teacher, ".line:nth-child(4) .caret").text)
+        ann.switch_to.active_element.send_keys(Keys.ARROW_DOWN)
+        until(teacher, lambda: gives(teacher, 4) == "→ a 1 4 9 16")
+        bar = one(teacher, ".line:nth-child(4) .bar")
+        assert bar.get_attribute("title") == "written by Ann" and bar.text == "▲"
+        # Who did what, and own undo.
+        one(teacher, ".line:nth-child(4) .number").click()
+        until(teacher, lambda: "Ann" in one(teacher, "#panel .entry").text)
+        assert "in the place of u-add-3-1L a a a 8" in one(teacher, "#panel .entry").text
+        ann.find_element(By.XPATH, "//button[.='Undo']").click()
+        until(teacher, lambda: texts(teacher)[3] == "u-add-3-1L a a a 8" and gives(teacher, 4) == "→ a 2 4 6 8")
+        # A locked line.
+        teacher.find_element(By.XPATH, "//button[.='Lock this line']").click()
+        until(ann, lambda: "isLocked" in str(one(ann, ".line:nth-child(4)").get_attribute("class")))
+        ann.find_elements(By.CSS_SELECTOR, ".line > .text")[3].click()
+        until(ann, lambda: "is locked" in one(ann, "#said").text)
+        # Back to a point.
+        teacher.find_element(By.XPATH, "//button[.='Who did what']").click()
+        until(teacher, lambda: len(teacher.find_elements(By.CSS_SELECTOR, "#panel .entry")) == 2)
+        teacher.find_elements(By.XPATH, "//button[.='Back to here']")[1].click()
+        until(ann, lambda: len(texts(ann)) == 5 and texts(ann)[3] == "u-multiply-3-1L a a a 8")
+        until(ann, lambda: gives(ann, 4) == "→ a 1 4 9 16")
+    until(ann, lambda: "the server was ended" in one(ann, "#said").text)
+    assert complaints(teacher) == complaints(ann) == []

@@ -9,8 +9,7 @@ import json
 import re
 import time
 import unicodedata
-from collections.abc import Sequence
-from dataclasses import dataclass
+from collections.abc import Mapping, Sequence
 from pathlib import Path
 
 from pevudlo.exercise.looks import Verdict
@@ -21,6 +20,7 @@ from pevudlo.serve import asked as reading
 from pevudlo.serve.checking import Checking
 from pevudlo.serve.guests import Guest
 from pevudlo.serve.hall import Asked, Hall, Told, may_look, to_each
+from pevudlo.serve.journal import Journal, Kept
 from pevudlo.serve.limits import Refused
 from pevudlo.serve.room import Edit, Room
 from pevudlo.serve.seats import Kind, Seat, Seats
@@ -32,15 +32,6 @@ MOST_CHAPTERS = 20
 """So many texts of a student are kept to go back to."""
 
 TABLE = "board.csv"
-
-
-@dataclass(frozen=True)
-class HandedIn:
-    """A copy of a student's text with its time, and what came of its checks then."""
-
-    time: float
-    texts: list[str]
-    signs: list[str]
 
 
 class Classroom(Hall):
@@ -57,20 +48,31 @@ class Classroom(Hall):
         exercise: Sequence[str],
         solution: Solution | None,
         folder: Path,
+        journal: Journal,
+        kept: Mapping[int, Kept],
     ) -> None:
-        super().__init__(title, seats, library, workers)
+        """`kept` is what a journal says of the programs, by their seats' numbers."""
+        super().__init__(title, seats, library, workers, journal)
         self.folder = folder
         self.exercise = list(exercise)
         loop = asyncio.get_running_loop()
         self.checking = Checking(exercise, solution, lambda: _in_loop(loop, self.see_board))
         self.own: dict[Seat, Room] = {}
-        self.handed: dict[Seat, HandedIn] = {}
+        self.handed: dict[Seat, float] = {}
         self.followed: Seat | None = None
         self._board = asyncio.Event()
         for seat in [seats.teacher, *seats.students]:
-            room = Room(seat.name, self.exercise, library, self.turns.wake)
-            self.own[seat] = room
-            self.rooms.append(room)
+            self.own[seat] = self._room(seat, kept.get(seat.number))
+
+    def _room(self, seat: Seat, kept: Kept | None) -> Room:
+        """The program of a seat."""
+        at, keep, wake = seat.number, self.journal.add, self.turns.wake
+        room = Room(seat.name, self.exercise, self._library, wake, at=at, keep=keep, kept=kept)
+        self.rooms.append(room)
+        file = self.folder / file_of(seat)
+        if kept is not None and file.is_file():
+            self.handed[seat] = file.stat().st_mtime
+        return room
 
     def close(self) -> None:
         super().close()
@@ -143,13 +145,8 @@ class Classroom(Hall):
             self.follow(self._seat(asked))
         elif word == "save":
             return {"saved": self.save()}
-        elif word == "close":
-            self.close_seat(self._seat(asked))
-        elif word == "renew":
-            seat = self._seat(asked)
-            self.seats.renew(seat)
-            self.send_away(seat, "this seat has a new address now")
-            return {"token": seat.token}
+        elif word in ("close", "renew"):
+            return self.seat_word(word, self._seat(asked))
         elif word == "tokens":
             return {
                 "tokens": [[seat.number, seat.token, seat.is_closed] for seat in self.seats if seat is not guest.seat]
@@ -193,7 +190,10 @@ class Classroom(Hall):
 
     def _begin(self, room: Room, texts: list[str], name: str) -> None:
         """A new chapter of a program, which all who see it are shown."""
-        room.begin(texts, name)
+        try:
+            room.begin(texts, name)
+        except OSError as error:
+            raise Refused(f"the journal can't be written: {why(error)}") from error
         if len(room.chapters) > MOST_CHAPTERS:
             del room.chapters[1]
         for guest in self.in_room(room):
@@ -204,21 +204,19 @@ class Classroom(Hall):
     def hand_in(self, seat: Seat) -> Told:
         """Keeps a copy of a student's text with its time, and writes it."""
         seat.bucket.take()
-        room = self.own[seat]
-        signs = [each.outcome.value for each in self.checking.of(room)]
-        copy = HandedIn(time.time(), list(room.lines.texts), signs)
         try:
-            self._write(seat, copy)
+            self._write(seat)
         except OSError as error:
             raise Refused(f"it can't be written: {why(error)}") from error
-        self.handed[seat] = copy
+        self.handed[seat] = time.time()
         self.see_board()
-        return {"handed": copy.time}
+        return {"handed": self.handed[seat]}
 
-    def _write(self, seat: Seat, copy: HandedIn) -> None:
-        """Writes what was handed in. Raises OSError."""
+    def _write(self, seat: Seat) -> None:
+        """Writes what is handed in: what was before stays beside it. Raises OSError."""
         self.folder.mkdir(parents=True, exist_ok=True)
-        put_text(self.folder / file_of(seat), "".join(f"{line}\n" for line in copy.texts), is_kept=True)
+        text = "".join(f"{line}\n" for line in self.own[seat].lines.texts)
+        put_text(self.folder / file_of(seat), text, is_kept=True)
 
     def save(self) -> str:
         """Writes all students' present texts and the board as files. Where they are. Raises Refused."""
@@ -239,9 +237,9 @@ class Classroom(Hall):
         names = [check.name for check in self.checking.checks]
         writer.writerow(["name", *names, "lines refused", "rows refused", "last edit", "handed in"])
         for seat in self.seats.students:
-            room, handed = self.own[seat], self.handed.get(seat)
+            room = self.own[seat]
             signs = [each.outcome.value for each in self.checking.of(room)]
-            times = [stamp(room.edited), stamp(handed.time if handed else 0.0)]
+            times = [stamp(room.edited), stamp(self.handed.get(seat, 0.0))]
             writer.writerow([as_text(seat.name), *signs, room.refused, room.faults, *times])
         return out.getvalue()
 
@@ -257,18 +255,6 @@ class Classroom(Hall):
         """Tells whose program the class is shown."""
         seat = self.followed or self.seats.teacher
         guest.state("followed", json.dumps([seat.number, seat.name]))
-
-    def close_seat(self, seat: Seat) -> None:
-        """Lets nobody in at a seat any more."""
-        if seat.teaches:
-            raise Refused("the teacher's seat stays open")
-        seat.is_closed = True
-        self.send_away(seat, "this seat was closed by who teaches")
-
-    def send_away(self, seat: Seat, said: str) -> None:
-        """Ends the connections of a seat."""
-        for guest in [guest for guest in self.guests if guest.seat is seat]:
-            guest.leave(said)
 
     # The board.
 
@@ -298,7 +284,7 @@ class Classroom(Hall):
 
     def row(self, seat: Seat, is_here: bool) -> Told:
         """A student's row of the board."""
-        room, handed = self.own[seat], self.handed.get(seat)
+        room = self.own[seat]
         room.look()
         return {
             "name": seat.name,
@@ -309,7 +295,7 @@ class Classroom(Hall):
             "faults": room.faults,
             "left": room.left,
             "edited": round(room.edited),
-            "handed": round(handed.time) if handed else 0,
+            "handed": round(self.handed.get(seat, 0.0)),
         }
 
 

@@ -1,4 +1,4 @@
-"""`paris serve --class N EXERCISE`: a program for each of a class, in browsers, with a board for who teaches."""
+"""`paris serve FILE`: one program in the browsers of several people; with `--class` an exercise for each of many."""
 
 from __future__ import annotations
 
@@ -8,6 +8,7 @@ import signal
 import sys
 from argparse import ArgumentTypeError, Namespace
 from collections.abc import Coroutine
+from dataclasses import replace
 from pathlib import Path
 from typing import TYPE_CHECKING, Any
 
@@ -21,11 +22,13 @@ from pevudlo.wire.library_places import find_library
 from pevudlo.wire.program import NotFound
 
 if TYPE_CHECKING:
+    from pevudlo.serve.hall import Hall
     from pevudlo.serve.site import Site
 
 DOES = (
-    "Serves an exercise to the browsers of a class: a program for each seat, all from the same start, and a board for "
-    "who teaches. It is for browsers on this machine, or for those of a proxy that --origin names. Ctrl-C ends it."
+    "Serves a program to the browsers of several people, who edit it together. With --class it gives an exercise to a "
+    "class: a program for each seat, all from the same start, and a board for who teaches. It is for browsers on this "
+    "machine, or for those of a proxy that --origin names. Ctrl-C ends it."
 )
 MISSING = (
     "serve takes aiohttp, which this Python hasn't: install Debian's package python3-aiohttp, or "
@@ -33,7 +36,7 @@ MISSING = (
 )
 MOST_SEATS = 100
 ORIGIN = re.compile(r"https?://[a-z0-9.-]+(:[0-9]{1,5})?")
-ADDRESSES = "addresses.txt"
+ADDRESSES, SEATS, JOURNAL = "addresses.txt", "seats.json", "journal.jsonl"
 
 
 def number(least: int, most: int) -> type[int]:
@@ -57,9 +60,11 @@ def origin(word: str) -> str:
 def arguments() -> Arguments:
     """The reader of the command's words."""
     parser = Arguments("serve", DOES, usual_workers=1)
-    parser.add_argument("file", type=file_name, metavar="EXERCISE", help="a script that all begin with")
-    said = "how many students there are"
-    parser.add_argument("--class", dest="students", type=number(1, MOST_SEATS), required=True, metavar="N", help=said)
+    parser.add_argument("file", type=file_name, metavar="FILE", help="a script that all begin with")
+    said = "how many students there are, each with a program"
+    parser.add_argument("--class", dest="students", type=number(1, MOST_SEATS), metavar="N", help=said)
+    said = "how many people edit one program, without --class (default: %(default)s)"
+    parser.add_argument("--seats", type=number(1, MOST_SEATS), default=6, metavar="N", help=said)
     said = "a script that gives what is wanted, with further input data behind its looks"
     parser.add_argument("--check", type=file_name, metavar="SOLUTION", help=said)
     said = "a file with a name in each line: each has an address of its own then"
@@ -69,8 +74,10 @@ def arguments() -> Arguments:
     parser.add_argument("--port", type=number(0, 65535), default=0, metavar="0-65535", help=said)
     said = "what the proxy before it is called, such as https://paris.school.example"
     parser.add_argument("--origin", type=origin, metavar="ORIGIN", help=said)
-    said = "where addresses, and what is handed in, are written (default: EXERCISE's name with `-class` behind it)"
+    said = "where addresses, the journal, and what is handed in are (default: FILE's name with `-served` behind it)"
     parser.add_argument("--folder", type=file_name, metavar="FOLDER", help=said)
+    said = "begin again where the folder's journal ends, with the same addresses"
+    parser.add_argument("--again", action="store_true", help=said)
     said = "edits a second that a student may make (default: %(default)s)"
     parser.add_argument("--rate", type=number(1, 100), default=5, metavar="N", help=said)
     said = "processors of a set that a student may declare (default: %(default)s)"
@@ -91,7 +98,7 @@ def exercise_of(name: str) -> list[str]:
     lines = [line.encode("utf-8", "surrogateescape").decode("utf-8", "replace") for line in read(name)]
     for line in lines:
         check_line(line)
-    check_size(lines, TEACHING, size_of([]))
+    check_size(size_of(lines), len(lines), TEACHING, size_of([]))
     return lines
 
 
@@ -109,34 +116,74 @@ def addresses(site: Site, seats: Seats, is_named: bool) -> str:
 
 def told(site: Site, seats: Seats, folder: Path, is_named: bool) -> str:
     """What is written when it serves."""
+    is_class = site.hall.mode == "class"
+    looks, joins = ("The wall opens ", "The class opens ") if is_class else ("Who looks opens", "All others open ")
     lines = [
         f"Who teaches opens  {site.address}/#{seats.teacher.token}",
-        f"The wall opens     {site.address}/#{seats.lookers[0].token}",
+        f"{looks}    {site.address}/#{seats.lookers[0].token}",
     ]
     if not is_named:
-        lines.append(f"The class opens    {site.address}/#join:{seats.join}  and each writes a name")
-    lines.append(f"Addresses, and what is handed in, are in {visible(str(folder))}. Ctrl-C ends it.")
+        lines.append(f"{joins}   {site.address}/#join:{seats.join}  and each writes a name")
+    lines.append(f"Addresses and the journal are in {visible(str(folder))}. Ctrl-C ends it.")
     return "\n".join(lines)
 
 
-async def serve(said: Namespace, exercise: list[str], solution: Solution | None, names: list[str]) -> None:
-    """Serves until it is ended. Raises OSError where the port can't be had."""
+def folder_of(said: Namespace) -> Path:
+    """The folder of a server. Raises OSError where it has a journal, and nobody said to begin again, or has none."""
+    folder = path_of(said.folder) if said.folder else Path(f"{path_of(said.file).stem}-served")
+    has_journal = (folder / JOURNAL).is_file()
+    if has_journal and not said.again:
+        raise OSError(f"{visible(str(folder))} has a journal: begin again by --again, or say another --folder")
+    if said.again and not has_journal:
+        raise OSError(f"{visible(str(folder))} has no journal to begin again with")
+    return folder
+
+
+def put_privately(path: Path, text: str) -> None:
+    """Writes a file that nobody else may read. Raises OSError."""
+    path.touch(mode=0o600)
+    put_text(path, text)
+
+
+def seats_of(said: Namespace, folder: Path, names: list[str]) -> Seats:
+    """The seats, with the names and tokens that they had where it begins again. Raises OSError and ValueError."""
+    is_class = said.students is not None
+    limits = Limits(rate=float(said.rate), processors=said.most_processors)
+    limits = limits if is_class else replace(limits, rows=TEACHING.rows, value_bytes=TEACHING.value_bytes)
+    seats = Seats(said.students if is_class else said.seats, said.looking, limits, names)
+    if said.again:
+        seats.take_back((folder / SEATS).read_text())
+    return seats
+
+
+def hall_of(said: Namespace, seats: Seats, folder: Path, exercise: list[str], solution: Solution | None) -> Hall:
+    """What is served. It is made within a loop. Raises OSError and ValueError."""
     from pevudlo.serve.classroom import Classroom
+    from pevudlo.serve.journal import Journal, read_journal
+    from pevudlo.serve.shared import Shared
+
+    kept = read_journal(folder) if said.again else {}
+    title, library, journal = path_of(said.file).name, find_library(), Journal(folder)
+    if said.students is None:
+        return Shared(title, seats, library, said.workers, exercise, journal, kept.get(0))
+    return Classroom(title, seats, library, said.workers, exercise, solution, folder, journal, kept)
+
+
+async def serve(said: Namespace, exercise: list[str], solution: Solution | None, names: list[str]) -> None:
+    """Serves until it is ended. Raises OSError where the port can't be had, and ValueError."""
     from pevudlo.serve.site import Site
 
-    limits = Limits(rate=float(said.rate), processors=said.most_processors)
-    seats = Seats(said.students, said.looking, limits, names)
-    path = path_of(said.file)
-    folder = path_of(said.folder) if said.folder else Path(f"{path.stem}-class")
-    hall = Classroom(path.name, seats, find_library(), said.workers, exercise, solution, folder)
+    folder = folder_of(said)
+    seats = seats_of(said, folder, names)
+    hall = hall_of(said, seats, folder, exercise, solution)
     site = Site(hall, said.port, said.origin or "")
     try:
         await site.open()
-        folder.mkdir(mode=0o700, parents=True, exist_ok=True)
-        (folder / ADDRESSES).touch(mode=0o600)
-        put_text(folder / ADDRESSES, addresses(site, seats, bool(names)))
+        put_privately(folder / ADDRESSES, addresses(site, seats, bool(names)))
+        seats.changed = lambda: put_privately(folder / SEATS, seats.kept())
+        seats.changed()
         print(told(site, seats, folder, bool(names)), flush=True)
-        await until_over(hall.tick(), hall.watch())
+        await until_over(hall.tick(), hall.sync(), hall.watch())
     finally:
         await site.close()
         hall.close()
@@ -171,8 +218,11 @@ def main(words: list[str]) -> int:
         return 2
     try:
         names = [name for name in read(said.names) if name.strip()] if said.names else []
-        if len(names) > said.students:
-            parser.error(f"there are {len(names)} names for {said.students} seats")
+        count = said.seats if said.students is None else said.students
+        if len(names) > count:
+            parser.error(f"there are {len(names)} names for {count} seats")
+        if said.check and said.students is None:
+            parser.error("--check is of a class: say --class N")
         asyncio.run(serve(said, exercise_of(said.file), solution_of(said.check), names))
     except (OSError, ValueError, Refused, NotFound) as error:
         print(f"paris serve: {error}", file=sys.stderr)

@@ -14,6 +14,9 @@ from pevudlo.serve.seats import Seat
 MOST_WAITING = 256
 """So many operations wait at most: who is told none for so long is told that they are lost, and asks for the text."""
 
+MOST_LETTERS = 1_000_000
+"""So many letters of them wait at most."""
+
 MOST_ANSWERS = 512
 """So many answers wait at most."""
 
@@ -50,6 +53,7 @@ class Guest:
     bye: str = ""
     _answers: list[str] = field(default_factory=list)
     _ops: list[str] = field(default_factory=list)
+    _letters: int = 0
     _text: str | None = None
     _is_lost: bool = False
     _is_told_lost: bool = False
@@ -68,6 +72,7 @@ class Guest:
         """Shows a program from its whole text on."""
         self.room, self.looks = room, ()
         self._ops.clear()
+        self._letters = 0
         self._is_lost = self._is_told_lost = False
         self._seen = {name: told for name, told in self._seen.items() if not name.startswith(("v", "rows", "caret"))}
         self._states = {name: told for name, told in self._states.items() if name in self._seen}
@@ -78,7 +83,8 @@ class Guest:
         """Operations that happened in its program."""
         if self._is_lost:
             return
-        if len(self._ops) + len(ops) > MOST_WAITING:
+        self._letters += sum(map(len, ops))
+        if len(self._ops) + len(ops) > MOST_WAITING or self._letters > MOST_LETTERS:
             self._ops.clear()
             self._is_lost = True
         else:
@@ -118,5 +124,6 @@ class Guest:
             states = ",".join(f"{json.dumps(name)}:{told}" for name, told in self._states.items())
             parts.append(f'"states":{{{states}}}')
         self._answers, self._ops, self._text, self._states = [], [], None, {}
+        self._letters = 0
         self._is_told_lost = self._is_lost
         return parts

@@ -10,6 +10,7 @@ from pathlib import Path
 
 from pevudlo.serve import asked as reading
 from pevudlo.serve.guests import Guest, op_text
+from pevudlo.serve.journal import Journal
 from pevudlo.serve.limits import Refused
 from pevudlo.serve.lines import Clash
 from pevudlo.serve.room import Edit, Room
@@ -19,8 +20,8 @@ from pevudlo.serve.turns import Patient, Turns
 TICK = 0.05
 """Seconds between two looks at what is settled."""
 
-MOST_CONNECTIONS = 256
-"""So many connections are held at most."""
+SYNC = 1.0
+"""Seconds behind which the disk has what was done."""
 
 Asked = Mapping[str, object]
 Told = dict[str, object]
@@ -31,8 +32,8 @@ class Hall:
 
     mode = ""
 
-    def __init__(self, title: str, seats: Seats, library: Path, workers: int) -> None:
-        self.title, self.seats = title, seats
+    def __init__(self, title: str, seats: Seats, library: Path, workers: int, journal: Journal) -> None:
+        self.title, self.seats, self.journal = title, seats, journal
         self.guests = set[Guest]()
         self.rooms: list[Room] = []
         self._library, self._loop = library, asyncio.get_running_loop()
@@ -45,6 +46,7 @@ class Hall:
         self.turns.close()
         for room in self.rooms:
             room.close()
+        self.journal.close()
 
     # Who comes and goes.
 
@@ -109,6 +111,8 @@ class Hall:
         """Does one thing. None where nothing is answered. Raises Refused and NoMessage."""
         if word == "edit":
             return self.edit(guest, asked)
+        if word == "undo":
+            return self.undo(guest)
         if word == "look":
             self.look(guest, reading.looks(asked))
             return None
@@ -123,6 +127,36 @@ class Hall:
             self.wake()
             return {}
         return self.more(guest, word, asked)
+
+    def undo(self, guest: Guest) -> Told:
+        """Takes the last own edit of the program that a guest sees back."""
+        room, seat = self._room_of(guest), guest.seat
+        self.check_editing(guest, room)
+        seat.bucket.take()
+        edit = room.undo(seat.number, self.name_of)
+        self.edited(room, seat, edit)
+        return {"n": edit.number}
+
+    def name_of(self, number: int) -> str:
+        """The name of a seat."""
+        return next((seat.name for seat in self.seats if seat.number == number), "somebody")
+
+    def send_away(self, seat: Seat, said: str) -> None:
+        """Ends the connections of a seat."""
+        for guest in [guest for guest in self.guests if guest.seat is seat]:
+            guest.leave(said)
+
+    def seat_word(self, word: str, seat: Seat) -> Told:
+        """Closes a seat, or gives it another address."""
+        if seat.teaches:
+            raise Refused("the teacher's seat stays open")
+        if word == "close":
+            self.seats.close(seat)
+            self.send_away(seat, "this seat was closed by who teaches")
+            return {}
+        self.seats.renew(seat)
+        self.send_away(seat, "this seat has a new address now")
+        return {"token": seat.token}
 
     def more(self, guest: Guest, word: str, asked: Asked) -> Told | None:
         """What only this kind of hall does. Raises Refused."""
@@ -153,7 +187,7 @@ class Hall:
 
     def clash(self, room: Room, clash: Clash) -> Told:
         """What is told to who came second."""
-        by = next((seat.name for seat in self.seats if seat.number == room.lines.by.get(clash.id)), "")
+        by = self.name_of(room.lines.by.get(clash.id, -1))
         return {"id": clash.id, "theirs": clash.theirs, "mine": clash.mine, "by": by}
 
     def edited(self, room: Room, seat: Seat, edit: Edit) -> None:
@@ -196,6 +230,16 @@ class Hall:
         """There is something to see."""
         self._is_told = False
         self._turn.set()
+
+    async def sync(self) -> None:
+        """Has the disk keep the journal, each second. Raises OSError."""
+        while True:
+            await asyncio.sleep(SYNC)
+            await asyncio.to_thread(self.journal.sync)
+
+    async def watch(self) -> None:
+        """Tells what else there is to be told, again and again."""
+        await asyncio.Event().wait()
 
     async def tick(self) -> None:
         """Tells what is settled and what lines give, again and again."""

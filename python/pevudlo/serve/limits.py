@@ -16,6 +16,9 @@ MOST_LINE = 65_536
 MOST_CHANGES = 4_200
 """So many lines are changed by one edit at most."""
 
+MOST_LETTERS = 4_000_000
+"""So many letters a text has at most."""
+
 MOST_LINES = 8_192
 """So many lines a text has at most."""
 
@@ -103,11 +106,12 @@ def declared(lines: tuple[str, ...]) -> Board:
 
 @dataclass(frozen=True)
 class Size:
-    """How large a program is: its rows, the bytes of what they leave, and the processors of its largest set."""
+    """How large a program is: rows, bytes of what they leave, processors of its largest set, letters of its text."""
 
     rows: int
     value_bytes: int
     processors: int
+    letters: int = 0
 
 
 def left_by(board: Board, text: str) -> int:
@@ -130,14 +134,28 @@ def size_of(lines: Sequence[str]) -> Size:
     rows = [piece.text for piece in pieces if piece.kind is Kind.ROW]
     replaced = [piece.text for piece in pieces if piece.kind is Kind.REPLACE]
     largest = max(map(board.processors, board.sets), default=0)
-    return Size(len(rows), sum(left_by(board, text) for text in [*rows, *replaced]), largest)
+    left = sum(left_by(board, text) for text in [*rows, *replaced])
+    return Size(len(rows), left, largest, sum(map(len, lines)))
 
 
-def check_size(lines: Sequence[str], limits: Limits, given: Size) -> None:
-    """Raises Refused where a text is too large for a seat. What was `given` to it it may have in any case."""
-    if len(lines) > MOST_LINES:
+def resized(size: Size, board: Board, olds: Sequence[str], news: Sequence[str]) -> Size:
+    """How large a program is where some lines have others in their place, and none of them declares anything."""
+    rows, total, letters = size.rows, size.value_bytes, size.letters
+    for sign, line in [*((-1, line) for line in olds), *((1, line) for line in news)]:
+        piece = piece_of(line)
+        is_row = piece.kind in (Kind.ROW, Kind.REPLACE)
+        rows += sign * (piece.kind is Kind.ROW)
+        total += sign * left_by(board, piece.text) if is_row else 0
+        letters += sign * len(line)
+    return Size(rows, total, size.processors, letters)
+
+
+def check_size(size: Size, lines: int, limits: Limits, given: Size) -> None:
+    """Raises Refused where a text of so many lines is too large for a seat. What was `given` to it it may have."""
+    if lines > MOST_LINES:
         raise Refused(f"a text has {MOST_LINES:,} lines at most")
-    size = size_of(lines)
+    if size.letters > MOST_LETTERS:
+        raise Refused(f"a text has {MOST_LETTERS:,} letters at most")
     if size.rows > max(limits.rows, given.rows):
         raise Refused(f"{size.rows:,} rows are too many: {max(limits.rows, given.rows):,} are allowed")
     if size.processors > max(limits.processors, given.processors):

@@ -63,13 +63,21 @@ class Clash:
 class Lines:
     """The lines with their ids. `by` says who wrote a line last."""
 
-    def __init__(self, texts: Sequence[str] = (), by: int = 0) -> None:
-        self.texts = list(texts)
-        self.ids = list(range(1, len(self.texts) + 1))
-        self.by = dict.fromkeys(self.ids, by)
-        self.next = len(self.texts) + 1
+    def __init__(self) -> None:
+        self.texts: list[str] = []
+        self.ids: list[int] = []
+        self.by: dict[int, int] = {}
+        self.next = 1
         # Of a line that is gone the one behind which it stood.
         self._before: dict[int, int] = {}
+
+    @classmethod
+    def of(cls, texts: Sequence[str], first: int, by: int) -> Lines:
+        """Lines whose ids go from `first` on."""
+        lines = cls()
+        lines.texts, lines.ids = list(texts), list(range(first, first + len(texts)))
+        lines.by, lines.next = dict.fromkeys(lines.ids, by), first + len(texts)
+        return lines
 
     def at(self, number: int) -> int | None:
         """Where a line stands, or None where there is none of this id."""
@@ -92,6 +100,14 @@ class Lines:
             return [], None
         kept = self._put(change.id, f"#? {name[:MOST_NAMED]}: {change.text}", who)
         return [kept], Clash(change.id, present, change.text)
+
+    def repeat(self, done: Done, who: int) -> None:
+        """Does again what was done once to the same lines, or to be undone. A line comes back under its id."""
+        at = self.at(done.id)
+        if done.op is Op.INSERT:
+            self._put(done.after, done.text, who, done.id)
+        elif at is not None:
+            self._change(at, Change(done.op, done.id, text=done.text), who)
 
     def take_all(self, changes: Sequence[Change], who: int, name: str) -> tuple[list[Done], list[Clash], list[int]]:
         """Does several changes of one edit. What was done, where another one was first, and the ids of new lines."""
@@ -116,12 +132,13 @@ class Lines:
         del self.texts[at], self.ids[at], self.by[change.id]
         return Done(Op.DELETE, change.id, after=before, was=was)
 
-    def _put(self, after: int, text: str, who: int) -> Done:
-        """Puts a line in behind another one, or where that was."""
+    def _put(self, after: int, text: str, who: int, number: int = 0) -> Done:
+        """Puts a line in behind another one, or where that was. It has the next id where none is said."""
         while after != START and after not in self.by:
             after = self._before.get(after, START)
         at = 0 if after == START else self.ids.index(after) + 1
-        number, self.next = self.next, self.next + 1
+        number = number or self.next
+        self.next = max(self.next, number + 1)
         self.ids.insert(at, number)
         self.texts.insert(at, text)
         self.by[number] = who

@@ -5,7 +5,7 @@ from __future__ import annotations
 from functools import cache
 from importlib import resources
 
-MODULES = ("seats", "seat_link", "sheet", "board", "shown")
+MODULES = ("seats", "seat_link", "sheet", "board", "entries", "shown")
 NAMES = frozenset({"", "seats.css", *(f"{name}.js" for name in MODULES)})
 KINDS = {"": "text/html", "js": "text/javascript", "css": "text/css"}
 POLICY = (

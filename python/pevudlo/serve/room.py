@@ -25,10 +25,12 @@ from pevudlo.document.lines import (
 )
 from pevudlo.document.marks import note_on, refusal_text
 from pevudlo.draw.visible import visible
+from pevudlo.files import why
 from pevudlo.lang.keys import axes_of, width_of
 from pevudlo.lang.profiles import WORD
 from pevudlo.lang.replies import Faults, NoReply, parse
-from pevudlo.serve.limits import Limits, Size, check_line, check_size, size_of
+from pevudlo.serve.journal import Entry, Kept, line_of_chapter, line_of_entry
+from pevudlo.serve.limits import Limits, Refused, Size, check_line, check_size, resized, size_of
 from pevudlo.serve.lines import Change, Clash, Done, Lines, Op
 from pevudlo.serve.turns import Patient
 from pevudlo.wire.library import Library
@@ -40,6 +42,12 @@ MOST_SHOWN = 64
 
 MOST_NUMBERS = 4_096
 """So many numbers of a key are told where one asks for all of them."""
+
+MOST_UNDONE = 500
+"""So many edits of a seat may be taken back."""
+
+DECLARES = ("set ", "field ", "paris ")
+"""What lines begin with by which others are larger or smaller."""
 
 MOST_KEYS = 8
 """Of so many keys it is told what a row leaves."""
@@ -55,6 +63,15 @@ class Edit:
     done: Sequence[Done]
     clashes: Sequence[Clash]
     put: Sequence[int]
+
+
+def inverse_of(done: Done) -> Done:
+    """What takes back what was done to a line."""
+    if done.op is Op.REPLACE:
+        return Done(Op.REPLACE, done.id, done.was, was=done.text)
+    if done.op is Op.INSERT:
+        return Done(Op.DELETE, done.id, after=done.after, was=done.text)
+    return Done(Op.INSERT, done.id, done.was, done.after)
 
 
 @dataclass
@@ -77,23 +94,53 @@ class Standing:
 
 
 class Room:
-    """A program. `wake` is told its book where rows may be ready, and `number` counts the edits."""
+    """A program. `wake` is told its book where rows may be ready, and `keep` each line for the journal.
 
-    def __init__(self, name: str, texts: Sequence[str], library: Path, wake: Callable[[Patient], None]) -> None:
-        self.name, self.number, self.edited = name, 0, 0.0
+    `at` is its number among the programs of a server, and `number` that of its last edit.
+    """
+
+    def __init__(
+        self,
+        name: str,
+        texts: Sequence[str],
+        library: Path,
+        wake: Callable[[Patient], None],
+        at: int = 0,
+        keep: Callable[[str], None] = lambda line: None,
+        kept: Kept | None = None,
+    ) -> None:
+        """With `kept` it goes on from what a journal says."""
+        self.name, self.at, self.edited = name, at, 0.0
         self.trouble = ""
-        self.lines = Lines()
-        self.given = Size(0, 0, 0)
+        self.kept = kept or Kept()
+        self.size = self.given = Size(0, 0, 0)
         self.chapters: list[Chapter] = []
-        self._library, self._wake = library, wake
+        self.locked = set[int]()
+        self._library, self._wake, self._keep = library, wake, keep
         self._standing = Standing()
         self._document = Document(self._begun, begin_second=lambda: Library(library))
         self._book: Patient | None = None
-        self.begin(texts, "the beginning")
+        # Who changed a line last, with the number of the edit, and what each may take back.
+        self._changed: dict[int, dict[int, int]] = {}
+        self._own: dict[int, list[Entry]] = {}
+        if kept is None:
+            self.begin(texts, "the beginning")
+        else:
+            self._resume()
 
     def close(self) -> None:
         """Ends the book."""
         self._document.close()
+
+    @property
+    def lines(self) -> Lines:
+        """The lines of the text."""
+        return self.kept.lines
+
+    @property
+    def number(self) -> int:
+        """The number of the last edit."""
+        return self.kept.number
 
     @property
     def document(self) -> Document:
@@ -109,40 +156,103 @@ class Room:
     # Edits.
 
     def begin(self, texts: Sequence[str], name: str, by: int = 0) -> None:
-        """A new chapter: the program begins anew with a text. The one that it had is kept."""
+        """A new chapter: the program begins anew with a text. The one that it had is kept. Raises OSError."""
+        first, number = self.lines.next, self.number + 1
+        self._keep(line_of_chapter(self.at, name, texts, first, number, by))
         if self.chapters:
             self.chapters[-1].texts = list(self.lines.texts)
         self.chapters.append(Chapter(name, time.time(), list(texts)))
-        first = self.lines.next
-        self.lines = Lines()
-        self.lines.next = first
-        for at, text in enumerate(texts):
-            self.lines.take(Change(Op.INSERT, first + at - 1 if at else 0, text=text), by, "")
-        self.given = size_of(texts)
-        self.number += 1
+        self.kept.begin(texts, first, number, by)
+        self.given = self.size = size_of(texts)
+        self.locked.clear()
+        self._changed.clear()
+        self._own.clear()
+        self._update()
+
+    def _resume(self) -> None:
+        """Goes on from what a journal says."""
+        self.size, self.given = size_of(self.lines.texts), size_of(self.kept.first.texts)
+        self.chapters = [Chapter("the beginning", time.time(), list(self.kept.first.texts))]
+        for entry in self.kept.entries:
+            self._note(entry)
+            self.edited = entry.time
         self._update()
 
     def edit(self, changes: Sequence[Change], who: int, name: str, limits: Limits) -> Edit:
         """Does the changes of one edit. Raises Refused, with nothing done, where they are too large."""
         for change in changes:
             check_line(change.text)
-        check_size(self._after(changes), limits, self.given)
+        size = self._sized(changes)
+        check_size(size, len(self.lines.texts) + len(changes), limits, self.given)
         done, clashes, put = self.lines.take_all(changes, who, name)
         if done:
-            self.number += 1
-            self.edited = time.time()
-            self._update()
+            # (a line that came second is a comment, and adds no row)
+            self.size = self._sized([]) if clashes else size
+            self._did(Entry(self.number + 1, time.time(), who, done))
         return Edit(self.number, done, clashes, put)
 
-    def _after(self, changes: Sequence[Change]) -> list[str]:
-        """The texts after some changes, as far as it says how large the program is: their places don't matter."""
+    def undo(self, who: int, name_of: Callable[[int], str]) -> Edit:
+        """Takes the last edit of a seat back, by its inverse. Raises Refused where somebody changed the same since."""
+        own = self._own.get(who)
+        if not own:
+            raise Refused("there is nothing of yours to take back")
+        entry = own[-1]
+        for done in entry.done:
+            self._check_own(done, entry, name_of)
+        inverse = [inverse_of(done) for done in reversed(entry.done)]
+        for done in inverse:
+            self.lines.repeat(done, who)
+        self.size = size_of(self.lines.texts)
+        self._did(Entry(self.number + 1, time.time(), who, inverse, is_undo=True))
+        return Edit(self.number, inverse, [], [])
+
+    def _check_own(self, done: Done, entry: Entry, name_of: Callable[[int], str]) -> None:
+        """Raises Refused where another one has changed a line since an edit."""
+        since = {by: at for by, at in self._changed.get(done.id, {}).items() if at > entry.number and by != entry.by}
+        if since:
+            by = max(since, key=lambda each: since[each])
+            raise Refused(f"{name_of(by)} has changed the same line since: {(done.text or done.was)[:200]}")
+
+    def _did(self, entry: Entry) -> None:
+        """Keeps what was done, and brings the book in step. Raises Refused, with nothing done, where that can't be."""
+        try:
+            self._keep(line_of_entry(self.at, entry))
+        except OSError as error:
+            for done in reversed(entry.done):
+                self.lines.repeat(inverse_of(done), entry.by)
+            self.size = size_of(self.lines.texts)
+            raise Refused(f"nothing is done, since the journal can't be written: {why(error)}") from error
+        self.kept.number = entry.number
+        self.kept.entries.append(entry)
+        self._note(entry)
+        self.edited = entry.time
+        self._update()
+
+    def _note(self, entry: Entry) -> None:
+        """Notes who changed what."""
+        for done in entry.done:
+            self._changed.setdefault(done.id, {})[entry.by] = entry.number
+        own = self._own.setdefault(entry.by, [])
+        if not entry.is_undo:
+            own.append(entry)
+            del own[:-MOST_UNDONE]
+        elif own:
+            own.pop()
+
+    def _sized(self, changes: Sequence[Change]) -> Size:
+        """How large the program is after some changes, as far as it goes by the lines that are changed."""
+        at_lines = {change.id: self.lines.at(change.id) for change in changes if change.op is not Op.INSERT}
+        olds = [self.lines.texts[at] for at in at_lines.values() if at is not None]
+        news = [change.text for change in changes if change.op is not Op.DELETE]
+        if changes and not any(line.startswith(DECLARES) for line in [*olds, *news]):
+            return resized(self.size, self._document.book.board, olds, news)
         texts = dict(zip(self.lines.ids, self.lines.texts))
         for at, change in enumerate(changes):
             if change.op is Op.DELETE:
                 texts.pop(change.id, None)
             else:
                 texts[change.id if change.op is Op.REPLACE else -1 - at] = change.text
-        return list(texts.values())
+        return size_of(list(texts.values()))
 
     def _update(self) -> None:
         """Brings the book in step with the lines."""

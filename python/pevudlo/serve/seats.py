@@ -2,9 +2,10 @@
 
 from __future__ import annotations
 
+import json
 import secrets
 import unicodedata
-from collections.abc import Iterator
+from collections.abc import Callable, Iterator
 from dataclasses import dataclass, field
 from enum import Enum
 
@@ -63,6 +64,7 @@ class Seats:
     """All seats: who teaches has number 0, and the others are numbered from 1 on.
 
     `join` is the token of the address at which people write a name. `looking` seats stand behind the students'.
+    `changed` is called where a seat is another one now.
     """
 
     def __init__(self, count: int, looking: int, limits: Limits, names: list[str]) -> None:
@@ -74,6 +76,7 @@ class Seats:
             seat.name, seat.is_taken = name, True
         self.all = [teacher, *students, *lookers]
         self.join = secrets.token_urlsafe(TOKEN_BYTES)
+        self.changed: Callable[[], None] = lambda: None
 
     def __iter__(self) -> Iterator[Seat]:
         return iter(self.all)
@@ -116,8 +119,34 @@ class Seats:
         if free is None:
             raise Refused(f"all {len(self.students)} seats are taken: ask who teaches for one")
         free.name, free.is_taken = wanted, True
+        self.changed()
         return free
 
     def renew(self, seat: Seat) -> None:
         """Gives a seat another token: who came by the old one comes no more."""
         seat.token, seat.is_closed = secrets.token_urlsafe(TOKEN_BYTES), False
+        self.changed()
+
+    def close(self, seat: Seat) -> None:
+        """Lets nobody in at a seat."""
+        seat.is_closed = True
+        self.changed()
+
+    def kept(self) -> str:
+        """The seats as they are kept, in JSON."""
+        told = [[seat.number, seat.name, seat.token, seat.is_closed, seat.is_taken] for seat in self.all]
+        return json.dumps({"join": self.join, "seats": told})
+
+    def take_back(self, kept: str) -> None:
+        """Gives the seats the names and tokens that they had. Raises ValueError where that is none of theirs."""
+        try:
+            told = json.loads(kept)
+            join, seats = str(told["join"]), {int(number): rest for number, *rest in told["seats"]}
+            for seat in self.all:
+                if seat.number in seats:
+                    name, token, is_closed, is_taken = seats[seat.number]
+                    seat.name, seat.token = str(name), str(token)
+                    seat.is_closed, seat.is_taken = bool(is_closed), bool(is_taken)
+            self.join = join
+        except (KeyError, TypeError, ValueError) as error:
+            raise ValueError("what is kept of the seats is none of a server's") from error

@@ -1,7 +1,8 @@
 // The page of a seat: a student's program, the board of who teaches, or the wall.
 import { Board } from "./board.js";
+import { Entries } from "./entries.js";
 import { SeatLink } from "./seat_link.js";
-import { Sheet } from "./sheet.js";
+import { Sheet, markOf } from "./sheet.js";
 import { button, element, visible } from "./shown.js";
 
 /** @param {string} id */
@@ -29,6 +30,8 @@ const board = new Board($("board"), link, say, (seat, name) => {
   whose(seat ? name : "");
   sheet.canEdit = true;
 });
+const entries = new Entries($("panel"), link, say);
+sheet.asked = id => { if (me.mode === "shared") entries.open(id); };
 /** @type {Answer} */
 let me = {};
 
@@ -37,8 +40,9 @@ let me = {};
  * @param {string} name
  */
 function whose(name) {
-  const isWall = me.kind === "looking";
-  $("whose").textContent = visible(isWall ? name : me.kind === "teacher" ? name && `${name}'s program` : me.name);
+  const isWall = me.kind === "looking" && me.mode === "class";
+  const isOther = me.kind === "teacher" && me.mode === "class";
+  $("whose").textContent = visible(isWall ? name : isOther ? name && `${name}'s program` : me.name);
 }
 
 /** @param {Answer} told */
@@ -55,8 +59,13 @@ function hello(told) {
   sheet.me = told.seat;
   sheet.canEdit = told.kind !== "looking";
   sheet.sendsStill = told.mode === "class";
-  document.body.classList.toggle("isWall", told.kind === "looking");
+  sheet.people = new Map(told.seats ?? []);
+  sheet.mayChangeLocked = entries.teaches = told.kind === "teacher";
+  document.body.classList.toggle("isWall", told.kind === "looking" && told.mode === "class");
+  document.body.classList.toggle("isShared", told.mode === "shared");
   $("acts").textContent = "";
+  if (told.kind !== "looking") $("acts").append(button("Undo", undo, "takes your own last edit back"));
+  if (told.mode === "shared") $("acts").append(button("Who did what", () => entries.open(0)));
   if (told.kind === "student" && told.mode === "class") studentActs();
   if (told.kind === "teacher" && told.mode === "class") board.begin(told.checks, told.seats);
 }
@@ -71,6 +80,13 @@ function studentActs() {
     button("Earlier texts", () => chapters(), "goes back to a text that you had before"),
     button("Download", download),
   );
+}
+
+/** Takes the own last edit back. */
+async function undo() {
+  sheet.leave();
+  const answer = await link.ask("undo");
+  say(answer.refused ?? "");
 }
 
 /** Offers the texts that there were. */
@@ -112,8 +128,13 @@ function state(name, told) {
   else if (/^board\d+$/.test(name)) board.told(number, told);
   else if (/^caret\d+$/.test(name)) sheet.caret(number, told);
   else if (name === "people") {
-    const names = /** @type {[number, string, string][]} */ (told).map(each => each[1]);
+    const people = /** @type {[number, string, string][]} */ (told);
+    for (const [seat, called] of people) sheet.people.set(seat, called);
+    const names = people.map(([seat, called]) => `${markOf(seat)} ${called}`);
     $("people").textContent = visible(`${names.length} here: ${names.join(", ")}`);
+  } else if (name === "locks") {
+    sheet.lock(told);
+    entries.locked = new Set(told);
   }
 }
 

@@ -24,6 +24,13 @@ export class Sheet {
     /** @type {Map<number, Line>} */
     this.known = new Map();
     this.me = 0;
+    /** @type {Map<number, string>} */
+    this.people = new Map();
+    /** @type {Set<number>} */
+    this.locked = new Set();
+    this.mayChangeLocked = false;
+    /** @type {(id: number) => void} */
+    this.asked = () => {};
     this.canEdit = false;
     this.sendsStill = false;
     /** @type {Set<number>} */
@@ -77,7 +84,9 @@ export class Sheet {
     const [, bar, text] = /** @type {HTMLElement[]} */ ([...line.place.children]);
     line.place.classList.toggle("isMine", line.by === this.me);
     line.place.classList.remove("isSent");
-    bar.title = line.by === this.me ? "written by you" : "";
+    bar.title = line.by === this.me ? "written by you" : `written by ${visible(this.people.get(line.by) ?? "somebody")}`;
+    bar.textContent = markOf(line.by);
+    bar.style.color = colourOf(line.by);
     if (this.edited?.line === line) return;
     text.textContent = visible(line.text);
     text.classList.toggle("isComment", line.text.startsWith("#"));
@@ -170,7 +179,19 @@ export class Sheet {
     if (!line || !told) return;
     const mark = element("span", "caret", told[3] ? `${told[2]}: ${told[3]}` : told[2]);
     mark.dataset.seat = String(seat);
+    mark.style.color = colourOf(seat);
+    mark.prepend(`${markOf(seat)} `);
     line.place.children[2].append(mark);
+  }
+
+  /**
+   * Which lines are locked.
+   * @param {number[]} ids
+   */
+  lock(ids) {
+    this.locked = new Set(ids);
+    this.root.querySelectorAll(".isLocked").forEach(each => each.classList.remove("isLocked"));
+    for (const id of ids) this.known.get(id)?.place.classList.add("isLocked");
   }
 
   // What is looked at.
@@ -200,9 +221,12 @@ export class Sheet {
   clicked(event) {
     const target = /** @type {HTMLElement} */ (event.target);
     const place = /** @type {HTMLElement|null} */ (target.closest(".line"));
-    if (!place || target.closest(".gives") || target.closest("input") || !this.canEdit) return;
+    if (!place || target.closest(".gives") || target.closest("input")) return;
     const line = this.known.get(Number(place.dataset.id));
-    if (line) this.edit(line, line.text.length);
+    if (!line) return;
+    if (target.closest(".number")) this.asked(line.id);
+    else if (this.locked.has(line.id) && !this.mayChangeLocked) this.say("This line is locked by who teaches.");
+    else if (this.canEdit) this.edit(line, line.text.length);
   }
 
   /**
@@ -390,6 +414,20 @@ export class Sheet {
     this.send(lines.slice(1));
   }
 }
+
+const MARKS = "●▲■◆★✚♥♣♠▼◀▶";
+
+/**
+ * The sign of a seat.
+ * @param {number} seat
+ */
+export function markOf(seat) { return MARKS[seat % MARKS.length]; }
+
+/**
+ * The colour of a seat.
+ * @param {number} seat
+ */
+export function colourOf(seat) { return `hsl(${(seat * 137) % 360} 65% 45%)`; }
 
 /** @param {{theirs: string|null, mine: string, by: string}} clash */
 function clashWords(clash) {

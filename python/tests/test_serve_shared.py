@@ -1,0 +1,236 @@
+"""`paris serve FILE`: one program of several people, over sockets."""
+
+from __future__ import annotations
+
+import asyncio
+import json
+import random
+import signal
+from pathlib import Path
+from typing import Any
+
+import pytest
+from serving import PATIENCE, Client, People, served, with_people
+from test_serve import run
+
+from pevudlo.document.document import Document
+from pevudlo.exercise.looks import seen
+
+TEXT = ["set S 4", "field a S 8", "field b S 8", "input a 0 1 2 3 4", "u-add-3-1L b a a 8", "show b end"]
+ROW, LOOK = 4, 5
+
+pytestmark = pytest.mark.usefixtures("libparis")
+
+
+@pytest.fixture
+def file(tmp_path: Path) -> Path:
+    """A program of one row."""
+    path = tmp_path / "double.paris"
+    path.write_text("".join(f"{line}\n" for line in TEXT))
+    return path
+
+
+def play(file: Path, part: Any, *words: str) -> None:
+    """Plays something at one program."""
+    with served(file, "--folder", file.parent / "kept", *words, cwd=file.parent) as server:
+        asyncio.run(with_people(server, part))
+
+
+async def same(*clients: Client) -> None:
+    """Waits until all have the text of the first."""
+    for client in clients:
+        await has_text(client, clients[0])
+
+
+async def has_text(client: Client, other: Client) -> None:
+    """Waits until one has the text of the other."""
+    await client.until(lambda: client.text == other.text)
+
+
+async def has_values(client: Client, wanted: dict[int, str]) -> None:
+    """Waits until these numbers stand beside lines."""
+    await client.until(lambda: all(client.sees(at) == [numbers] for at, numbers in wanted.items()))
+
+
+def test_several_people_see_each_other_s_edits_and_values(file: Path) -> None:
+    async def part(people: People) -> None:
+        ann, bob = await people.join("Ann"), await people.join("Bob")
+        assert ann.hello["mode"] == "shared" and [name for _, name in ann.hello["seats"]][1] == "Ann"
+        await bob.look()
+        await bob.until(lambda: bob.sees(LOOK) == ["2 4 6 8"])
+        told = await ann.replace(ROW, "u-multiply-3-1L b a a 8")
+        await bob.until(lambda: bob.text[ROW] == "u-multiply-3-1L b a a 8" and bob.number == told["n"])
+        assert bob.lines[ROW][2] == ann.hello["seat"]
+        await bob.until(lambda: bob.sees(LOOK) == ["1 4 9 16"])
+        assert [name for _, name, _ in ann.states["people"]] == ["Ann", "Bob"]
+        await ann.socket.send_json({"do": "caret", "id": ann.lines[ROW][0], "column": 3, "text": "u-mul"})
+        await bob.until(lambda: bob.states.get("caret1") == [ann.lines[ROW][0], 3, "Ann", "u-mul"])
+        await ann.close()
+        await bob.until(lambda: bob.states["caret1"] is None and len(bob.states["people"]) == 1)
+
+    play(file, part)
+
+
+def test_own_undo_and_who_did_what(file: Path) -> None:
+    async def part(people: People) -> None:
+        ann, bob = await people.join("Ann"), await people.join("Bob")
+        await ann.replace(ROW, "u-multiply-3-1L b a a 8")
+        await same(ann, bob)
+        await bob.replace(3, "input a 0 5 5 5 5")
+        await same(bob, ann)
+        await ann.ask("undo")
+        assert ann.text[3:5] == ["input a 0 5 5 5 5", TEXT[ROW]]
+        assert "nothing of yours" in (await ann.ask("undo"))["refused"]
+        await ann.replace(3, "input a 0 6")
+        await same(ann, bob)
+        assert "Ann has changed the same line since: input a 0 5 5 5 5" in (await bob.ask("undo"))["refused"]
+        told = (await bob.ask("entries", id=0))["entries"]
+        assert [(each["name"], each["undo"]) for each in told] == [
+            ("Ann", False),
+            ("Ann", True),
+            ("Bob", False),
+            ("Ann", False),
+        ]
+        line = ann.lines[3][0]
+        told = (await bob.ask("entries", id=line))["entries"]
+        assert [each["ops"] for each in told] == [
+            [["replace", line, "input a 0 6", "input a 0 5 5 5 5"]],
+            [["replace", line, "input a 0 5 5 5 5", TEXT[3]]],
+        ]
+        await bob.replace(ROW, "u-ad-3-1L b a a 8")
+        (last, *_) = (await bob.ask("entries", id=0))["entries"]
+        assert last["reply"] == "refused 20 1"
+
+    play(file, part)
+
+
+def test_locks_chapters_and_seats_that_look(file: Path) -> None:
+    async def part(people: People) -> None:
+        teacher, ann = await people.sit(people.server.teacher), await people.join("Ann")
+        looker = await people.sit(people.server.token("Who looks"))
+        line = ann.lines[ROW][0]
+        for word in ("lock", "back", "close"):
+            assert "alone" in (await ann.ask(word, ids=[line], n=1, seat=1))["refused"]
+        await teacher.ask("lock", ids=[line])
+        await ann.until(lambda: bool(ann.states["locks"] == [line]))
+        assert "is locked" in (await ann.replace(ROW, "# mine"))["refused"]
+        assert "n" in await teacher.replace(ROW, "# the teacher's")
+        await same(teacher, ann)
+        await teacher.ask("unlock", ids=[line])
+        await ann.replace(ROW, "# mine")
+        await ann.insert(0, "# on top")
+        await same(ann, teacher, looker)
+        assert "looks, and edits nothing" in (await looker.replace(0, "# no"))["refused"]
+        assert "looks, and edits nothing" in (await looker.ask("undo"))["refused"]
+        entries = (await ann.ask("entries", id=0))["entries"]
+        assert "refused" in await teacher.ask("back", n=999)
+        await teacher.ask("back", n=entries[-1]["n"])
+        await ann.until(lambda: ann.text == [*TEXT[:ROW], "# the teacher's", *TEXT[ROW + 1 :]])
+        assert "nothing of yours" in (await ann.ask("undo"))["refused"]
+        assert (await ann.ask("entries", id=0))["entries"] == []
+
+    play(file, part)
+
+
+def test_a_seat_that_reads_nothing_asks_for_the_text_and_sees_the_last_values(file: Path) -> None:
+    async def part(people: People) -> None:
+        ann, bob = await people.join("Ann"), await people.join("Bob")
+        await bob.look()
+        reader, bob._reader = bob._reader, None
+        assert reader is not None
+        reader.cancel()
+        # Long lines fill what the system holds for Bob, and then operations wait.
+        number, was = ann.lines[0][:2]
+        for turn in range(400):
+            text = f"# {turn} {'x' * 60_000}"
+            change = {"op": "replace", "id": number, "was": was, "text": text}
+            while "refused" in await ann.ask("edit", changes=[change]):
+                await asyncio.sleep(0.05)
+            was = text
+        bob.start()
+        await bob.until(lambda: bob.text == ann.text)
+        assert bob.texts >= 2 and bob.order == sorted(bob.order)
+
+    play(file, part, "--rate", "100")
+
+
+def test_a_server_that_was_killed_begins_again(file: Path) -> None:
+    """What was acknowledged is there again, under the same addresses."""
+    acknowledged: list[str] = []
+    tokens: dict[str, str] = {}
+    with served(file, "--folder", "kept", cwd=file.parent) as server:
+
+        async def before(people: People) -> None:
+            ann = await people.join("Ann")
+            tokens["Ann"], tokens["teacher"] = ann.hello["token"], server.teacher
+            for turn in range(15):
+                assert "n" in await ann.insert(ROW, f"# edit {turn}")
+                acknowledged.append(f"# edit {turn}")
+            await ann.ask("undo")
+            acknowledged.pop()
+            server.process.send_signal(signal.SIGKILL)
+
+        asyncio.run(with_people(server, before))
+        server.process.wait(PATIENCE)
+    assert "has a journal: begin again by --again" in run(file, "--folder", file.parent / "kept").stderr
+    with served(file, "--folder", "kept", "--again", cwd=file.parent) as server:
+
+        async def after(people: People) -> None:
+            ann = await people.sit(tokens["Ann"])
+            assert ann.text == [*TEXT[:ROW], *reversed(acknowledged), *TEXT[ROW:]]
+            assert ann.hello["name"] == "Ann" and server.teacher == tokens["teacher"]
+            await ann.ask("undo")
+            assert ann.text[ROW] == acknowledged[-2]
+            await ann.look()
+            await ann.until(lambda: ann.sees(ann.text.index("show b end")) == ["2 4 6 8"])
+
+        asyncio.run(with_people(server, after))
+    lines = (file.parent / "kept/journal.jsonl").read_text().splitlines()
+    assert len(lines) == 1 + 15 + 1 + 1 and all(json.loads(line)["room"] == 0 for line in lines)
+    assert (file.parent / "kept/seats.json").stat().st_mode & 0o077 == 0
+
+
+FIELDS = "abcd"
+HEAD = ["set S 8", *(f"field {name} S 8" for name in FIELDS), "input a 0 1 2 3 4 5 6 7 8"]
+ROWS = ("u-add-3-1L {} {} {} 8", "logxor-3-1L {} {} {} 8", "u-max-3-1L {} {} {} 8")
+
+
+async def edits(client: Client, seed: int, count: int) -> int:
+    """Makes random edits as fast as they are taken. How many were made."""
+    choose, made = random.Random(seed), 0
+    while made < count:
+        at = choose.randrange(len(HEAD), len(client.lines))
+        text = choose.choice(ROWS).format(*(choose.choice(FIELDS) for _ in range(3)))
+        kind = choose.random()
+        if kind < 0.45:
+            told = await client.replace(at, text)
+        elif kind < 0.85:
+            told = await client.insert(at, text)
+        else:
+            told = await client.ask("undo")
+        made += "n" in told
+        if "refused" in told:
+            await asyncio.sleep(0.01)
+    return made
+
+
+def test_random_people_have_one_text_and_the_values_of_a_fresh_run(tmp_path: Path) -> None:
+    file = tmp_path / "random.paris"
+    looks = [f"show {name} end" for name in FIELDS]
+    file.write_text("".join(f"{line}\n" for line in [*HEAD, "# rows", *looks]))
+
+    async def part(people: People) -> None:
+        clients = [await people.join(name) for name in ("Ann", "Bob", "Carla", "Dora")]
+        await asyncio.gather(*(edits(client, at, 60) for at, client in enumerate(clients)))
+        await same(*clients)
+        text = clients[0].text
+        with Document() as document:
+            document.update_lines(text)
+            places = [at for at, line in enumerate(text) if line in looks]
+            wanted = {at: " ".join(map(str, seen(document, at) or ())) for at in places}
+        for client in clients:
+            ids = [client.lines[at][0] for at in places]
+            await client.socket.send_json({"do": "look", "ids": ids})
+            await has_values(client, wanted)
+
+    play(file, part, "--rate", "100")
