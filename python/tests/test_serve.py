@@ -351,7 +351,8 @@ def run(*words: str | Path) -> subprocess.CompletedProcess[str]:
 def test_wrong_words(tmp_path: Path) -> None:
     wrong: list[list[str | Path]] = [
         [],
-        [EXERCISE],
+        [EXERCISE, "--check", SOLUTION],
+        [EXERCISE, "--seats", "0"],
         ["--class", "0", EXERCISE],
         ["--class", "101", EXERCISE],
         ["--class", "3"],
