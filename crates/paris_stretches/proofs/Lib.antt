@@ -1,3 +1,4 @@
+mod Bits
 mod Least
 mod Others
 mod Rising

@@ -1,5 +1,5 @@
 -- Words that mark the processors whose numbers are other than 0.
-use Rattle.std.proofs.Common.{◌≡◌, ℕ, zero, suc, ◌+◌, ◌*◌, ◌/◌, ◌%◌, ◌^◌, ◌<◌, ◌≤◌, Bool, true, false, ◌||◌, cond, List, [], ◌∷◌, map, arith, ◌∙◌, sym, ap, refl}
+use Rattle.std.proofs.Common.{◌≡◌, ℕ, zero, suc, ◌+◌, ◌*◌, ◌/◌, ◌%◌, ◌^◌, ◌<◌, ◌≤◌, Bool, true, false, ◌||◌, cond, List, [], ◌∷◌, ◌++◌, map, arith, ◌∙◌, sym, ap, refl}
 use Rattle.std.specs.Prelude.{count_ones}
 use Rattle.std.specs.Int.{bit_at}
 use Rattle.std.specs.Int.Count.{ones_step}
@@ -13,7 +13,7 @@ use Rattle.std.proofs.lemmas.Bool.Decides.{nat_tests}
 use Rattle.paris_model.specs.Store.{bit}
 use Rattle.paris_plane.specs.Bits.{word_bit}
 use Rattle.paris_field.proofs.Turn.{shr_bit}
-use Rattle.paris_stretches.specs.Stretches.{is_other}
+use Rattle.paris_stretches.specs.Stretches.{count_others, is_other}
 
 -- a number with one digit more
 pub other_more : (b : Bool) (rest n : ℕ) → n ≡ bit b + 2 * rest → (is_other rest || b) ≡ is_other n
@@ -49,3 +49,6 @@ marked p f z s (suc k) each =
     marked p f (z / 2) (s + 1) k (λ i h. shr_bit z 1 i ∙ ap (word_bit z) (let e : 1 + i ≡ suc i = omega arith in e) ∙ each (suc i) (omega (arith, h)) ∙ ap (λ v. p (f v)) (let e : s + suc i ≡ s + 1 + i = omega arith in e)) in
     ones_low z k ∙ ap (λ t. t + count_ones (z / 2 % 2 ^ k)) (sym first) ∙ ap (λ t. cond (p (f s)) 1 0 + t) rest
     ∙ count_first p (f s) (map f (range_with_len (s + 1) k))
+
+pub count_joined : (xs ys : List ℕ) → count_others xs + count_others ys ≡ count_others (xs ++ ys)
+count_joined xs ys = sym (sum_by-append (λ x. cond (is_other x) 1 0) xs ys)

@@ -1,9 +1,10 @@
 -- What a function gives for some numbers that follow one another, as parts of a list.
-use Rattle.std.proofs.Common.{◌≡◌, ℕ, zero, suc, ◌+◌, ◌-◌, ◌<◌, ◌≤◌, List, [], ◌∷◌, ◌++◌, Bool, get_or, length, map, take, drop, min, arith, ◌∙◌, sym, ap, refl}
+use Rattle.std.proofs.Common.{◌≡◌, ℕ, zero, suc, ◌+◌, ◌-◌, ◌^◌, ◌<◌, ◌≤◌, List, [], ◌∷◌, ◌++◌, Bool, get_or, length, map, take, drop, min, arith, ◌∙◌, sym, ap, refl}
 use Rattle.std.specs.List.{range_with_len, slice_range}
 use Rattle.std.proofs.lemmas.List.{length-drop, length-take, length-take-le, get_or-take, get_or-drop}
 use Rattle.std.proofs.lemmas.List.FromFn.{length-map-range_with_len, get_or-map-range_with_len}
-use Rattle.paris_field.specs.Fields.{FieldNumbers}
+use Rattle.std.proofs.lemmas.List.Elements.{All-drop, All-take}
+use Rattle.paris_field.specs.Fields.{AllFit, FieldNumbers}
 use Rattle.paris_field.specs.Numbers.{number_at, numbers, value_of_planes}
 use Rattle.paris_field.proofs.Numbers.{same_lists}
 use Rattle.paris_stretches.specs.Stretches.{bound, stretch}
@@ -40,3 +41,8 @@ stretch_is parts i start stop count xs all is_start is_stop =
 
 pub length-part : (xs : List ℕ) (from to : ℕ) → length (slice_range xs from to) ≤ to - from
 length-part xs from to = omega (arith, length-take (to - from) (drop from xs))
+
+-- the numbers of a part fit as all do
+pub part_fits : (width : ℕ) (xs : List ℕ) (from to : ℕ) → AllFit width xs → AllFit width (slice_range xs from to)
+part_fits width xs from to fit =
+    All-take (λ x. x < 2 ^ width) (to - from) (drop from xs) (All-drop (λ x. x < 2 ^ width) from xs fit)
