@@ -297,27 +297,18 @@ export function closeCommand() {
   lay();
 }
 
-/** @type {import("./model.js").Step|undefined} the last command that stands in the log */
-let logged;
-
-/** The last commands with their replies, the last one first: what came since is put in above. */
+/** The last commands with their replies, the last one first. */
 export function drawLog() {
   if ($("commands").hidden) return;
-  const { log } = view.program, list = $("log"), known = logged ? log.lastIndexOf(logged) : -1;
-  if (known < 0) list.replaceChildren();
-  list.insertAdjacentHTML("afterbegin", log.slice(known + 1).map(stepHtml).reverse().join(""));
-  while (list.childElementCount > log.length) list.lastElementChild.remove();
-  logged = log.at(-1);
-}
-
-/**
- * A command with its reply.
- * @param {import("./model.js").Step} step
- */
-function stepHtml({ number, line: text, reply, refused }) {
-  const place = number ? `line ${number} ` : "";
-  const answer = refused ? refusedHtml(refused) : `<span class="reply">→ ${safe(reply)}</span>`;
-  return `<li${refused ? ' class="refused"' : ""}>${place}<code>${safe(text)}</code> ${answer}</li>`;
+  const items = view.program.log.map(({ number, line: text, reply, refused }) => {
+    const place = number ? `line ${number} ` : "";
+    const answer = refused ? refusedHtml(refused) : `<span class="reply">→ ${safe(reply)}</span>`;
+    return `<li${refused ? ' class="refused"' : ""}>${place}<code>${safe(text)}</code> ${answer}</li>`;
+  });
+  const html = items.reverse().join("");
+  if ($("log").sig === html) return;
+  $("log").sig = html;
+  $("log").innerHTML = html;
 }
 
 /** Watches the line for commands. */

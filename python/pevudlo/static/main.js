@@ -27,11 +27,10 @@ function heard(news) {
   noteOthers();
   if (moved.rows || view.filter) { build(); keepSelected(was); }
   else renew(moved.texts);
-  // (the list is drawn first: it asks for sizes, and the document would be laid out for what has changed elsewhere)
-  if (moved.isEdit) drawNow(); else { ask(); draw(); }
   if (news.log?.length) drawLog();
   if (news.text) document.dispatchEvent(new CustomEvent("pevudlo-text", { detail: news.text }));
   document.body.dataset.version = String(news.version);
+  if (moved.isEdit) drawNow(); else { ask(); draw(); }
 }
 
 /** @param {import("./model.js").News} news */
