@@ -4,17 +4,19 @@ from __future__ import annotations
 
 import asyncio
 import csv
+import re
 import subprocess
 import sys
 from collections.abc import Callable, Coroutine
 from pathlib import Path
-from typing import Any
+from typing import Any, NoReturn
 
 import pytest
 from serving import Client, People, Told, served, with_people
 from usages import is_usage_of
 
-from pevudlo.serve.classroom import as_text, file_of
+from pevudlo.serve.classroom import Classroom, as_text, file_of
+from pevudlo.serve.journal import Journal
 from pevudlo.serve.limits import MOST_LINE, Bucket, Limits, Refused, Size, check_line, check_size, size_of
 from pevudlo.serve.seats import Kind, Seat, Seats, cleaned
 from pevudlo.wire.program import ROOT
@@ -188,6 +190,88 @@ def test_two_write_into_one_program(tmp_path: Path) -> None:
         await ann.until(lambda: ann.states.get("caret0") == [number, 2, "Teacher", "<b>"])
 
     play(tmp_path, part)
+
+
+def test_a_program_that_fails_is_its_own_trouble_alone(
+    libparis: Path, tmp_path: Path, monkeypatch: pytest.MonkeyPatch
+) -> None:
+    """What the server doesn't foresee in one program is told there, and the others go on."""
+
+    async def part() -> None:
+        seats = Seats(2, 1, Limits(), [])
+        hall = Classroom("x", seats, libparis, 1, TEXT, None, tmp_path, Journal(tmp_path), {})
+        ann, bob = (hall.come(seat, {"do": "sit"}) for seat in seats.students)
+        teacher = hall.come(seats.teacher, {"do": "sit"})
+        ids = hall.own[ann.seat].lines.ids
+        for guest in (ann, bob):
+            hall.act(guest, {"do": "look", "ids": ids})
+        monkeypatch.setattr(hall.own[ann.seat], "look", wrong)
+        for _ in range(2):
+            hall.tell()
+            hall.tell_board()
+            await asyncio.sleep(0.2)
+        assert "IndexError: none" in await ann.next() and "9 4 7 100" in await bob.next()
+        assert '"board1"' in (told := await teacher.next()) and '"board2"' in told
+        monkeypatch.setattr(hall.own[ann.seat], "edit", wrong)
+        hall.act(ann, {"do": "edit", "mark": 7, "changes": [{"op": "insert", "id": 0}]})
+        assert '"refused":"the server failed: IndexError: none","mark":7' in await ann.next()
+        hall.close()
+
+    asyncio.run(part())
+
+
+def wrong(*words: object) -> NoReturn:
+    """What nobody foresees."""
+    raise IndexError("none")
+
+
+def test_the_lesson_of_the_page(tmp_path: Path) -> None:
+    """An exercise of one's own, as the page has it: handed out, worked at, checked, handed in, and checked again."""
+    exercise, solution = re.findall(r"^```\n(.*?)^```$", (ROOT / "docs/SERVE.md").read_text(), re.M | re.S)[:2]
+    (tmp_path / "double.paris").write_text(exercise)
+    (tmp_path / "solution.paris").write_text(solution)
+
+    async def part(people: People) -> None:
+        teacher, ann, bob = await people.sit(people.server.teacher), await people.join("Ann"), await people.join("Bob")
+        place = ann.text.index("")
+        await ann.insert(place, "u-add-3-1L c a a 8")
+        await bob.replace(place, "input c 0 2 4 6 8")
+        await teacher.until(lambda: checks_of(teacher, 1) == ["✓"] and checks_of(teacher, 2) == ["✗"])
+        await teacher.ask("hand-out", seats=[2])
+        await bob.until(lambda: bob.text[place] == "")
+        await ann.ask("hand-in")
+        await teacher.ask("save")
+
+    with served("--class", "2", "double.paris", "--check", "solution.paris", cwd=tmp_path) as server:
+        asyncio.run(with_people(server, part))
+    kept = tmp_path / "double-served"
+    assert {each.name for each in kept.iterdir()} >= {"01-Ann.paris", "all", "board.csv", "addresses.txt"}
+    line = [str(ROOT / "paris"), "check", str(kept / "all"), str(tmp_path / "solution.paris")]
+    ran = subprocess.run(line, capture_output=True, text=True, timeout=60)
+    assert ran.returncode == 1 and "01-Ann.paris: the look gives what is wanted\n" in ran.stdout
+    assert "1 of 2 files are as they are wanted" in ran.stdout
+
+
+def test_a_class_begins_again_where_it_ended(tmp_path: Path) -> None:
+    tokens = {}
+
+    async def before(people: People) -> None:
+        ann = await people.join("Ann")
+        await ann.insert(EMPTY, *ROWS)
+        await ann.ask("hand-in")
+        tokens["Ann"] = ann.hello["token"]
+        people.server.process.kill()
+
+    async def after(people: People) -> None:
+        teacher, ann = await people.sit(people.server.teacher), await people.sit(tokens["Ann"])
+        assert ann.text[EMPTY : EMPTY + len(ROWS)] == ROWS and ann.name == "Ann"
+        await teacher.until(lambda: checks_of(teacher, 1) == ["✓"] and checks_of(teacher, 2) == ["✗"])
+        assert row_of(teacher, 1)["handed"] and not row_of(teacher, 2)["handed"]
+        await ann.ask("undo")
+        assert ann.text == TEXT
+
+    play(tmp_path, before)
+    play(tmp_path, after, "--class", "3", EXERCISE, "--check", SOLUTION, "--again")
 
 
 # Who may come.
@@ -414,7 +498,7 @@ def test_how_large_a_program_is() -> None:
 
 def test_lines_that_are_none() -> None:
     check_line("a" * MOST_LINE)
-    for text in ("a\nb", "a\rb", "a" * (MOST_LINE + 1), "é" * (MOST_LINE // 2 + 1)):
+    for text in ("a\nb", "a\rb", "a\ud800", "a" * (MOST_LINE + 1), "é" * (MOST_LINE // 2 + 1)):
         with pytest.raises(Refused):
             check_line(text)
 

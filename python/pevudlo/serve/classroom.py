@@ -12,14 +12,14 @@ import unicodedata
 from collections.abc import Mapping, Sequence
 from pathlib import Path
 
-from pevudlo.exercise.looks import Verdict
+from pevudlo.exercise.looks import Outcome, Verdict
 from pevudlo.exercise.solution import Solution
 from pevudlo.exercise.words import difference
 from pevudlo.files import put_text, why
 from pevudlo.serve import asked as reading
 from pevudlo.serve.checking import Checking
 from pevudlo.serve.guests import Guest
-from pevudlo.serve.hall import Asked, Hall, Told, may_look, to_each
+from pevudlo.serve.hall import Asked, Hall, Told, failed, may_look, to_each
 from pevudlo.serve.journal import Journal, Kept
 from pevudlo.serve.limits import Refused
 from pevudlo.serve.room import Edit, Room
@@ -279,8 +279,18 @@ class Classroom(Hall):
         teaching = [guest for guest in self.guests if guest.seat.teaches]
         here = {guest.seat for guest in self.guests}
         for seat in self.seats.students:
-            told = json.dumps(self.row(seat, seat in here), separators=(",", ":"))
-            to_each(teaching, f"board{seat.number}", told)
+            to_each(teaching, f"board{seat.number}", self._tried_row(seat, seat in here))
+
+    def _tried_row(self, seat: Seat, is_here: bool) -> str:
+        """A student's row in JSON. Where that fails it is that program's trouble alone."""
+        try:
+            told = self.row(seat, is_here)
+        except Exception as error:
+            self.own[seat].trouble = failed(error)
+            checks = [[Outcome.PENDING.value, "the server failed"] for _ in self.checking.checks]
+            told = {"name": seat.name, "here": is_here, "closed": seat.is_closed, "checks": checks}
+            told |= {"refused": 0, "faults": 0, "left": 0, "edited": 0, "handed": 0}
+        return json.dumps(told, separators=(",", ":"))
 
     def row(self, seat: Seat, is_here: bool) -> Told:
         """A student's row of the board."""

@@ -4,12 +4,14 @@ from __future__ import annotations
 
 import asyncio
 import json
+import sys
 import time
 from collections.abc import Iterable, Mapping
 from pathlib import Path
 
+from pevudlo.draw.visible import visible
 from pevudlo.serve import asked as reading
-from pevudlo.serve.guests import Guest, op_text
+from pevudlo.serve.guests import Guest, TooSlow, op_text
 from pevudlo.serve.journal import Journal
 from pevudlo.serve.limits import Refused
 from pevudlo.serve.lines import Clash
@@ -103,6 +105,10 @@ class Hall:
             told = self.do(guest, str(asked["do"]), asked)
         except Refused as error:
             told = {"refused": str(error)}
+        except (reading.NoMessage, TooSlow):
+            raise
+        except Exception as error:
+            told = {"refused": f"the server failed: {failed(error)}"}
         guest.seat.bucket.spend(time.perf_counter() - begun)
         if told is not None:
             guest.answer({**told, "mark": mark if isinstance(mark, int) else 0})
@@ -253,17 +259,36 @@ class Hall:
     def tell(self) -> None:
         """Tells each guest what its lines give now."""
         for room in {guest.room for guest in self.guests if guest.room is not None}:
+            self._try_to_tell(room)
+
+    def _try_to_tell(self, room: Room) -> None:
+        """Tells what a program gives. Where that fails it is that program's trouble alone."""
+        try:
             self.tell_of(room)
+        except Exception as error:
+            room.trouble = failed(error)
+            to_each(self.in_room(room), "rows", rows_of(room))
 
     def tell_of(self, room: Room) -> None:
         """Tells those who see a program what its lines give now."""
         room.look()
         guests = self.in_room(room)
-        rows = json.dumps({"at": room.number, "left": room.left, "trouble": room.trouble})
-        to_each(guests, "rows", rows)
+        to_each(guests, "rows", rows_of(room))
         given = room.gives({number for guest in guests for number in guest.looks})
         for guest in guests:
             tell_lines(guest, given)
+
+
+def rows_of(room: Room) -> str:
+    """How many rows are unsettled behind the last edit, in JSON."""
+    return json.dumps({"at": room.number, "left": room.left, "trouble": room.trouble})
+
+
+def failed(error: Exception) -> str:
+    """What failed where nothing should, which is said on standard error too."""
+    said = f"{type(error).__name__}: {error}"
+    print(f"paris serve: {visible(said)}", file=sys.stderr, flush=True)
+    return said
 
 
 def tell_lines(guest: Guest, given: Mapping[int, str]) -> None:

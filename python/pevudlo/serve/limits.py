@@ -83,7 +83,11 @@ def check_line(text: str) -> None:
     """Raises Refused for what is no line, or too long for one."""
     if "\n" in text or "\r" in text:
         raise Refused("a line has no line feed")
-    if len(text) > MOST_LINE or len(text.encode("utf-8", "surrogatepass")) > MOST_LINE:
+    try:
+        length = len(text.encode("utf-8")) if len(text) <= MOST_LINE else len(text)
+    except UnicodeEncodeError:
+        raise Refused("a line is text in UTF-8") from None
+    if length > MOST_LINE:
         raise Refused(f"a line has {MOST_LINE:,} bytes at most")
 
 
