@@ -7,7 +7,7 @@
 /** @typedef {{s?: string, t?: string, v?: Value[]}} Given */
 
 // Marks that turn the direction of a text, or can't be seen.
-const HIDDEN = /[\u0000-\u001f\u007f-\u009f\u061c\u200b-\u200f\u202a-\u202e\u2060-\u2069\ufeff]/g;
+const HIDDEN = /[\p{Cc}\u061c\u200b-\u200f\u202a-\u202e\u2060-\u2069\ufeff]/gu;
 
 const MOST_LETTERS = 90;
 
