@@ -285,8 +285,9 @@ def test_what_a_change_of_a_large_file_changes_is_told(session: FollowedSession)
         (strip,) = session.looks([Look(key, row, True, COMPARED)], seen, edits)
         told = strip_in(strip)
         places = [place for place, both in enumerate(zip(old, new)) if both[0] != both[1]]
-        assert (told["low"], told["high"], told["changed"]) == (min(new), max(new), len(places))
-        assert [at for at, flag in enumerate(told["flags"]) if flag] == sorted({place // 16 for place in places})
+        others = sorted({place // 16 for place in places})
+        assert (told["low"], told["high"], told["changed"]) == (min(new), max(new), len(others))
+        assert [at for at, flag in enumerate(told["flags"]) if flag] == others
         (numbers,) = session.looks([Look(key, row, False, BEFORE)], seen, edits)
         assert numbers_in(numbers) == old
     # A program that is begun anew has no rows of the one before.

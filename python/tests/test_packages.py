@@ -39,7 +39,7 @@ STANDS_ON = {
     "summary": "lang",
     "machine": "data draw lang running summary talk values wire",
     "explain": "arguments draw hints lang progress talk wire",
-    "client": "draw hints lang",
+    "client": "draw hints lang values",
     "page": TALKING + " client",
     "prompt": TALKING + " running",
     "live": TALKING + " client document running",

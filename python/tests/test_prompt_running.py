@@ -132,16 +132,16 @@ def test_results_come_while_one_types(libparis: Path, tmp_path: Path) -> None:
 
 def test_ctrl_c_in_a_settle_stops_the_work_and_loses_nothing(libparis: Path, tmp_path: Path) -> None:
     with Terminal(tmp_path, "--workers", "1", is_program=False) as terminal:
-        for line in (*SLOW, *[f"insert end u-multiply-3-1L y{n % 16} x x 64" for n in range(600)]):
+        for line in (*SLOW, *[f"insert end u-multiply-3-1L y{n % 16} x x 64" for n in range(1200)]):
             terminal.answer(line)
         terminal.press("settle\n")
         terminal.until("settle\n")
-        time.sleep(0.3)
+        time.sleep(0.2)
         terminal.press("\x03")
         said = terminal.until(PROMPT)
-        assert "stopped: " in said and "of 600 rows are settled" in said
+        assert "stopped: " in said and "of 1,200 rows are settled" in said
         rows = terminal.answer("list")
         count = sum(" settled " in row for row in rows)
-        assert 0 < count < 600 and f"stopped: {count} of 600" in said
+        assert 0 < count < 1200 and f"stopped: {count:,} of 1,200" in said
         assert terminal.answer("delete 600") == ["ok"]
         assert terminal.answer("undo") == ["taken back: delete 600"]

@@ -7,6 +7,7 @@ import csv
 import re
 import subprocess
 import sys
+import time
 from collections.abc import Callable, Coroutine
 from pathlib import Path
 from typing import Any, NoReturn
@@ -378,6 +379,20 @@ def test_a_flood_is_refused_and_nobody_else_notices(tmp_path: Path) -> None:
         refused = [each for each in flood if "refused" in each]
         assert 10 <= len(refused) <= 20 and "5 edits a second are taken" in refused[0]["refused"]
         assert "n" in await bob.replace(0, "# calm")
+
+    play(tmp_path, part)
+
+
+def test_a_flood_of_questions_is_read_slowly_and_nobody_else_notices(tmp_path: Path) -> None:
+    """240 messages are taken at once, and then 60 a second."""
+
+    async def part(people: People) -> None:
+        ann, bob = await people.join("Ann"), await people.join("Bob")
+        begun = time.monotonic()
+        flood = asyncio.gather(*(ann.ask("chapters") for _ in range(400)))
+        await asyncio.sleep(1.0)
+        assert not flood.done() and "n" in await bob.replace(0, "# calm") and not flood.done()
+        assert len(await flood) == 400 and time.monotonic() - begun > (400 - 240) / 60 - 0.5
 
     play(tmp_path, part)
 

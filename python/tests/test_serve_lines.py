@@ -20,10 +20,10 @@ from pevudlo.serve.lines import LAST, Change, Clash, Done, Lines, Op
 from pevudlo.serve.room import Room, inverse_of
 from pevudlo.serve.turns import Turns
 
-RUNS = int(os.environ.get("PEVUDLO_EDITORS", "40"))
+RUNS = int(os.environ.get("PEVUDLO_EDITORS", "400"))
 """How many times three random editors write into one text."""
 
-UNDOS = int(os.environ.get("PEVUDLO_UNDOS", "120"))
+UNDOS = int(os.environ.get("PEVUDLO_UNDOS", "1000"))
 """How many edits of random seats are taken back."""
 
 FREE = Limits(rate=1e9, at_once=1e9, rows=4096)

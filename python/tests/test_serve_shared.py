@@ -13,8 +13,8 @@ import pytest
 from serving import PATIENCE, Client, People, served, with_people
 from test_serve import run
 
-from pevudlo.document.document import Document
-from pevudlo.exercise.looks import seen
+from pevudlo.wire.pipe import Pipe
+from pevudlo.wire.program import find
 
 TEXT = ["set S 4", "field a S 8", "field b S 8", "input a 0 1 2 3 4", "u-add-3-1L b a a 8", "show b end"]
 ROW, LOOK = 4, 5
@@ -192,7 +192,7 @@ def test_a_server_that_was_killed_begins_again(file: Path) -> None:
 
 FIELDS = "abcd"
 HEAD = ["set S 8", *(f"field {name} S 8" for name in FIELDS), "input a 0 1 2 3 4 5 6 7 8"]
-ROWS = ("u-add-3-1L {} {} {} 8", "logxor-3-1L {} {} {} 8", "u-max-3-1L {} {} {} 8")
+ROWS = ("insert end u-add-3-1L {} {} {} 8", "insert end logxor-3-1L {} {} {} 8", "insert end u-max-3-1L {} {} {} 8")
 
 
 async def edits(client: Client, seed: int, count: int) -> int:
@@ -214,6 +214,19 @@ async def edits(client: Client, seed: int, count: int) -> int:
     return made
 
 
+def by_the_program(text: list[str], looks: list[str]) -> dict[int, str]:
+    """What `./paris` says to the looks of a text, by their lines: all rows are settled before each."""
+    told: dict[int, str] = {}
+    with Pipe(find()) as pipe:
+        for at, line in enumerate(text):
+            if line in looks:
+                pipe.ask("settle")
+                told[at] = pipe.ask(line)[0].removeprefix("values ")
+            elif not line.startswith("#"):
+                pipe.ask(line)
+    return told
+
+
 def test_random_people_have_one_text_and_the_values_of_a_fresh_run(tmp_path: Path) -> None:
     file = tmp_path / "random.paris"
     looks = [f"show {name} end" for name in FIELDS]
@@ -224,12 +237,9 @@ def test_random_people_have_one_text_and_the_values_of_a_fresh_run(tmp_path: Pat
         await asyncio.gather(*(edits(client, at, 60) for at, client in enumerate(clients)))
         await same(*clients)
         text = clients[0].text
-        with Document() as document:
-            document.update_lines(text)
-            places = [at for at, line in enumerate(text) if line in looks]
-            wanted = {at: " ".join(map(str, seen(document, at) or ())) for at in places}
+        wanted = by_the_program(text, looks)
         for client in clients:
-            ids = [client.lines[at][0] for at in places]
+            ids = [client.lines[at][0] for at in wanted]
             await client.socket.send_json({"do": "look", "ids": ids})
             await has_values(client, wanted)
 

@@ -413,7 +413,7 @@ def test_each_of_two_lines_that_are_gone_is_told_of() -> None:
 
 
 def test_it_tells_what_the_document_says() -> None:
-    document = (ROOT / "docs/PEOPLE.md").read_text(encoding="utf-8").split("\n## watch\n")[1]
+    document = (ROOT / "docs/PEOPLE.md").read_text(encoding="utf-8").split("\n## watch\n")[1].split("\n## ")[0]
     text, first, rest = re.findall(r"^```\n(.*?)^```$", document, re.S | re.M)
     texts = [text, text.replace("1 2 3", "1 7 3")]
     texts += [texts[1].replace("u-max", name) for name in ("u-mx", "u-min")]

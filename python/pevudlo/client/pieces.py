@@ -56,19 +56,17 @@ def whole(numbers: Sequence[int], width: int) -> bytes:
 
 def strip(numbers: Sequence[int], width: int, before: Sequence[int] | None) -> bytes:
     """A value of many numbers in stretches. `before` are the numbers before the last edit, where they are known."""
-    changed, flags = differing(numbers, before)
-    return strip_of(ends_of(numbers, width), width, len(numbers), changed, flags)
+    return strip_of(ends_of(numbers, width), width, len(numbers), differing(numbers, before))
 
 
 def summed(found: Sequence[Stretch], width: int, count: int, differs: Sequence[bool] | None) -> bytes:
     """A value of so many numbers by what its stretches come to, and in which of them the last edit changed some."""
     ends = [each.greatest for each in found], [each.least for each in found], [each.sum for each in found]
-    flags = bytes(differs or STRETCHES)
-    return strip_of(ends, width, count, sum(flags), flags)
+    return strip_of(ends, width, count, bytes(differs or STRETCHES))
 
 
-def strip_of(ends: tuple[list[int], list[int], list[int]], width: int, count: int, changed: int, flags: bytes) -> bytes:
-    """A value in stretches. `ends` are of each the greatest number, the least, and the sum."""
+def strip_of(ends: tuple[list[int], list[int], list[int]], width: int, count: int, flags: bytes) -> bytes:
+    """A value in stretches. `ends` are of each the greatest number, the least, and the sum. It says how many flags are set."""
     most, least, sums = ends
     low, high = min(least), max(most)
     shades = [scaled(numbers, low, high) for numbers in (most, least)]
@@ -76,7 +74,7 @@ def strip_of(ends: tuple[list[int], list[int], list[int]], width: int, count: in
     means = bytes((whole - low * size) * 255 // (room * size) for whole, size in zip(sums, sizes))
     words = low & LOW, low >> WORD, high & LOW, high >> WORD
     head = HEAD.pack(Kind.STRIP.value, size_of(width), 0, STRETCHES, count, 0)
-    return head + ENDS.pack(*words, sum(sums) if width == 1 else 0, changed) + b"".join(shades) + means + flags
+    return head + ENDS.pack(*words, sum(sums) if width == 1 else 0, sum(flags)) + b"".join(shades) + means + flags
 
 
 def ends_of(numbers: Sequence[int], width: int) -> tuple[list[int], list[int], list[int]]:
@@ -124,17 +122,14 @@ def scaled(numbers: Sequence[int], low: int, high: int) -> bytes:
     return bytes((number - low) * 255 // max(1, high - low) for number in numbers)
 
 
-def differing(numbers: Sequence[int], before: Sequence[int] | None) -> tuple[int, bytes]:
-    """How many numbers are other than before, and in which stretches."""
+def differing(numbers: Sequence[int], before: Sequence[int] | None) -> bytes:
+    """In which stretches numbers are other than before."""
     if before is None or is_same(numbers, before):
-        return 0, bytes(STRETCHES)
+        return bytes(STRETCHES)
     one, two = array_of(numbers), array_of(before)
     if one is not None and two is not None and len(numbers) % STRETCHES == 0:
-        counts = (one != two).reshape(STRETCHES, -1).sum(axis=1).tolist()
-        return sum(counts), bytes(count > 0 for count in counts)
-    pairs = zip(parts_of(listed(numbers)), parts_of(listed(before)))
-    counts = [0 if part == other else sum(map(int.__ne__, part, other)) for part, other in pairs]
-    return sum(counts), bytes(count > 0 for count in counts)
+        return bytes((one != two).reshape(STRETCHES, -1).any(axis=1).tolist())
+    return bytes(part != other for part, other in zip(parts_of(listed(numbers)), parts_of(listed(before))))
 
 
 def is_same(numbers: Sequence[int], before: Sequence[int]) -> bool:

@@ -288,7 +288,13 @@ class Classroom(Hall):
         except Exception as error:
             self.own[seat].trouble = failed(error)
             checks = [[Outcome.PENDING.value, "the server failed"] for _ in self.checking.checks]
-            told = {"name": seat.name, "here": is_here, "closed": seat.is_closed, "checks": checks}
+            told = {
+                "n": self.own[seat].number,
+                "name": seat.name,
+                "here": is_here,
+                "closed": seat.is_closed,
+                "checks": checks,
+            }
             told |= {"refused": 0, "faults": 0, "left": 0, "edited": 0, "handed": 0}
         return json.dumps(told, separators=(",", ":"))
 
@@ -297,6 +303,7 @@ class Classroom(Hall):
         room = self.own[seat]
         room.look()
         return {
+            "n": room.number,
             "name": seat.name,
             "here": is_here,
             "closed": seat.is_closed,

@@ -36,6 +36,9 @@ MISSING = (
 )
 MOST_SEATS = 100
 ORIGIN = re.compile(r"https?://[a-z0-9.-]+(:[0-9]{1,5})?")
+SWITCH = 0.001
+"""Seconds behind which a thread of Python lets another one run: the loop waits for none longer."""
+
 ADDRESSES, SEATS, JOURNAL = "addresses.txt", "seats.json", "journal.jsonl"
 
 
@@ -173,6 +176,7 @@ async def serve(said: Namespace, exercise: list[str], solution: Solution | None,
     """Serves until it is ended. Raises OSError where the port can't be had, and ValueError."""
     from pevudlo.serve.site import Site
 
+    sys.setswitchinterval(SWITCH)
     folder = folder_of(said)
     seats = seats_of(said, folder, names)
     hall = hall_of(said, seats, folder, exercise, solution)

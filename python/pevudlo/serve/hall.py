@@ -22,6 +22,9 @@ from pevudlo.serve.turns import Patient, Turns
 TICK = 0.05
 """Seconds between two looks at what is settled."""
 
+EDITING = ("edit", "undo", "back", "hand-out", "hand-in")
+"""What is asked for that changes a text, or is as seldom."""
+
 SYNC = 1.0
 """Seconds behind which the disk has what was done."""
 
@@ -100,8 +103,9 @@ class Hall:
 
     def act(self, guest: Guest, asked: Asked) -> None:
         """Does what a guest asks, and answers. Raises NoMessage, and TooSlow."""
-        begun, mark = time.perf_counter(), asked.get("mark", 0)
+        begun, mark, seat = time.perf_counter(), asked.get("mark", 0), guest.seat
         try:
+            seat.messages.take()
             told = self.do(guest, str(asked["do"]), asked)
         except Refused as error:
             told = {"refused": str(error)}
@@ -109,7 +113,10 @@ class Hall:
             raise
         except Exception as error:
             told = {"refused": f"the server failed: {failed(error)}"}
-        guest.seat.bucket.spend(time.perf_counter() - begun)
+        took = time.perf_counter() - begun
+        seat.messages.spend(took)
+        if asked["do"] in EDITING:
+            seat.bucket.spend(took)
         if told is not None:
             guest.answer({**told, "mark": mark if isinstance(mark, int) else 0})
 

@@ -49,12 +49,17 @@ TEACHING = Limits(
 """The limits of who teaches."""
 
 
+MESSAGES = Limits(rate=60.0, at_once=240.0, share=0.2)
+"""How often a seat may ask for something, whatever it is, and the part of the time that this may take."""
+
+
 @dataclass
 class Bucket:
     """So many edits a second and so many at once, and so much of the time."""
 
     limits: Limits
     now: Callable[[], float] = time.monotonic
+    what: str = "edits"
     _left: float = field(init=False)
     _seconds: float = field(init=False, default=1.0)
     _at: float = field(init=False)
@@ -69,10 +74,15 @@ class Bucket:
         self._left = min(self.limits.at_once, self._left + passed * self.limits.rate)
         self._seconds = min(1.0, self._seconds + passed * self.limits.share)
         if self._left < 1:
-            raise Refused(f"{self.limits.rate:g} edits a second are taken: wait a moment")
+            raise Refused(f"{self.limits.rate:g} {self.what} a second are taken: wait a moment")
         if self._seconds < 0:
-            raise Refused("your edits take the time of all others: wait a moment")
+            raise Refused(f"your {self.what} take the time of all others: wait a moment")
         self._left -= 1
+
+    @property
+    def is_empty(self) -> bool:
+        """Whether nothing more was taken when it was asked last."""
+        return self._left < 1 or self._seconds < 0
 
     def spend(self, seconds: float) -> None:
         """Notes how long an edit took."""

@@ -9,7 +9,7 @@ from collections.abc import Callable, Iterator
 from dataclasses import dataclass, field
 from enum import Enum
 
-from pevudlo.serve.limits import TEACHING, Bucket, Limits, Refused
+from pevudlo.serve.limits import MESSAGES, TEACHING, Bucket, Limits, Refused
 
 TOKEN_BYTES = 24
 MOST_LETTERS = 40
@@ -26,7 +26,10 @@ class Kind(Enum):
 
 @dataclass(eq=False)
 class Seat:
-    """A place for one person. One that is closed lets nobody in. `is_taken` says that somebody has joined there."""
+    """A place for one person. One that is closed lets nobody in. `is_taken` says that somebody has joined there.
+
+    Edits are taken from its `bucket`, and all that is asked from its `messages`.
+    """
 
     number: int
     name: str
@@ -36,9 +39,11 @@ class Seat:
     is_closed: bool = False
     is_taken: bool = False
     bucket: Bucket = field(init=False)
+    messages: Bucket = field(init=False)
 
     def __post_init__(self) -> None:
         self.bucket = Bucket(self.limits)
+        self.messages = Bucket(MESSAGES, what="messages")
 
     @property
     def may_edit(self) -> bool:

@@ -30,6 +30,9 @@ HEARTBEAT = 20.0
 SEND_SECONDS = 30.0
 """Who takes no message for so long is let go."""
 
+FLOOD_SECONDS = 0.1
+"""So long nothing is read of a socket whose seat asks for too much."""
+
 JOINS = 4.0
 """So many people write a name in a second at most."""
 
@@ -164,6 +167,8 @@ class Site:
                 break
             try:
                 self.hall.act(guest, reading.read(message.data))
+                if guest.seat.messages.is_empty:
+                    await asyncio.sleep(FLOOD_SECONDS)
             except reading.NoMessage as error:
                 await self._send_away(socket, str(error))
                 break
