@@ -25,7 +25,7 @@ class Arguments(argparse.ArgumentParser):
         super().__init__(
             prog=f"paris {command}", description=does, epilog=more, formatter_class=formatter, allow_abbrev=False
         )
-        said = f"how many threads settle rows (default: {USUAL_WORKERS})"
+        said = f"how many threads settle rows (default: {usual_workers or USUAL_WORKERS})"
         self.add_argument("--workers", type=workers, default=usual_workers, metavar=f"1-{MOST_WORKERS}", help=said)
 
     def error(self, message: str) -> NoReturn:
