@@ -42,16 +42,14 @@ class Kept:
 
     def add(self, entry: Entry) -> None:
         """Something was done."""
-        for done in entry.done:
-            self.lines.repeat(done, entry.by)
+        self.lines.repeat_all(entry.done, entry.by)
         self.number = entry.number
         self.entries.append(entry)
 
     def after(self, number: int) -> list[str]:
         """The text behind an edit of this chapter."""
         lines = Lines.of(self.first.texts, self.first.ids[0] if self.first.ids else 1, 0)
-        for done in (done for entry in self.entries if entry.number <= number for done in entry.done):
-            lines.repeat(done, 0)
+        lines.repeat_all((done for entry in self.entries if entry.number <= number for done in entry.done), 0)
         return lines.texts
 
 

@@ -2,7 +2,7 @@
 
 from __future__ import annotations
 
-from collections.abc import Sequence
+from collections.abc import Iterable, Sequence
 from dataclasses import dataclass, replace
 from enum import Enum
 
@@ -108,6 +108,11 @@ class Lines:
             self._put(done.after, done.text, who, done.id)
         elif at is not None:
             self._change(at, Change(done.op, done.id, text=done.text), who)
+
+    def repeat_all(self, all_done: Iterable[Done], who: int) -> None:
+        """Does again what was done, one after the other."""
+        for done in all_done:
+            self.repeat(done, who)
 
     def take_all(self, changes: Sequence[Change], who: int, name: str) -> tuple[list[Done], list[Clash], list[int]]:
         """Does several changes of one edit. What was done, where another one was first, and the ids of new lines."""

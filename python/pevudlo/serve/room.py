@@ -200,8 +200,7 @@ class Room:
         for done in entry.done:
             self._check_own(done, entry, name_of)
         inverse = [inverse_of(done) for done in reversed(entry.done)]
-        for done in inverse:
-            self.lines.repeat(done, who)
+        self.lines.repeat_all(inverse, who)
         self.size = size_of(self.lines.texts)
         self._did(Entry(self.number + 1, time.time(), who, inverse, is_undo=True))
         return Edit(self.number, inverse, [], [])
@@ -218,8 +217,7 @@ class Room:
         try:
             self._keep(line_of_entry(self.at, entry))
         except OSError as error:
-            for done in reversed(entry.done):
-                self.lines.repeat(inverse_of(done), entry.by)
+            self.lines.repeat_all(map(inverse_of, reversed(entry.done)), entry.by)
             self.size = size_of(self.lines.texts)
             raise Refused(f"nothing is done, since the journal can't be written: {why(error)}") from error
         self.kept.number = entry.number
