@@ -66,7 +66,7 @@ def summed(found: Sequence[Stretch], width: int, count: int, differs: Sequence[b
 
 
 def strip_of(ends: tuple[list[int], list[int], list[int]], width: int, count: int, flags: bytes) -> bytes:
-    """A value in stretches. `ends` are of each the greatest number, the least, and the sum. It says how many flags are set."""
+    """A value in stretches: `ends` are of each the greatest number, the least and the sum. Flags are counted."""
     most, least, sums = ends
     low, high = min(least), max(most)
     shades = [scaled(numbers, low, high) for numbers in (most, least)]
