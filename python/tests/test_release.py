@@ -50,7 +50,7 @@ def test_completions_know_the_words_of_the_usage(shell: str) -> None:
     assert {word for pair in words for word in pair if word} <= known
     # Each option of a command is in the line of that command. A usage may go on in a second line.
     for line in re.sub(r"\n +\[", " [", usage).splitlines() if shell == "paris.bash" else ():
-        command, options = re.search(r"paris ([a-z]*)", line), set(re.findall(r"--[a-z]+", line))
+        command, options = re.search(r"paris ([a-z]*)", line), set(re.findall(r"--[a-z-]+", line))
         own = re.search(rf"^ *{command[1] if command and command[1] else '[*]'}\) echo '(.*)'", text, re.M)
         assert own and options <= set(own[1].split())
 
