@@ -228,11 +228,7 @@ class People:
     async def join(self, name: str) -> Client:
         """A client that joins by a name."""
         token = self.server.token("(?:The class|All others)").removeprefix("join:")
-        client = await self.open({"do": "join", "token": token, "name": name})
-        while "many come at once" in client.bye:
-            await asyncio.sleep(0.1)
-            client = await self.open({"do": "join", "token": token, "name": name})
-        return client
+        return await self.open({"do": "join", "token": token, "name": name})
 
 
 async def with_people(server: Server, play: Callable[[People], Any]) -> None:

@@ -114,6 +114,15 @@ def test_refused_lines_and_rows_are_told(tmp_path: Path) -> None:
     play(tmp_path, part)
 
 
+def test_all_of_a_class_may_come_at_once(tmp_path: Path) -> None:
+    async def part(people: People) -> None:
+        names = [f"Student {number}" for number in range(30)]
+        came = await asyncio.gather(*[people.join(name) for name in names])
+        assert [each.bye for each in came] == [""] * 30 and all(each.text == TEXT for each in came)
+
+    play(tmp_path, part, "--class", "30", EXERCISE)
+
+
 def test_texts_are_handed_out_and_the_old_ones_had_back(tmp_path: Path) -> None:
     async def part(people: People) -> None:
         teacher, ann, bob = await people.sit(people.server.teacher), await people.join("Ann"), await people.join("Bob")

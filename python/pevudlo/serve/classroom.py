@@ -19,7 +19,7 @@ from pevudlo.files import put_text, why
 from pevudlo.serve import asked as reading
 from pevudlo.serve.checking import Checking
 from pevudlo.serve.guests import Guest
-from pevudlo.serve.hall import Asked, Hall, Told, failed, may_look, to_each
+from pevudlo.serve.hall import Asked, Hall, Told, failed, may_look, seat_meant, to_each
 from pevudlo.serve.journal import Journal, Kept
 from pevudlo.serve.limits import Refused
 from pevudlo.serve.room import Edit, Room
@@ -156,12 +156,8 @@ class Classroom(Hall):
         return {}
 
     def _seat(self, asked: Asked) -> Seat:
-        """The seat that is meant. Raises Refused where there is none, or it has no program."""
-        number = reading.number(asked, "seat")
-        found = next((seat for seat in self.own if seat.number == number), None)
-        if found is None:
-            raise Refused("there is no program at this seat")
-        return found
+        """The seat that is meant. Raises Refused where it has no program."""
+        return seat_meant(asked, self.own, "there is no program at this seat")
 
     def _seats(self, asked: Asked) -> list[Seat]:
         """The students that are meant, all where none are named."""

@@ -311,6 +311,15 @@ def to_each(guests: Iterable[Guest], name: str, told: str) -> None:
         guest.state(name, told)
 
 
+def seat_meant(asked: Asked, seats: Iterable[Seat], why: str) -> Seat:
+    """The seat of these that a message means. Raises Refused, with why, where it is none of them."""
+    number = reading.number(asked, "seat")
+    found = next((seat for seat in seats if seat.number == number), None)
+    if found is None:
+        raise Refused(why)
+    return found
+
+
 def may_look(seat: Seat) -> bool:
     """Whether a seat sees all programs."""
     return seat.kind in (Kind.TEACHER, Kind.LOOKING)

@@ -10,7 +10,7 @@ from pathlib import Path
 from pevudlo.draw.visible import visible
 from pevudlo.serve import asked as reading
 from pevudlo.serve.guests import Guest
-from pevudlo.serve.hall import Asked, Hall, Told, to_each
+from pevudlo.serve.hall import Asked, Hall, Told, seat_meant, to_each
 from pevudlo.serve.journal import Entry, Journal, Kept
 from pevudlo.serve.limits import MOST_LINES, Refused
 from pevudlo.serve.lines import Op
@@ -53,14 +53,6 @@ class Shared(Hall):
         self._tell_locks()
         self.wake()
 
-    def _seat(self, asked: Asked) -> Seat:
-        """The seat that is meant. Raises Refused where there is none."""
-        number = reading.number(asked, "seat")
-        found = next((seat for seat in self.seats if seat.number == number), None)
-        if found is None:
-            raise Refused("there is no such seat")
-        return found
-
     def check_change(self, guest: Guest, asked: Asked) -> None:
         """Raises Refused where an edit changes a line that is locked."""
         locked = self.room.locked
@@ -85,7 +77,7 @@ class Shared(Hall):
         elif word == "back":
             self.go_back(reading.number(asked, "n"), guest.seat)
         elif word in ("close", "renew"):
-            return self.seat_word(word, self._seat(asked))
+            return self.seat_word(word, seat_meant(asked, self.seats, "there is no such seat"))
         else:
             raise Refused("nothing is done by this word")
         return {}

@@ -33,8 +33,11 @@ SEND_SECONDS = 30.0
 FLOOD_SECONDS = 0.1
 """So long nothing is read of a socket whose seat asks for too much."""
 
-JOINS = 4.0
-"""So many people write a name in a second at most."""
+JOINS = 20.0
+"""So many people come in by a name in a second at most. The others wait for their turn."""
+
+JOIN_SECONDS = 5.0
+"""Who would wait for longer than so is told to try it again."""
 
 REFUSED = 4000
 """The code by which a socket is ended for a reason that was told."""
@@ -138,21 +141,22 @@ class Site:
     async def _sat(self, socket: web.WebSocketResponse) -> Guest:
         """The guest of a socket, whose first message says by what it may come. Raises Refused and NoMessage."""
         asked = reading.read(await asyncio.wait_for(socket.receive_str(), SIT_SECONDS))
-        return self.hall.come(self._seat_of(asked), asked)
+        return self.hall.come(await self._seat_of(asked), asked)
 
-    def _seat_of(self, asked: Asked) -> Seat:
+    async def _seat_of(self, asked: Asked) -> Seat:
         """The seat that is asked for. Raises Refused and NoMessage."""
         token = reading.words(asked, "token")
         if asked["do"] == "sit":
             return self.hall.seats.of(token)
         if asked["do"] != "join":
             raise reading.NoMessage("a seat is named first")
-        now = asyncio.get_running_loop().time()
-        if now < self._joined:
+        name, now = reading.words(asked, "name"), asyncio.get_running_loop().time()
+        turn = max(now, self._joined)
+        if turn - now > JOIN_SECONDS:
             raise Refused("many come at once: try it again in a moment")
-        self._joined = now + 1 / JOINS
-        seat = self.hall.seats.sit(token, reading.words(asked, "name"))
-        return seat
+        self._joined = turn + 1 / JOINS
+        await asyncio.sleep(turn - now)
+        return self.hall.seats.sit(token, name)
 
     async def _send_away(self, socket: web.WebSocketResponse, said: str) -> None:
         """Tells why somebody may not come, and ends the socket."""
