@@ -38,10 +38,26 @@ typedef struct paris_order {
   bool is_open;
 } paris_order;
 
+/* A desk: a book that seats call, with its history, in which each call of a seat is an entry, numbered from 1. A desk is in one call at a
+   time: the caller orders its calls by a mutex. A call of a desk with a seat is one of both. */
+typedef struct paris_desk {
+  void *at;
+  bool is_open;
+} paris_desk;
+
+/* A seat of a desk, for one thread: the reply to its last line, and the book as it was when the seat looked last. The calls of a seat with no
+   desk need no lock, and what other seats do meanwhile changes nothing of what they show. */
+typedef struct paris_seat {
+  void *at;
+  bool is_open;
+} paris_seat;
+
 /* What became of a call. A status from 1 to 23 is the number of the fault by which it was refused, as scripts name it. */
 enum paris_status {
   PARIS_OK = 0,
+  PARIS_FULL = 18,      /* the history has as many entries as it may have */
   PARIS_NO_MEMORY = 19, /* there is no memory left */
+  PARIS_NO_ENTRY = 23,  /* a look found no entry */
   PARIS_CLOSED = 101,   /* the handle is closed */
   PARIS_NO_KEY = 102,   /* the word is no key */
   PARIS_PENDING = 103,  /* a row has to be settled first */
@@ -52,7 +68,9 @@ enum paris_status {
   PARIS_NO_PROFILE = 108, /* no profile has this number */
   PARIS_NOTHING = 109,  /* no row is ready */
   PARIS_NOT_RUN = 110,  /* the order is not executed */
-  PARIS_UNLIKE = 111    /* the two values differ in width or in the number of their processors */
+  PARIS_UNLIKE = 111,   /* the two values differ in width or in the number of their processors */
+  PARIS_NO_EVENT = 112, /* the line is no event of a desk */
+  PARIS_STRANGE = 113   /* the seat is of another desk */
 };
 
 /* Why a row is refused for its data: paris_faults tells of these rows. Such a row is settled, and changes nothing. */
@@ -68,6 +86,17 @@ enum paris_verdict {
   PARIS_STALE = 3,    /* its row has another edition */
   PARIS_GONE = 4,     /* no row has its id */
   PARIS_FOREIGN = 5   /* the row's instruction or what it reads is another one, or isn't settled */
+};
+
+/* What an entry of a history is of: an edit, an order that was taken, a result that was brought, orders that were given up, a look at a key,
+   or a look at the rows. */
+enum paris_kind {
+  PARIS_EDIT = 1,    /* the lines `set`, `field`, `input`, `insert`, `delete` and `replace` */
+  PARIS_TAKE = 2,    /* paris_desk_take */
+  PARIS_BRING = 3,   /* paris_desk_bring */
+  PARIS_RELEASE = 4, /* the line `release` */
+  PARIS_SHOW = 5,    /* the line `show` */
+  PARIS_LIST = 6     /* the line `list` */
 };
 
 /* A number in two words: high * 2^64 + low. */
@@ -109,8 +138,8 @@ uint32_t paris_close(paris_handle *handle);
 /* Answers a line of a script, without its line feed. At PARIS_OK the session is the one after the line, its reply, which may be
    empty, is kept until the next such call, and *reply is how many bytes it has. That a command is refused stands in the reply.
    At another status but PARIS_CLOSED the kept reply is as it was, and *reply is how many bytes it has. At PARIS_PARTLY, which only
-   the line `settle` comes to, the rows that ran are settled, those that were settled stay so, and orders that were out may be given
-   up; the line can be told again. */
+   the line `settle` comes to, the session is left as by paris_settle; the line can be told again. Neither this nor PARIS_NO_MEMORY
+   is met at an empty line or a comment. */
 uint32_t paris_answer(paris_handle *handle, const uint8_t *line, size_t len, size_t *reply);
 
 /* Copies the reply that is kept, or its first bytes where the room has fewer. */
@@ -121,7 +150,7 @@ uint32_t paris_reply(paris_handle *handle, uint8_t *room, size_t len);
 uint32_t paris_script(const uint8_t *script, size_t len, uint8_t *room, size_t room_len, size_t *transcript);
 
 /* Gives the key that a word names, as `a` or `S.context`, these numbers, from a processor on. What `input` refuses is refused, by
-   the same fault. */
+   the same fault, and PARIS_NO_MEMORY comes only where it isn't. */
 uint32_t paris_set(paris_handle *handle, const uint8_t *key, size_t key_len, uint64_t from, const uint64_t *numbers, size_t len);
 
 /* The same with numbers of two words, as fields of more than 64 bits may have. */
@@ -129,7 +158,8 @@ uint32_t paris_set_wide(paris_handle *handle, const uint8_t *key, size_t key_len
 
 /* Puts the numbers that a key holds at a place into a room of as many words: what `show` shows. *told is how many they are, at
    PARIS_WRONG_ROOM too, and the id of the row that has to be settled first at PARIS_PENDING. What `show` refuses is refused, by the
-   same fault. A field of more than 64 bits is PARIS_TOO_WIDE, whatever it holds. */
+   same fault. A field of more than 64 bits is PARIS_TOO_WIDE, whatever it holds, where the room is right. PARIS_NO_MEMORY comes only
+   where a value is shown. */
 uint32_t paris_get(paris_handle *handle, const uint8_t *key, size_t key_len, uint64_t place, uint64_t *room, size_t len, uint64_t *told);
 
 /* The same with numbers of two words, of keys of any width, so that none is PARIS_TOO_WIDE. */
@@ -163,12 +193,12 @@ uint32_t paris_rows(paris_handle *handle, uint64_t *room, size_t len, size_t *co
 
 /* Settles every row. *ran is how many orders were run: a row that would compute again what it computed last isn't run. PARIS_OK
    doesn't say that every row did its work: a settled row may be refused for its data, and then it changes nothing. paris_faults tells
-   which rows these are. At PARIS_PARTLY at least so many rows more are settled, those that were settled stay so, orders that were out
-   may be given up, and the call can be made again. */
+   which rows these are. At PARIS_PARTLY, which comes only where a row is left that must be run, at least so many rows more are settled,
+   those that were settled stay so, orders that were out are given up, and the call can be made again. */
 uint32_t paris_settle(paris_handle *handle, uint64_t *ran);
 
 /* Runs at most `most` orders, one after another, and fewer where no row is ready any more. *ran is how many. Orders that are out stay so.
-   At PARIS_PARTLY memory was refused once *ran were run, nothing else has changed, and the call can be made again. */
+   At PARIS_PARTLY memory was refused once *ran were run, and a row is ready. Nothing else has changed, and the call can be made again. */
 uint32_t paris_run(paris_handle *handle, uint64_t most, uint64_t *ran);
 
 /* Runs orders as paris_run does, and puts the ids of their rows into a room, one after another, or the first ones where the room has fewer
@@ -177,8 +207,8 @@ uint32_t paris_run_ids(paris_handle *handle, uint64_t most, uint64_t *room, size
 
 /* Settles what the value of a key at a place stands on: the unsettled rows that it is made by, in program order, and no other. *ran is how
    many orders were run. Then paris_get has the value. A row that is out is run here too, and what is brought of it later is
-   PARIS_REPEATED. What `show` refuses is refused, by the same fault. At PARIS_PARTLY so many orders were run, settled rows stay so, and
-   the call can be made again. */
+   PARIS_REPEATED. What `show` refuses is refused, by the same fault. At PARIS_PARTLY so many orders were run, and paris_get hasn't the
+   value yet. Settled rows stay so, rows that are still unsettled wait or are out as they were, and the call can be made again. */
 uint32_t paris_settle_for(paris_handle *handle, const uint8_t *key, size_t key_len, uint64_t place, uint64_t *ran);
 
 /* Settles a value as paris_settle_for does, and puts the ids of the rows that are run into a room, in program order, or the first ones
@@ -206,12 +236,12 @@ uint32_t paris_origin(paris_handle *handle, const uint8_t *key, size_t key_len, 
 uint32_t paris_faults(paris_handle *handle, uint64_t *room, size_t len, size_t *count);
 
 /* Closes the order, and then opens one for the first row that is ready: it waits, and all that it reads is settled. The row is out then.
-   At PARIS_NOTHING no row is ready. At each status but PARIS_OK the order stays closed. It gets no number, and the line `take` no other
-   one. */
+   At PARIS_NOTHING no row is ready, and at PARIS_NO_MEMORY one is. At each status but PARIS_OK the order stays closed. It gets no number,
+   and the line `take` no other one. */
 uint32_t paris_take(paris_handle *handle, paris_order *order);
 
 /* Executes an order, in its handle. It needs no session and no lock, and may take as long as the order's row. At PARIS_NO_MEMORY the order
-   is as it was, and can be executed again. One that is executed stays as it is. */
+   is as it was, and can be executed again. One that is executed stays as it is, and takes no memory. */
 uint32_t paris_execute(paris_order *order);
 
 /* Brings the result of an order to a session, and leaves the order as it is. *verdict is one of enum paris_verdict, and *edition the row's
@@ -235,6 +265,71 @@ uint32_t paris_release(paris_handle *handle);
    The two share values, and what is done with either leaves the other as it is. Rows that are out are out in both: paris_release has them
    wait. At another status than PARIS_OK `into` stays closed. */
 uint32_t paris_snapshot(paris_handle *handle, paris_handle *into);
+
+/* Closes the desk, and then opens one whose history begins, with no entry, at the present state of a session, which stays as it was. There may
+   be `limit` entries. `name` is the caller's, one for each desk: a seat of a desk of another name is PARIS_STRANGE. Two desks of one name
+   take each other's seats for their own. */
+uint32_t paris_desk_open(paris_desk *desk, paris_handle *from, uint64_t name, uint64_t limit);
+
+/* Closes the seat, and then opens the next one of the desk. *number is its number: 0 for the first one. It looks at the book as it is. The desk
+   may be closed before its seats are. PARIS_TOO_MANY says that seats can't be counted any further. */
+uint32_t paris_desk_sit(paris_desk *desk, paris_seat *seat, uint64_t *number);
+
+/* Answers a line of a seat, without its line feed: `set`, `field`, `input`, `insert`, `delete`, `replace`, `release`, `show` or `list`. At
+   PARIS_OK it is the history's next entry, whose number is *entry, the seat keeps the reply until its next such call, and *reply is how many
+   bytes that has. That a command is refused stands in the reply, and it is an entry too. A line that isn't in the grammar is answered by
+   `refused 20`, and is no entry: *entry is 0. Any other line, as `take`, `settle` or a comment, is PARIS_NO_EVENT. At a status other than
+   PARIS_OK the desk and the seat are as they were, here and in the next three calls. */
+uint32_t paris_desk_answer(paris_desk *desk, paris_seat *seat, const uint8_t *line, size_t len, size_t *reply, uint64_t *entry);
+
+/* Closes the order, and then has a seat take one for the first row that is ready, as paris_take does. It is the history's next entry. Where no
+   row is ready the call is PARIS_NOTHING, and no entry. At each status but PARIS_OK the order stays closed. */
+uint32_t paris_desk_take(paris_desk *desk, paris_seat *seat, paris_order *order, uint64_t *entry);
+
+/* Has a seat bring the result of an order, as paris_bring does, whoever took it. It is the history's next entry. */
+uint32_t paris_desk_bring(paris_desk *desk, paris_seat *seat, paris_order *order, uint32_t *verdict, uint64_t *edition, uint64_t *entry);
+
+/* Has a seat look at the book as it is: the calls of the seat alone show that from then on. It is no entry, and copies no value.
+   PARIS_NO_MEMORY comes only where the book has as many owners as can be counted. */
+uint32_t paris_desk_look(paris_desk *desk, paris_seat *seat);
+
+/* Copies the reply that a seat keeps, or its first bytes where the room has fewer. */
+uint32_t paris_seat_reply(paris_seat *seat, uint8_t *room, size_t len);
+
+/* As paris_get, of the book that a seat looks at. */
+uint32_t paris_seat_get(paris_seat *seat, const uint8_t *key, size_t key_len, uint64_t place, uint64_t *room, size_t len, uint64_t *told);
+
+/* Closes the order, and then opens one for the first row that is ready of those that the value of a key at a place stands on, in the book that a
+   seat looks at. It is a look, and no entry: the row waits as before, may be taken too, and is settled by the first result that is brought
+   while it is as it was. At PARIS_NOTHING none of these rows is ready, as where the value is shown, or where `show` refuses. At each
+   status but PARIS_OK the order stays closed. */
+uint32_t paris_seat_order_for(paris_seat *seat, const uint8_t *key, size_t key_len, uint64_t place, paris_order *order);
+
+/* *front is the number of the last entry that a seat knows: that of its last call or, where it looked since, of the last entry then. A new
+   chapter leaves it. */
+uint32_t paris_seat_front(paris_seat *seat, uint64_t *front);
+
+/* Tells who did what, by the number of an entry: *seat is the seat's number, *kind one of enum paris_kind, and *reply how many bytes the text of
+   the reply has. The room has that text, or its first bytes where the room has fewer. An order has the number 1 there. Where the history
+   has no such entry the call is PARIS_NO_ENTRY. */
+uint32_t paris_desk_entry(paris_desk *desk, uint64_t entry, uint64_t *seat, uint32_t *kind, uint8_t *room, size_t len, size_t *reply);
+
+/* Makes all events of the history again, from the state at which it begins, and compares the replies. *agrees is true: the call is a check of
+   what no proof says, as that memory holds what was written. */
+uint32_t paris_desk_audit(paris_desk *desk, bool *agrees);
+
+/* Begins a new chapter: the history has no entry, and begins at the present state. *entries is how many the last one had. Seats stay. What an
+   audit says is of one chapter. */
+uint32_t paris_desk_cut(paris_desk *desk, uint64_t *entries);
+
+/* Closes `into`, and opens there a session with the desk's book, and with no order that a line took and no reply. */
+uint32_t paris_desk_snapshot(paris_desk *desk, paris_handle *into);
+
+/* Closes a seat, and frees what it owned. The history keeps its entries. A closed seat stays closed, and PARIS_CLOSED says so. */
+uint32_t paris_seat_close(paris_seat *seat);
+
+/* Closes a desk, and frees what it owned. A closed desk stays closed, and PARIS_CLOSED says so. */
+uint32_t paris_desk_close(paris_desk *desk);
 
 /* Puts the text of a status into a room, or its first bytes where the room has fewer, and answers how many bytes the text has: what
    the fault of this number is, or what stands above beside a status of the library. The text is ASCII, with no zero behind it. Any

@@ -3,7 +3,8 @@
 Definitions and lemmas are cited by their names, which a `use` of the file brings from the file that declares them. Of the code below a crate
 sees types, their methods and public functions, with their contracts, and no private function. So its proofs rest on the pieces that its own
 files cite, on what these cite, and so on. A word in code may name a type in the same crate, or in one that its line in crates.txt names, and
-in a body a function or a method too: it brings all of that name there. A contract calls none.
+in a body a function or a method too: it brings all of that name there. A contract calls none. Of a private field its type counts, and what
+that has in turn: threads may share a type or not by what it is made of.
 """
 
 import re
@@ -24,11 +25,13 @@ INSIDE = ("view", "invariant")
 DECLARED = re.compile(r"^ *(?:(?:abbrev|unfoldable|opaque|record|data|pub) )*([^\s:(){}=]+)(?: [^:=\n]*)? :(?!=)|^([^\s:(){}=]+)[^\n:]* =", re.M)
 # A `use` of names: of definitions, or of code.
 USED = re.compile(r"\buse (?:Rattle\.)?([\w.:]+?)(?:\.|::)(?:\{([^}]*)\}|(\w+)(?= *(?:;|$| as )))", re.M)
+# A field of a struct that only its own crate sees.
+PRIVATE = re.compile(r" +(?!pub )(?:pub\(\w+\) )?(?:ghost )?\w+:")
 # Words of an item's first line that name nothing.
 KEYWORDS = frozenset({"impl", "for", "where", "unsafe", "const", "dyn", "mut"})
 # A definition or a lemma by its whole name, as in a tactic of a function.
 WHOLE = re.compile(r"(\w+(?:\.|::)(?:specs|proofs)(?:\.|::)[\w.:]*\w)(?:\.|::)([^\W\d][\w'-]*)")
-CODE, CALLS = "code", "calls"
+CODE, CALLS, FIELDS = "code", "calls", "fields"
 
 
 @dataclass(frozen=True)
@@ -41,6 +44,8 @@ class Piece:
     trait: str = ""
     is_called: bool = False
     is_impl: bool = False
+    # Whether it is the types of private fields.
+    is_made_of: bool = False
 
 
 @dataclass
@@ -113,6 +118,8 @@ def of_item(head: str, outer: str, text: str) -> Iterator[Piece]:
         yield Piece(frozenset(WORD.findall(without_arguments(rest))) - KEYWORDS, text, is_impl=True)
     elif before.startswith("pub ") and kind != "mod":
         yield Piece(frozenset(WORD.findall(rest)[:1]), without_private_fields(text) if kind == "struct" else text, is_called=kind == "fn")
+    if kind in ("struct", "enum"):
+        yield Piece(frozenset(WORD.findall(rest)[:1]), types_of_private_fields(text), is_made_of=True)
 
 
 def without_arguments(text: str) -> str:
@@ -123,23 +130,41 @@ def without_arguments(text: str) -> str:
 
 def without_private_fields(text: str) -> str:
     """A struct without the fields that only its own crate sees."""
-    return "\n".join(line for line in text.split("\n") if not re.match(r" +(?!pub )(ghost )?\w+:", line))
+    return "\n".join(line for line in text.split("\n") if not PRIVATE.match(line))
+
+
+def types_of_private_fields(text: str) -> str:
+    """The types of these fields, and of an enum that only its own crate sees what it has: whether threads may share it goes by them."""
+    if re.search(r"^(?!pub )(pub\(\w+\) )?enum ", text, re.M):
+        return text
+    return "\n".join(sorted({line.partition(":")[2].strip() for line in text.split("\n") if PRIVATE.match(line)}))
+
+
+def handed_on(direct: dict[str, list[str]], crate: str, sources: list[Source]) -> list[str]:
+    """The crates that a crate names, and those of which these hand names on by `pub use`."""
+    named, wanted = list[str](), [*direct[crate]]
+    while wanted:
+        named.append(wanted.pop())
+        text = "\n".join(source.text for source in sources if source.crate == named[-1] and source.module.endswith(CODE))
+        wanted += {it for it in re.findall(r"^pub use (\w+)::", text, re.M) if it in direct} - {*named, *wanted}
+    return named
 
 
 class Stated:
     """What the crates state, by the names under which it is cited."""
 
     def __init__(self, direct: dict[str, list[str]], sources: Iterable[Source]) -> None:
-        self.direct = direct
-        self.found: dict[str, dict[str, list[tuple[Source, Piece]]]] = {}
         sources = [*sources]
+        self.direct = {crate: handed_on(direct, crate, sources) for crate in direct}
+        self.found: dict[str, dict[str, list[tuple[Source, Piece]]]] = {}
         traits = {(source.crate, trait) for source in sources for trait in re.findall(r"\btrait (\w+)", source.text)}
         own = {(source.crate, name) for source in sources for name in OWN.findall(source.text)}
         for source in sources:
             for piece in source.pieces:
                 if piece.is_impl and any((source.crate, name) in own for name in piece.names):
                     continue
-                module = f"{source.crate}.{CALLS}" if piece.is_called else source.module
+                part = CALLS if piece.is_called else FIELDS if piece.is_made_of else ""
+                module = f"{source.crate}.{part}" if part else source.module
                 for name in {piece.trait} if (source.crate, piece.trait) in traits else piece.names or {""}:
                     self.found.setdefault(module, {}).setdefault(name, []).append((source, piece))
 
@@ -154,10 +179,25 @@ class Stated:
         if source.module.endswith(CODE):
             yield from ((f"{crate}.{CODE}", word) for crate in self.direct[source.crate] for word in words)
 
+    def made_of(self, source: Source, names: Iterable[str]) -> Iterator[tuple[str, str]]:
+        """The private fields of the types of some names, in a file's crate and in those that this one cites."""
+        crates = (source.crate, *self.direct[source.crate])
+        return ((f"{crate}.{FIELDS}", name) for crate in crates for name in names)
+
     def calls(self, source: Source, text: str) -> Iterator[tuple[str, str]]:
         """The functions and methods that a text of code with bodies may call."""
         crates = self.direct[source.crate] if source.module.endswith(CODE) else []
         return ((f"{crate}.{CALLS}", word) for crate in (source.crate, *crates) for word in words_of(text))
+
+    def from_piece(self, source: Source, piece: Piece) -> Iterator[tuple[str, str]]:
+        """What a piece cites in turn."""
+        if piece.is_made_of:
+            yield from self.made_of(source, WORD.findall(piece.text))
+            return
+        yield from self.cites(source, piece.text)
+        yield from self.made_of(source, piece.names)
+        if "const fn" in piece.text or "⟦" in piece.text:
+            yield from self.calls(source, piece.text)
 
     def cited(self, crate: str, own: Iterable[Source]) -> list[str]:
         """The texts that a crate of these files may rest on, in the crates below."""
@@ -170,8 +210,6 @@ class Stated:
             for source, piece in self.found.get(module, {}).get(name, ()):
                 if source.crate != crate:
                     text = f"{module} {piece.text}"
-                    has_body = "const fn" in text or "⟦" in text
-                    more = (*self.cites(source, piece.text), *(self.calls(source, piece.text) if has_body else ()))
-                    wanted |= set() if text in texts else {*more} - seen
+                    wanted |= set() if text in texts else {*self.from_piece(source, piece)} - seen
                     texts.add(text)
         return sorted(texts)

@@ -53,14 +53,10 @@ def add(keys: Keys, crates: list[Any]) -> None:
     add_seen(keys.of_tests(crate.name) for crate in crates)
 
 
-def to_try(keys: Keys, crates: list[Any], commit: str) -> list[Any]:
-    """Those whose tests a run of the gate only runs: their lines hold, but for one of them that the commit's hash picks."""
+def to_try(keys: Keys, crates: list[Any], draw: str) -> list[Any]:
+    """Those whose tests a run of the gate only runs: their lines hold, but for one of them that the run's draw picks."""
     held = [crate for crate in with_tests(crates) if holds(keys, crate)]
-    return sorted(held, key=lambda crate: sum_of(commit, crate.name))[1:]
-
-
-def commit_here() -> str:
-    return subprocess.run(["git", "rev-parse", "HEAD"], stdout=subprocess.PIPE, text=True, check=True, cwd=ROOT).stdout.strip()
+    return sorted(held, key=lambda crate: sum_of(draw, crate.name))[1:]
 
 
 def put_tests(room: Path, crates: list[Any]) -> Path:

@@ -28,6 +28,7 @@ TEXTS = tuple(CHECKS / it for it in ("unproved/src", "no-memory/calls/src", "sch
 ENDING = ".text"
 NAME = "unproved_calls"
 LIBRARY = "paris_c"
+HANDLES = ("handle", "order_handle", "desk_handle", "seat_handle")
 REACHES = CHECKS / "unproved/library/main.rt.text"
 # What a program's own run in the try may take: it is run with nothing on standard input.
 SECONDS = "60"
@@ -211,7 +212,7 @@ def compile_library(room: Path, edits: Sequence[Edit] = ()) -> list[Path]:
     """Compiles the library for C, in a room of its own, and returns what a program is linked with. The crates have some edits."""
     folder = put_library(room)
     # (main is in no module of the handles)
-    closed = [(f"{LIBRARY}/src/{it}.rt", "    fn closed(", "    pub(crate) fn closed(") for it in ("handle", "order_handle")]
+    closed = [(f"{LIBRARY}/src/{it}.rt", "    fn closed(", "    pub(crate) fn closed(") for it in HANDLES]
     kept = make(room, folder, OBJECT, [*closed, *edits])
     said = subprocess.run(["nm", kept], check=True, stdout=subprocess.PIPE, text=True).stdout
     words = ["--localize-symbol=main"]

@@ -77,6 +77,19 @@ def test_what_was_done_is_done_again_and_taken_back(seed: int) -> None:
     assert (other.texts, other.ids) == (list("abcdef"), [1, 2, 3, 4, 5, 6])
 
 
+def test_a_line_that_comes_back_behind_one_that_is_gone_is_told_where_it_stands() -> None:
+    lines, other = Lines.of(["a", "b", "c"], 1, 0), Lines.of(["a", "b", "c"], 1, 0)
+    (done,), _ = lines.take(Change(Op.DELETE, 3, "c"), 1, "Ann")
+    lines.take(Change(Op.DELETE, 2, "b"), 2, "Bob")
+    assert done.after == 2
+    # Who has no more than the present text knows nothing of the line that is gone.
+    other.texts, other.ids, other.by = ["a"], [1], {1: 0}
+    told = lines.repeat(inverse_of(done), 1)
+    assert told == Done(Op.INSERT, 3, "c", 1)
+    other.repeat(told, 1)
+    assert other.texts == lines.texts == ["a", "c"]
+
+
 def some_change(random: Random, lines: Lines, text: str) -> Change:
     """A change of a line that is there, as who sees it now wants it."""
     at = random.randrange(len(lines.ids)) if lines.ids else None

@@ -35,6 +35,10 @@ pub enum Error {
     NotRun,
     /// The two values differ in width or in the number of their processors.
     Unlike,
+    /// The line is no event of a desk. This package has no desks, so no call here gives this.
+    NoEvent,
+    /// The seat is of another desk. This package has no desks, so no call here gives this.
+    Strange,
     /// The library answered by a status that this package doesn't know.
     Unknown(u32),
 }
@@ -54,6 +58,8 @@ impl Error {
             sys::NOTHING => Error::NothingReady,
             sys::NOT_RUN => Error::NotRun,
             sys::UNLIKE => Error::Unlike,
+            sys::NO_EVENT => Error::NoEvent,
+            sys::STRANGE => Error::Strange,
             _ => Fault::of_number(status).map_or(Error::Unknown(status), Error::Fault),
         }
     }
@@ -73,6 +79,8 @@ impl Error {
             Error::NothingReady => sys::NOTHING,
             Error::NotRun => sys::NOT_RUN,
             Error::Unlike => sys::UNLIKE,
+            Error::NoEvent => sys::NO_EVENT,
+            Error::Strange => sys::STRANGE,
             Error::Unknown(status) => status,
         }
     }
@@ -111,6 +119,8 @@ impl Display for Error {
             Error::Unlike => {
                 f.write_str("the two values differ in width or in the number of their processors")
             }
+            Error::NoEvent => f.write_str("the line is no event of a desk"),
+            Error::Strange => f.write_str("the seat is of another desk"),
             Error::Unknown(status) => write!(
                 f,
                 "the library answered by status {status}, which this package doesn't know"
@@ -129,7 +139,7 @@ mod tests {
     fn an_error_keeps_its_status() {
         for status in 1..200 {
             let error = Error::of_status(status, 7);
-            let is_known = matches!(status, 1..=23 | 101..=111);
+            let is_known = matches!(status, 1..=23 | 101..=113);
             assert_eq!(error.status(), status);
             assert_eq!(error == Error::Unknown(status), !is_known, "{error:?}");
         }

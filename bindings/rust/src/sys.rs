@@ -23,6 +23,8 @@ pub(crate) const NO_PROFILE: u32 = 108;
 pub(crate) const NOTHING: u32 = 109;
 pub(crate) const NOT_RUN: u32 = 110;
 pub(crate) const UNLIKE: u32 = 111;
+pub(crate) const NO_EVENT: u32 = 112;
+pub(crate) const STRANGE: u32 = 113;
 
 #[repr(C)]
 struct Words {

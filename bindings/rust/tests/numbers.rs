@@ -9,7 +9,9 @@ const FAULTS: &str = include_str!("../../../crates/paris_names/src/faults.rt");
 /// The error of each status that is no `PARIS_OK`.
 fn errors() -> BTreeMap<&'static str, Error> {
     BTreeMap::from([
+        ("FULL", Error::Fault(Fault::HistoryFull)),
         ("NO_MEMORY", Error::Fault(Fault::NoMemory)),
+        ("NO_ENTRY", Error::Fault(Fault::NoEntry)),
         ("CLOSED", Error::Closed),
         ("NO_KEY", Error::NoKey),
         ("PENDING", Error::Pending(1)),
@@ -21,6 +23,8 @@ fn errors() -> BTreeMap<&'static str, Error> {
         ("NOTHING", Error::NothingReady),
         ("NOT_RUN", Error::NotRun),
         ("UNLIKE", Error::Unlike),
+        ("NO_EVENT", Error::NoEvent),
+        ("STRANGE", Error::Strange),
     ])
 }
 

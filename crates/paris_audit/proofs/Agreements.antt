@@ -6,10 +6,10 @@ use Rattle.std.proofs.Math.Seq.{drop-cons}
 use Rattle.std.proofs.lemmas.Bool.{and_parts, and_from}
 use Rattle.std.proofs.lemmas.Bool.Decides.{nat_tests}
 use Rattle.std.proofs.lemmas.List.{get_or_past, length-map}
-use Rattle.paris_machine.specs.State.{State}
-use Rattle.paris_machine.specs.Events.{after, reply_to}
-use Rattle.paris_machine.specs.declared.events.Event.{Event}
-use Rattle.paris_machine.specs.declared.events.Reply.{Reply}
+use Rattle.paris_events.specs.State.{State}
+use Rattle.paris_events.specs.Events.{after, reply_to}
+use Rattle.paris_events.specs.declared.events.Event.{Event}
+use Rattle.paris_events.specs.declared.events.Reply.{Reply}
 use Rattle.paris_records.specs.declared.records.Entry.{Entry}
 use Rattle.paris_records.specs.declared.records.Receipt.{Receipt}
 use Rattle.paris_records.specs.History.{LegalFrom, entry}

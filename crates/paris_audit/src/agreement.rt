@@ -3,7 +3,7 @@
 ghost use Rattle.std.specs.Prelude.{◌≡◌, ◌<◌, ◌↔◌, ℕ, nat_lt, length, map, IfOk, IsTrue, OnOk};
 ghost use Rattle.std.specs.List.{list_all};
 ghost use Rattle.paris_names.specs.declared.profiles.Profile.TheVariants.{One};
-ghost use Rattle.paris_machine.specs.Events.{after, reply_to};
+ghost use Rattle.paris_events.specs.Events.{after, reply_to};
 ghost use Rattle.paris_records.specs.History.{Legal, LegalFrom, entry};
 ghost use Rattle.paris_records.specs.Agreement.{Accounted, Agree, InPlace, InPlaces, calls_of, receipts_of_seat};
 
@@ -24,8 +24,9 @@ fn is_answered(book: &mut Book, entry: &Entry) -> Result<bool, AllocError>
     }
 }
 
-/// Whether each reply is what a book answers, which makes the events one by one.
-fn are_answered(book: &mut Book, entries: &[Entry]) -> Result<bool, AllocError>
+/// Whether each reply of a list of entries is what the book answers. The book makes the events one by one, up to the first entry whose reply
+/// is another one. The error says that memory for an event was refused; the book has then made those before it.
+pub fn are_answered(book: &mut Book, entries: &[Entry]) -> Result<bool, AllocError>
     ensures { IfOk result (λ answer. IsTrue answer ↔ LegalFrom book.old entries.now) }
 {
     for entry in entries {

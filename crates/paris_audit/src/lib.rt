@@ -3,4 +3,4 @@
 
 mod agreement;
 
-pub use agreement::{audit, audit_with};
+pub use agreement::{are_answered, audit, audit_with};

@@ -9,22 +9,22 @@ use Rattle.paris_model.specs.Frame.{World}
 use Rattle.paris_model.specs.Instructions.{Plan, reads, one}
 use Rattle.paris_model.specs.Run.{run}
 use Rattle.paris_exec.specs.Tasks.{Task, field_of}
-use Rattle.paris_events.specs.Rows.{is_settled, is_waiting}
-use Rattle.paris_machine.specs.State.{Row, State, row_plan, start_world, work_of}
-use Rattle.paris_machine.specs.Show.{now, origin_at}
-use Rattle.paris_machine.specs.Orders.{IsIdle, is_firm, is_ready, order_of}
-use Rattle.paris_machine.specs.CutOff.{is_cut, cut_off, cut_found, cut_at}
-use Rattle.paris_machine.specs.Results.{kept_at}
-use Rattle.paris_machine.specs.Settling.{is_same, is_due, due_in, settled_in, settled_row, run_row, unsettled_rows}
-use Rattle.paris_machine.proofs.Passes.{is_cut_in, cut_row, cut, firm_after, from_start, world_at}
-use Rattle.paris_machine.proofs.Passing.{firm_behind, firm_start, test_is, cut_off_is}
-use Rattle.paris_machine.proofs.AtRests.{plan_stays}
-use Rattle.paris_machine.proofs.Anywhere.{cut_early, due_early, ends_early, get_cut, keep_anywhere}
-use Rattle.paris_machine.proofs.Absorbing.{stays_settled}
-use Rattle.paris_machine.proofs.Counting.{due_kept, settled_in-kept}
-use Rattle.paris_machine.proofs.Ends.{world_is, ids_run, idle_run}
-use Rattle.paris_machine.proofs.Runs.{waits_at}
-use Rattle.paris_machine.proofs.Tests.{and_first, and_second}
+use Rattle.paris_edits.specs.Rows.{is_settled, is_waiting}
+use Rattle.paris_events.specs.State.{Row, State, row_plan, start_world, work_of}
+use Rattle.paris_events.specs.Show.{now, origin_at}
+use Rattle.paris_events.specs.Orders.{IsIdle, is_firm, is_ready, order_of}
+use Rattle.paris_events.specs.CutOff.{is_cut, cut_off, cut_found, cut_at}
+use Rattle.paris_events.specs.Results.{kept_at}
+use Rattle.paris_events.specs.Settling.{is_same, is_due, due_in, settled_in, settled_row, run_row, unsettled_rows}
+use Rattle.paris_events.proofs.Passes.{is_cut_in, cut_row, cut, firm_after, from_start, world_at}
+use Rattle.paris_events.proofs.Passing.{firm_behind, firm_start, test_is, cut_off_is}
+use Rattle.paris_events.proofs.AtRests.{plan_stays}
+use Rattle.paris_events.proofs.Anywhere.{cut_early, due_early, ends_early, get_cut, keep_anywhere}
+use Rattle.paris_events.proofs.Absorbing.{stays_settled}
+use Rattle.paris_events.proofs.Counting.{due_kept, settled_in-kept}
+use Rattle.paris_events.proofs.Ends.{world_is, ids_run, idle_run}
+use Rattle.paris_events.proofs.Runs.{waits_at}
+use Rattle.paris_events.proofs.Tests.{and_first, and_second}
 use Rattle.paris_book.specs.Steps.{is_free, order_on, own_order, is_left, is_run, run_on, run_at, runs_on, runs_at, turned_on, turned_at}
 use Rattle.paris_book.specs.Rounds.{StaySettled, Runs, RunsTo, Advances, HoldsTask}
 use Rattle.paris_book.proofs.Firmer.{More, more_set, all_firm_more, set_cases}
@@ -140,7 +140,7 @@ left_differs s place r u c f = by_same (is_same (now s place) r) (sym (ap₂ (λ
     by_same true h = absurd (let x : true ≡ false = h in cc)
     by_same false h = refl
 
-left_cut : (s : State) (place : ℕ) (r : Row) → is_left s place r ≡ true → is_cut s place r ≡ false
+pub left_cut : (s : State) (place : ℕ) (r : Row) → is_left s place r ≡ true → is_cut s place r ≡ false
 left_cut s place r t = by_status (is_settled r.status) (is_cut s place r) t
   where
     by_status : (a b : Bool) → not (a || b) ≡ true → b ≡ false

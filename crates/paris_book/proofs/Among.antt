@@ -9,11 +9,11 @@ use Rattle.paris_model.specs.Recipe.{origin}
 use Rattle.paris_instr.specs.PlanEq.{plan_eq}
 use Rattle.paris_field.specs.Fields.{FieldNumbers, field_eq}
 use Rattle.paris_exec.specs.Tasks.{Task, field_of}
-use Rattle.paris_events.specs.Rows.{is_waiting}
-use Rattle.paris_machine.specs.State.{Inputs, Row}
-use Rattle.paris_machine.specs.Show.{shown_of}
-use Rattle.paris_machine.specs.Orders.{is_firm}
-use Rattle.paris_machine.specs.declared.events.Shown.{Shown}
+use Rattle.paris_edits.specs.Rows.{is_waiting}
+use Rattle.paris_events.specs.State.{Inputs, Row}
+use Rattle.paris_events.specs.Show.{shown_of}
+use Rattle.paris_events.specs.Orders.{is_firm}
+use Rattle.paris_events.specs.declared.events.Shown.{Shown}
 use Rattle.paris_book.specs.Among.{width_in_shape}
 use Rattle.paris_book.specs.Entries.{Entry, id_of, entry_plan, machine_row}
 use Rattle.paris_book.specs.Kept.{present}

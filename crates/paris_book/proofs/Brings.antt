@@ -4,20 +4,20 @@ use Rattle.std.proofs.Math.Path.{ap₂}
 use Rattle.std.proofs.lemmas.List.{map-set}
 use Rattle.paris_board.specs.Board.{Board}
 use Rattle.paris_exec.specs.Tasks.{Task}
-use Rattle.paris_machine.specs.State.{Row, Inputs, State, find_id, find_row, Work, work_of}
-use Rattle.paris_machine.specs.CutOff.{cut_off, IsAtRest}
-use Rattle.paris_machine.specs.Results.{verdict_at, verdict_on, verdict_of, brought_on, after_bring}
+use Rattle.paris_events.specs.State.{Row, Inputs, State, find_id, find_row, Work, work_of}
+use Rattle.paris_events.specs.CutOff.{cut_off, IsAtRest}
+use Rattle.paris_events.specs.Results.{verdict_at, verdict_on, verdict_of, brought_on, after_bring}
 use Rattle.paris_book.specs.Steps.{WasSettled, kept_on, after_keep}
 use Rattle.paris_program.specs.Program.{place_of}
 use Rattle.paris_book.specs.Marks.{kept_data}
 use Rattle.paris_book.specs.declared.sources.Source.{Source}
 use Rattle.paris_book.specs.Entries.{Entry, machine_row, with_data, seen}
 use Rattle.paris_book.proofs.Entering.{find_is}
-use Rattle.paris_events.specs.declared.verdicts.Verdict.{Verdict}
-use Rattle.paris_events.specs.declared.verdicts.Verdict.TheVariants.{Gone, Stale, Repeated, Foreign, Kept}
-use Rattle.paris_events.specs.Verdicts.{is_kept}
+use Rattle.paris_edits.specs.declared.verdicts.Verdict.{Verdict}
+use Rattle.paris_edits.specs.declared.verdicts.Verdict.TheVariants.{Gone, Stale, Repeated, Foreign, Kept}
+use Rattle.paris_edits.specs.Verdicts.{is_kept}
 use Rattle.paris_book.proofs.Finds.{found_some, row_at}
-use Rattle.paris_machine.proofs.Finds.{none_of}
+use Rattle.paris_events.proofs.Finds.{none_of}
 use Rattle.paris_book.proofs.Inserts.{state_of}
 
 -- the machine's answer, by the entries

@@ -7,15 +7,15 @@ use Rattle.std.specs.Option.{option_map}
 use Rattle.paris_names.specs.declared.keys.Key.{Key}
 use Rattle.paris_board.specs.Board.{Board, is_declared, width_of, count_of}
 use Rattle.paris_model.specs.Instructions.{Plan}
-use Rattle.paris_events.specs.Rows.{is_settled}
-use Rattle.paris_machine.specs.State.{Row, Inputs, State, find_id}
-use Rattle.paris_machine.specs.Show.{show_at, show_from}
-use Rattle.paris_machine.specs.Edits.{known}
+use Rattle.paris_edits.specs.Rows.{is_settled}
+use Rattle.paris_events.specs.State.{Row, Inputs, State, find_id}
+use Rattle.paris_events.specs.Show.{show_at, show_from}
+use Rattle.paris_events.specs.Edits.{known}
 use Rattle.paris_book.specs.Whole.{Shaped, Fitted}
 use Rattle.paris_program.specs.Program.{place_of}
 use Rattle.paris_book.specs.Entries.{Entry, machine_row}
 use Rattle.paris_book.proofs.Entering.{find_is}
-use Rattle.paris_machine.specs.declared.inputs.Input.{Input}
+use Rattle.paris_events.specs.declared.inputs.Input.{Input}
 use Rattle.paris_book.specs.Among.{shown_at}
 use Rattle.std.proofs.lemmas.List.{length-drop, length-take-le}
 use Rattle.std.specs.Option.{ok_or}
@@ -29,10 +29,10 @@ use Rattle.paris_names.specs.declared.limits.TheConstants.{MAX_EDITS}
 use Rattle.paris_board.specs.Board.{key_named}
 use Rattle.paris_instr.specs.Resolve.{IsFittedTo}
 use Rattle.paris_field.specs.Fields.{overwritten}
-use Rattle.paris_machine.specs.declared.events.Shown.{Shown as AnyShown}
-use Rattle.paris_machine.specs.State.{place_of_spot}
-use Rattle.paris_machine.specs.Show.{show_reply, show_key}
-use Rattle.paris_machine.specs.Settling.{unsettled_rows}
+use Rattle.paris_events.specs.declared.events.Shown.{Shown as AnyShown}
+use Rattle.paris_events.specs.State.{place_of_spot}
+use Rattle.paris_events.specs.Show.{show_reply, show_key}
+use Rattle.paris_events.specs.Settling.{unsettled_rows}
 use Rattle.paris_book.proofs.Inserts.{state_of}
 use Rattle.paris_book.proofs.Shows.{show_is, look_seen}
 

@@ -4,15 +4,15 @@ use Rattle.std.proofs.lemmas.List.{map-set, length-set}
 use Rattle.std.specs.Prelude.{◌&&◌, not}
 use Rattle.paris_board.specs.Board.{Board}
 use Rattle.paris_model.specs.Frame.{World}
-use Rattle.paris_events.specs.Rows.{is_settled}
-use Rattle.paris_events.specs.declared.rows.Status.TheVariants.{Settled}
-use Rattle.paris_machine.specs.State.{Row, Inputs, State, start_world, with_status}
-use Rattle.paris_machine.specs.CutOff.{is_cut, is_last_present, cut_found, cut_at, cut_to, cut_off}
-use Rattle.paris_machine.specs.Settling.{settled_row}
-use Rattle.paris_machine.proofs.Passes.{is_cut_in, from_start, world_at}
-use Rattle.paris_machine.proofs.Passing.{firm_behind, is_cut_behind, test_is, cut_off_is}
-use Rattle.paris_machine.proofs.Anywhere.{cut_early}
-use Rattle.paris_machine.proofs.Ends.{world_is}
+use Rattle.paris_edits.specs.Rows.{is_settled}
+use Rattle.paris_edits.specs.declared.rows.Status.TheVariants.{Settled}
+use Rattle.paris_events.specs.State.{Row, Inputs, State, start_world, with_status}
+use Rattle.paris_events.specs.CutOff.{is_cut, is_last_present, cut_found, cut_at, cut_to, cut_off}
+use Rattle.paris_events.specs.Settling.{settled_row}
+use Rattle.paris_events.proofs.Passes.{is_cut_in, from_start, world_at}
+use Rattle.paris_events.proofs.Passing.{firm_behind, is_cut_behind, test_is, cut_off_is}
+use Rattle.paris_events.proofs.Anywhere.{cut_early}
+use Rattle.paris_events.proofs.Ends.{world_is}
 use Rattle.paris_book.specs.Statuses.{next_unsettled}
 use Rattle.paris_book.specs.Marks.{again_data}
 use Rattle.paris_book.specs.declared.sources.Source.{Source}

@@ -18,9 +18,9 @@ use Rattle.paris_names.specs.Profiles.{max_width}
 use Rattle.paris_board.specs.Board.{Board, DeclaredField, DeclaredSet, is_declared, width_of, count_of, axes_of, declaration_at, with_set, with_field, AreFields, IsBoard}
 use Rattle.paris_model.specs.Instructions.{Plan, reads, writes, key_width}
 use Rattle.paris_model.specs.Recipe.{same}
-use Rattle.paris_machine.specs.State.{Row, Inputs, flag_input, input_of, numbers_in, number_in, start_world, start_recipe, declared_input, declared_flags}
-use Rattle.paris_machine.specs.CutOff.{IsAtRest}
-use Rattle.paris_machine.specs.Edits.{known_rows, edited, set_added, field_added}
+use Rattle.paris_events.specs.State.{Row, Inputs, flag_input, input_of, numbers_in, number_in, start_world, start_recipe, declared_input, declared_flags}
+use Rattle.paris_events.specs.CutOff.{IsAtRest}
+use Rattle.paris_events.specs.Edits.{known_rows, edited, set_added, field_added}
 use Rattle.paris_book.specs.Marks.{data_plan, stale_data}
 use Rattle.paris_book.specs.Kept.{Sound}
 use Rattle.paris_depends.specs.Changes.{Differ}
@@ -28,8 +28,8 @@ use Rattle.paris_depends.specs.Sweeps.{touches, spread, touched}
 use Rattle.paris_book.proofs.Swept.{swept_entries}
 use Rattle.paris_book.specs.Whole.{shape_on, input_shape, shape_in, Shaped, InputsBelow, Fitted, AllFitted, IsWhole}
 use Rattle.paris_book.specs.Entries.{Entry, machine_row, with_data}
-use Rattle.paris_machine.specs.declared.inputs.Input.{Input}
-use Rattle.paris_machine.specs.declared.inputs.FlagInputs.{FlagInputs}
+use Rattle.paris_events.specs.declared.inputs.Input.{Input}
+use Rattle.paris_events.specs.declared.inputs.FlagInputs.{FlagInputs}
 use Rattle.std.specs.Prelude.{nat_lt}
 use Rattle.std.proofs.lemmas.Bool.Decides.{nat_tests}
 use Rattle.std.proofs.lemmas.List.{length-replicate}
@@ -222,7 +222,7 @@ shape_declared n count Overflow = ap (λ c. Some (1, c)) (length-replicate count
 apart_of : (i j : ℕ) → eqb i j ≡ false → i ≡ j → ⊥
 apart_of i j e same = let wrong : true ≡ false = sym ((Decides-eqb i j).1 same) ∙ e in absurd (cc)
 
-length-push : {X : Type 0} (xs : List X) (x : X) → length (xs ++ x ∷ []) ≡ length xs + 1
+pub length-push : {X : Type 0} (xs : List X) (x : X) → length (xs ++ x ∷ []) ≡ length xs + 1
 length-push xs x = length-append xs (x ∷ [])
 
 module _ (b : Board) (n m : ℕ) (inputs : Inputs) (name axes : List ℕ) where
@@ -264,7 +264,7 @@ module _ (b : Board) (n m : ℕ) (inputs : Inputs) (name axes : List ℕ) where
       let there : count_of (with_set b name axes) (Flag s flag) ≡ processor_count axes = ap processor_count (ap (λ (x : DeclaredSet). x.axes) (ap (λ i. get_or (b.sets ++ record { name = name; axes = axes } ∷ []) i (record { name = []; axes = [] })) at ∙ or-push_last b.sets (record { name = name; axes = axes }) (record { name = []; axes = [] }))) in
       rw (declared, there) refl
 
-  set_shaped : IsBoard b → length inputs.flags ≡ length b.sets → Shaped b inputs → Shaped (with_set b name axes) with_flags
+  pub set_shaped : IsBoard b → length inputs.flags ≡ length b.sets → Shaped b inputs → Shaped (with_set b name axes) with_flags
   set_shaped board many shaped k = by_test (is_new_flag (length inputs.flags) k) refl
     where
       given_shape : (k : Key) → is_new_flag (length inputs.flags) k ≡ true → shape_in with_flags k ≡ Some (1, processor_count axes)
@@ -342,7 +342,7 @@ module _ (b : Board) (n m : ℕ) (inputs : Inputs) (name : List ℕ) (set width 
       let many : count_of (with_field b name set width) (Field f) ≡ processor_count (axes_of b set) = ap (λ (x : DeclaredField). processor_count (axes_of b x.set_no)) there in
       rw (declared, wide, many) refl
 
-  field_shaped : length inputs.fields ≡ length b.fields → Shaped b inputs → Shaped (with_field b name set width) with_declared
+  pub field_shaped : length inputs.fields ≡ length b.fields → Shaped b inputs → Shaped (with_field b name set width) with_declared
   field_shaped many shaped k = by_test (is_new_field (length inputs.fields) k) refl
     where
       given_shape : (k : Key) → is_new_field (length inputs.fields) k ≡ true → shape_in with_declared k ≡ Some (width, processor_count (axes_of b set))

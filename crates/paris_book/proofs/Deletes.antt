@@ -9,19 +9,19 @@ use Rattle.paris_board.specs.Board.{Board}
 use Rattle.paris_model.specs.Frame.{World}
 use Rattle.paris_model.specs.Instructions.{writes, one}
 use Rattle.paris_model.specs.Run.{run}
-use Rattle.paris_machine.specs.State.{Row, Inputs, State, start_world, start_recipe}
-use Rattle.paris_machine.specs.Edits.{row_deleted}
+use Rattle.paris_events.specs.State.{Row, Inputs, State, start_world, start_recipe}
+use Rattle.paris_events.specs.Edits.{row_deleted}
 use Rattle.paris_book.specs.Kept.{ripen, Sound}
 use Rattle.paris_book.proofs.Swept.{swept, swept_entries}
 use Rattle.paris_program.specs.Program.{ids_of}
 use Rattle.paris_book.specs.Whole.{RowsBelow, AllFitted, IsWhole}
-use Rattle.paris_machine.specs.State.{IdsApart}
+use Rattle.paris_events.specs.State.{IdsApart}
 use Rattle.paris_book.specs.Entries.{Entry, entry_plan, machine_row}
 use Rattle.paris_book.proofs.Values.{sound_swept, swept_rows}
 use Rattle.paris_book.proofs.Origins.{ripe, sound-take}
 use Rattle.paris_book.proofs.Recipes.{past_all}
 use Rattle.paris_book.proofs.EditLemmas.{eqb_flip, judged_delete, NotOf, not_of_all}
-use Rattle.paris_machine.proofs.Tests.{or_first, or_second}
+use Rattle.paris_events.proofs.Tests.{or_first, or_second}
 use Rattle.paris_book.proofs.Sourced.{Comes, Every, Stands, all_stand, every_drop, every_join, every_stays, every_swept, every_take, no_news, sourced_from}
 use Rattle.paris_book.proofs.Inserts.{rows_up, rows_swept, rows-take, rows-drop, rows-join, inputs_up, ids_swept, sound-drop, sound-join, agree_one_back, agree_ripen, fitted_swept, fitted-take, fitted-drop, fitted-join, state_of}
 

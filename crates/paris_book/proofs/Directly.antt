@@ -11,10 +11,10 @@ use Rattle.paris_names.specs.declared.keys.Key.TheVariants.{Field, Flag}
 use Rattle.paris_board.specs.Board.{Board}
 use Rattle.paris_model.specs.Laws.{WorldFits, PlansFit, RunIsDirect}
 use Rattle.paris_field.specs.Fields.{AllFit}
-use Rattle.paris_machine.specs.declared.inputs.Input.{Input}
-use Rattle.paris_machine.specs.declared.inputs.FlagInputs.{FlagInputs}
+use Rattle.paris_events.specs.declared.inputs.Input.{Input}
+use Rattle.paris_events.specs.declared.inputs.FlagInputs.{FlagInputs}
 use Rattle.paris_book.specs.Entries.{Entry, entry_plan, machine_row}
-use Rattle.paris_machine.specs.State.{Row, Inputs, State, flag_input, input_of, numbers_in, start_world, row_plan}
+use Rattle.paris_events.specs.State.{Row, Inputs, State, flag_input, input_of, numbers_in, start_world, row_plan}
 use Rattle.paris_book.specs.Whole.{input_shape, shape_in, AllFitted, IsWhole}
 use Rattle.paris_book.specs.Among.{width_in_shape}
 use Rattle.paris_book.specs.Laws.{InputFits, FlagsFit, InputsFit, ActionFits, ActionsFit, NowIsDirect}

@@ -24,10 +24,10 @@ use Rattle.paris_model.specs.declared.actions.Action.TheVariants.{OnSelected, On
 use Rattle.paris_model.specs.Fits.{has_bad_axis, has_bad_length, has_bad_operand, has_overlap}
 use Rattle.paris_model.specs.Instructions.{Plan}
 use Rattle.paris_instr.specs.Resolve.{operand_of, operand_named, set_no_named, from_one, from_two, from_three, from_four, operand_if_named, conditional_named, unconditional_named, news_named, line_named, mail_named, action_named, is_in_one_set, axes_of_action, set_of_action, planned_from, resolution, fault_in}
-use Rattle.paris_events.specs.declared.edits.Edit.{Edit}
-use Rattle.paris_events.specs.declared.edits.Edit.TheVariants.{AddSet, AddField, Input as SetInput, Insert, Delete, Replace}
-use Rattle.paris_machine.specs.State.{State, Row, find_row, place_of_spot}
-use Rattle.paris_machine.specs.Edits.{fault_of_values, input_fault, insert_fault, delete_fault, replace_fault, content_fault, edit_fault}
+use Rattle.paris_edits.specs.declared.edits.Edit.{Edit}
+use Rattle.paris_edits.specs.declared.edits.Edit.TheVariants.{AddSet, AddField, Input as SetInput, Insert, Delete, Replace}
+use Rattle.paris_events.specs.State.{State, Row, find_row, place_of_spot}
+use Rattle.paris_events.specs.Edits.{fault_of_values, input_fault, insert_fault, delete_fault, replace_fault, content_fault, edit_fault}
 use Rattle.paris_names.specs.declared.limits.TheConstants.{MAX_EDITS, MAX_ROWS, MAX_SETS, MAX_FIELDS}
 use Rattle.paris_names.specs.Profiles.{max_width}
 

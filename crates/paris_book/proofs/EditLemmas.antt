@@ -8,8 +8,8 @@ use Rattle.paris_names.specs.Keys.{has_key}
 use Rattle.paris_model.specs.Instructions.{Plan, reads, writes}
 use Rattle.paris_model.specs.Recipe.{Recipe, chain, past, same}
 use Rattle.paris_model.specs.Recipe.Recipe.{Start, Made, End, And}
-use Rattle.paris_machine.specs.State.{Row}
-use Rattle.paris_machine.specs.Edits.{Known, row_recipe, past_row, known, unsettled, judged, set_first}
+use Rattle.paris_events.specs.State.{Row}
+use Rattle.paris_events.specs.Edits.{Known, row_recipe, past_row, known, unsettled, judged, set_first}
 use Rattle.paris_depends.specs.Changes.{Differ}
 use Rattle.paris_book.proofs.Swept.{swept}
 use Rattle.paris_program.specs.Program.{ids_of}
@@ -18,7 +18,7 @@ use Rattle.paris_book.specs.Marks.{writes_either}
 use Rattle.paris_book.specs.Entries.{Entry, machine_row}
 use Rattle.paris_depends.proofs.Recipes.{same_self}
 use Rattle.paris_book.proofs.Recipes.{past_all, judged_front, judged_swept}
-use Rattle.paris_machine.proofs.Tests.{or_first, or_second}
+use Rattle.paris_events.proofs.Tests.{or_first, or_second}
 
 -- the number of the edit that a recipe names first
 abbrev pub edit_of : Recipe → ℕ

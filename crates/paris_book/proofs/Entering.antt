@@ -8,12 +8,12 @@ use Rattle.paris_names.specs.declared.keys.Key.{Key}
 use Rattle.paris_program.specs.Program.{place_of, id_at, with_row, row_of}
 use Rattle.paris_program.proofs.CallerLemmas.{place_of-first}
 use Rattle.paris_depends.proofs.OriginLemmas.{origin-found}
-use Rattle.paris_machine.specs.State.{Row, find_id}
+use Rattle.paris_events.specs.State.{Row, find_id}
 use Rattle.paris_book.specs.Entries.{Entry, with_data, machine_row}
 use Rattle.paris_book.proofs.Among.{origin_among}
 use Rattle.paris_book.specs.Marks.{data_plan}
 use Rattle.paris_book.specs.Rows.{RowData}
-use Rattle.paris_machine.proofs.Finds.{none_of}
+use Rattle.paris_events.proofs.Finds.{none_of}
 
 -- what was found at a place twice is the same
 pub entry_same : (rows : List Entry) (i : ℕ) (r e : Entry) → slice_get rows i ≡ Some r → slice_get rows i ≡ Some e → r ≡ e

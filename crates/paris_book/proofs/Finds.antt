@@ -4,9 +4,9 @@ use Rattle.std.proofs.Math.Path.{ap₂}
 use Rattle.std.proofs.lemmas.Option.{slice_get-map}
 use Rattle.std.specs.Option.{option_map, unwrap_or}
 use Rattle.std.specs.List.{find, enumerate_from}
-use Rattle.paris_machine.specs.State.{Row, find_id}
+use Rattle.paris_events.specs.State.{Row, find_id}
 use Rattle.paris_book.specs.Entries.{Entry, machine_row}
-use Rattle.paris_machine.proofs.Finds.{find_at_place}
+use Rattle.paris_events.proofs.Finds.{find_at_place}
 
 -- the entry of an id that was found
 pub found_some : (i : ℕ) (es : List Entry) (k : ℕ) → Some k ≡ option_map (λ e. e.0) (find_id i (map machine_row es)) → (e : Entry) × (find_id i (map machine_row es) ≡ Some (k, machine_row e)) × (slice_get es k ≡ Some e)

@@ -6,10 +6,10 @@ use Rattle.paris_names.specs.declared.keys.Key.{Key}
 use Rattle.paris_names.specs.Keys.{has_key}
 use Rattle.paris_model.specs.Instructions.{Plan, writes}
 use Rattle.paris_model.specs.Recipe.{origin}
-use Rattle.paris_events.specs.Rows.{is_settled}
-use Rattle.paris_machine.specs.State.{Row, row_plan}
-use Rattle.paris_machine.specs.Orders.{is_firm}
-use Rattle.paris_machine.proofs.Tests.{all_more}
+use Rattle.paris_edits.specs.Rows.{is_settled}
+use Rattle.paris_events.specs.State.{Row, row_plan}
+use Rattle.paris_events.specs.Orders.{is_firm}
+use Rattle.paris_events.proofs.Tests.{all_more}
 
 -- a row in place of one with the same plan, settled where that was
 abbrev pub Firmer : Row → Row → Type 0

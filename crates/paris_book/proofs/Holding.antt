@@ -7,15 +7,15 @@ use Rattle.std.proofs.lemmas.List.Folds.{list_any-append}
 use Rattle.std.proofs.lemmas.Option.{slice_get-map, slice_get_within}
 use Rattle.std.specs.Option.{option_map, unwrap_or}
 use Rattle.paris_names.specs.declared.ids.RowId.{RowId}
-use Rattle.paris_events.specs.Rows.{is_settled}
-use Rattle.paris_events.specs.declared.rows.Status.{Status}
-use Rattle.paris_events.specs.declared.rows.Status.TheVariants.{Waiting, Out, Settled}
+use Rattle.paris_edits.specs.Rows.{is_settled}
+use Rattle.paris_edits.specs.declared.rows.Status.{Status}
+use Rattle.paris_edits.specs.declared.rows.Status.TheVariants.{Waiting, Out, Settled}
 use Rattle.paris_program.specs.Program.{Program, AreOwn, IsOwn, IsOwnRow, KeepsOwn, NoneWithin, place_of, place_in, id_at, with_row}
 use Rattle.paris_program.proofs.CallerLemmas.{row_there}
 use Rattle.paris_program.proofs.Owning.{own_found}
 use Rattle.paris_depends.specs.Index.{Footprint}
-use Rattle.paris_machine.specs.State.{Row, State}
-use Rattle.paris_machine.specs.Orders.{recalled_status}
+use Rattle.paris_events.specs.State.{Row, State}
+use Rattle.paris_events.specs.Orders.{recalled_status}
 use Rattle.paris_book.specs.Entries.{Entry, with_data}
 use Rattle.paris_book.specs.Indexed.{IsHeld, IsIndexed, IsUnsettledAt, is_unsettled_entry}
 use Rattle.paris_book.specs.Marks.{ids_in, is_among, recalled_data}

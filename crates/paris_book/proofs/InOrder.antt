@@ -3,16 +3,16 @@ use Rattle.std.proofs.Common.{◌≡◌, ℕ, ◌+◌, ◌<◌, ◌≤◌, List,
 use Rattle.std.proofs.Math.Path.{ap₂}
 use Rattle.std.proofs.lemmas.List.{take-set, length-set}
 use Rattle.std.specs.Prelude.{◌&&◌, ◌||◌, not}
-use Rattle.paris_events.specs.Rows.{is_settled}
-use Rattle.paris_machine.specs.State.{Row, State, IdsApart, row_ids}
-use Rattle.paris_machine.specs.Show.{now}
-use Rattle.paris_machine.specs.Orders.{IsIdle}
-use Rattle.paris_machine.specs.CutOff.{is_cut, cut_off, cut_found}
-use Rattle.paris_machine.specs.Settling.{due, run_row, settled_row, after_run, ran_orders, unsettled_rows}
-use Rattle.paris_machine.proofs.Runs.{are_settled, firm_before}
-use Rattle.paris_machine.proofs.OnePass.{pass_cuts, pass_runs}
-use Rattle.paris_machine.proofs.Ends.{none_are}
-use Rattle.paris_machine.proofs.Tests.{and_first, and_second}
+use Rattle.paris_edits.specs.Rows.{is_settled}
+use Rattle.paris_events.specs.State.{Row, State, IdsApart, row_ids}
+use Rattle.paris_events.specs.Show.{now}
+use Rattle.paris_events.specs.Orders.{IsIdle}
+use Rattle.paris_events.specs.CutOff.{is_cut, cut_off, cut_found}
+use Rattle.paris_events.specs.Settling.{due, run_row, settled_row, after_run, ran_orders, unsettled_rows}
+use Rattle.paris_events.proofs.Runs.{are_settled, firm_before}
+use Rattle.paris_events.proofs.OnePass.{pass_cuts, pass_runs}
+use Rattle.paris_events.proofs.Ends.{none_are}
+use Rattle.paris_events.proofs.Tests.{and_first, and_second}
 use Rattle.paris_book.specs.Statuses.{next_unsettled}
 use Rattle.paris_book.specs.Steps.{is_free, is_left, is_run, run_on, left_on, left_at, runs_on, runs_at, turned_on, turned_at}
 use Rattle.paris_book.specs.Rounds.{Advances}

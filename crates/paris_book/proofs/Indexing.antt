@@ -18,7 +18,7 @@ use Rattle.paris_book.specs.Indexed.{IsIndexed}
 use Rattle.paris_book.specs.Marks.{data_plan}
 use Rattle.paris_book.specs.Statuses.{status_in, statuses_of}
 use Rattle.paris_book.specs.Rows.{RowData}
-use Rattle.paris_events.specs.declared.rows.Status.{Status}
+use Rattle.paris_edits.specs.declared.rows.Status.{Status}
 
 module _ {X : Type 0} where
   put_there : (xs : List X) (i : ℕ) (x : X) → i ≤ length xs → slice_get (insert xs i x) i ≡ Some x

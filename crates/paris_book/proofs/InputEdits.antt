@@ -13,19 +13,19 @@ use Rattle.paris_names.specs.declared.limits.TheConstants.{MAX_EDITS}
 use Rattle.paris_names.proofs.KeyLists.{key_eq-true}
 use Rattle.paris_board.specs.Board.{Board}
 use Rattle.paris_model.specs.Recipe.{same}
-use Rattle.paris_machine.specs.State.{Row, Inputs, flag_input, with_flag_input, input_of, numbers_in, number_in, start_world, start_recipe, set_flags, with_input}
-use Rattle.paris_machine.specs.Edits.{known_rows, edited}
+use Rattle.paris_events.specs.State.{Row, Inputs, flag_input, with_flag_input, input_of, numbers_in, number_in, start_world, start_recipe, set_flags, with_input}
+use Rattle.paris_events.specs.Edits.{known_rows, edited}
 use Rattle.paris_depends.specs.Changes.{Differ}
 use Rattle.paris_book.proofs.Swept.{swept_entries}
 use Rattle.paris_book.specs.Whole.{input_shape, shape_in, InputsBelow, IsWhole}
 use Rattle.paris_book.specs.Entries.{Entry, machine_row}
-use Rattle.paris_machine.specs.declared.inputs.Input.{Input}
-use Rattle.paris_machine.specs.declared.inputs.FlagInputs.{FlagInputs}
+use Rattle.paris_events.specs.declared.inputs.Input.{Input}
+use Rattle.paris_events.specs.declared.inputs.FlagInputs.{FlagInputs}
 use Rattle.paris_depends.proofs.Recipes.{eqb_self}
 use Rattle.paris_book.proofs.Recipes.{judged_swept}
 use Rattle.paris_book.proofs.Values.{Agree, sound_swept, swept_rows}
 use Rattle.paris_book.proofs.EditLemmas.{same_new_start}
-use Rattle.paris_machine.proofs.Tests.{or_first}
+use Rattle.paris_events.proofs.Tests.{or_first}
 use Rattle.paris_book.proofs.Sourced.{all_stand, every_swept, sourced_from}
 use Rattle.paris_book.proofs.Inserts.{rows_up, rows_swept, inputs_up, ids_swept, start_below, fitted_up, fitted_swept, state_of}
 
@@ -127,7 +127,7 @@ input_differ n inputs k i j below there new f = by_test (key_eq f k) refl
         rw is (same_new_start (number_in (input_of inputs f)) (n + 1) (start_below n inputs f below))
     by_test false t = rw (input-set_other inputs k f i t) (eqb_self (number_in (input_of inputs f)))
 
-shape_stays : (inputs : Inputs) (k : Key) (i j : Input) → input_of inputs k ≡ Some j → i.value.width ≡ j.value.width → length i.value.numbers ≡ length j.value.numbers → (f : Key) → shape_in (with_input inputs k i) f ≡ shape_in inputs f
+pub shape_stays : (inputs : Inputs) (k : Key) (i j : Input) → input_of inputs k ≡ Some j → i.value.width ≡ j.value.width → length i.value.numbers ≡ length j.value.numbers → (f : Key) → shape_in (with_input inputs k i) f ≡ shape_in inputs f
 shape_stays inputs k i j there width count f =
     sym (by_key inputs k i j there input_shape f (λ x y. x ≡ y) (ap₂ (λ a b. Some (a, b)) (sym width) (sym count)) (λ x. refl))
 
@@ -138,11 +138,11 @@ numbers_up n inputs k i j there small below f = by_test (key_eq f k) refl
     by_test true t = subst (λ h. number_in (input_of (with_input inputs k i) h) ≤ n) (sym (key_eq-true f k t)) (rw (input-set_same inputs k i j there) small)
     by_test false t = rw (input-set_other inputs k f i t) (below f)
 
-fields_stay : (inputs : Inputs) (k : Key) (i : Input) → length (with_input inputs k i).fields ≡ length inputs.fields
+pub fields_stay : (inputs : Inputs) (k : Key) (i : Input) → length (with_input inputs k i).fields ≡ length inputs.fields
 fields_stay inputs (Field f) i = length-set inputs.fields f i
 fields_stay inputs (Flag s flag) i = refl
 
-flags_stay : (inputs : Inputs) (k : Key) (i : Input) → length (with_input inputs k i).flags ≡ length inputs.flags
+pub flags_stay : (inputs : Inputs) (k : Key) (i : Input) → length (with_input inputs k i).flags ≡ length inputs.flags
 flags_stay inputs (Field f) i = refl
 flags_stay inputs (Flag s flag) i = by_there (slice_get inputs.flags s)
   where

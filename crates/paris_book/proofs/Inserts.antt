@@ -12,9 +12,9 @@ use Rattle.paris_model.specs.Frame.{World}
 use Rattle.paris_model.specs.Instructions.{Plan, writes, one, key_width}
 use Rattle.paris_model.specs.Run.{run}
 use Rattle.paris_model.proofs.Worlds.{one_is}
-use Rattle.paris_events.specs.Rows.{is_settled}
-use Rattle.paris_machine.specs.State.{Row, Inputs, State, input_of, number_in, start_world, start_recipe}
-use Rattle.paris_machine.specs.Edits.{new_row, row_inserted}
+use Rattle.paris_edits.specs.Rows.{is_settled}
+use Rattle.paris_events.specs.State.{Row, Inputs, State, input_of, number_in, start_world, start_recipe}
+use Rattle.paris_events.specs.Edits.{new_row, row_inserted}
 use Rattle.paris_book.specs.Kept.{ripen, Right, Sound}
 use Rattle.paris_depends.specs.Sweeps.{touches, spread}
 use Rattle.paris_book.proofs.Swept.{swept, swept_entries}
@@ -26,8 +26,8 @@ use Rattle.paris_book.proofs.Values.{Agree, sound_swept, swept_rows}
 use Rattle.paris_book.proofs.Origins.{ripe, sound-take}
 use Rattle.paris_book.proofs.Recipes.{past_all}
 use Rattle.paris_book.proofs.EditLemmas.{judged_insert, below_all, Below}
-use Rattle.paris_machine.proofs.Tests.{or_first, or_second}
-use Rattle.paris_machine.specs.State.{IdsApart}
+use Rattle.paris_events.proofs.Tests.{or_first, or_second}
+use Rattle.paris_events.specs.State.{IdsApart}
 use Rattle.paris_book.proofs.Sourced.{Comes, Stands, all_stand, every_drop, every_join, every_stays, every_swept, every_take, no_news, none_told, sourced_from}
 
 pub sound-drop : (w : World) (h : Key → Bool) (es : List Entry) (p : ℕ) → Sound w h es → Sound (run w (map entry_plan (take p es))) (ripe h (take p es)) (drop p es)

@@ -13,12 +13,15 @@ pub mod Entering
 pub mod Finds
 pub mod Holding
 pub mod Firmer
+pub mod Founds
 pub mod InOrder
 pub mod Indexing
+pub mod Lawful
 pub mod InputEdits
 pub mod Inserts
 pub mod Listed
 pub mod Naming
+pub mod OrdersFor
 pub mod Origins
 pub mod OwnOrders
 pub mod Pending
@@ -41,6 +44,7 @@ pub mod Shows
 pub mod Slots
 pub mod Sourced
 pub mod Spans
+pub mod Stopping
 pub mod Sweeping
 pub mod Swept
 pub mod Takes

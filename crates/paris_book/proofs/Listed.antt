@@ -8,13 +8,13 @@ use Rattle.paris_board.specs.Board.{Board}
 use Rattle.paris_model.specs.declared.actions.Refusal.{Refusal}
 use Rattle.paris_model.specs.Frame.{World}
 use Rattle.paris_model.specs.Instructions.{one}
-use Rattle.paris_machine.specs.State.{Inputs, State, start_world}
-use Rattle.paris_machine.specs.Lists.{listed_in, list_of}
+use Rattle.paris_events.specs.State.{Inputs, State, start_world}
+use Rattle.paris_events.specs.Lists.{listed_in, list_of}
 use Rattle.paris_book.specs.Kept.{ripen, Sound}
 use Rattle.paris_book.specs.Whole.{IsWhole}
 use Rattle.paris_book.specs.Among.{listed_entry, looks_kept}
 use Rattle.paris_book.specs.Entries.{Entry, id_of, machine_row}
-use Rattle.paris_events.specs.declared.rows.RowLook.{RowLook}
+use Rattle.paris_edits.specs.declared.rows.RowLook.{RowLook}
 use Rattle.paris_book.proofs.Inserts.{state_of}
 use Rattle.paris_book.proofs.RefusedRows.{cause_is}
 

@@ -8,11 +8,11 @@ use Rattle.paris_names.specs.declared.ids.Edition.{Edition}
 use Rattle.paris_names.specs.declared.ids.RowId.{RowId}
 use Rattle.paris_names.specs.declared.keys.Key.{Key}
 use Rattle.paris_depends.specs.Sweeps.{touched, touches, spread}
-use Rattle.paris_machine.specs.State.{Row, State, start_world}
-use Rattle.paris_machine.specs.CutOff.{cut_off}
-use Rattle.paris_machine.proofs.Passes.{cut, from_start}
-use Rattle.paris_machine.proofs.Passing.{cut_off_is}
-use Rattle.paris_machine.proofs.AtRests.{editions_stay}
+use Rattle.paris_events.specs.State.{Row, State, start_world}
+use Rattle.paris_events.specs.CutOff.{cut_off}
+use Rattle.paris_events.proofs.Passes.{cut, from_start}
+use Rattle.paris_events.proofs.Passing.{cut_off_is}
+use Rattle.paris_events.proofs.AtRests.{editions_stay}
 use Rattle.paris_book.specs.Entries.{Entry, machine_row, with_data}
 use Rattle.paris_book.specs.Marks.{data_plan, ids_in, stale_data}
 use Rattle.paris_book.specs.MostRead.{most_read}

@@ -18,9 +18,9 @@ use Rattle.paris_model.specs.Instructions.{Plan, reads, writes, given, key_width
 use Rattle.paris_model.specs.Recipe.{origin}
 use Rattle.paris_field.specs.Fields.{FieldNumbers, field_eq}
 use Rattle.paris_exec.specs.Tasks.{Task, numbers_of, field_of, task_value}
-use Rattle.paris_events.specs.Rows.{is_settled}
-use Rattle.paris_machine.specs.State.{Inputs, IdsApart, input_of, number_in, numbers_in, start_world}
-use Rattle.paris_machine.specs.declared.inputs.Input.{Input}
+use Rattle.paris_edits.specs.Rows.{is_settled}
+use Rattle.paris_events.specs.State.{Inputs, IdsApart, input_of, number_in, numbers_in, start_world}
+use Rattle.paris_events.specs.declared.inputs.Input.{Input}
 use Rattle.paris_program.specs.Program.{ids_of}
 use Rattle.paris_book.specs.Among.{width_in_shape}
 use Rattle.paris_book.specs.Entries.{Entry, id_of, entry_plan}

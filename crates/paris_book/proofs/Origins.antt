@@ -8,7 +8,7 @@ use Rattle.paris_model.specs.Instructions.{Plan, reads, writes, one, given}
 use Rattle.paris_model.specs.Run.{run}
 use Rattle.paris_model.specs.Recipe.{origin}
 use Rattle.paris_model.proofs.Worlds.{one_is}
-use Rattle.paris_events.specs.Rows.{is_settled}
+use Rattle.paris_edits.specs.Rows.{is_settled}
 use Rattle.paris_book.specs.Kept.{last_kept, ripen, Sound}
 use Rattle.paris_book.specs.Entries.{Entry, entry_plan}
 

@@ -9,11 +9,11 @@ use Rattle.paris_model.specs.Frame.{World}
 use Rattle.paris_model.specs.Instructions.{reads}
 use Rattle.paris_names.specs.declared.ids.Edition.{Edition}
 use Rattle.paris_exec.specs.Tasks.{Task}
-use Rattle.paris_events.specs.Rows.{is_settled}
-use Rattle.paris_events.specs.declared.rows.Status.TheVariants.{Settled}
-use Rattle.paris_machine.specs.State.{Row, Inputs, State, Work, work_of}
-use Rattle.paris_machine.specs.Show.{now}
-use Rattle.paris_machine.specs.Settling.{work_in}
+use Rattle.paris_edits.specs.Rows.{is_settled}
+use Rattle.paris_edits.specs.declared.rows.Status.TheVariants.{Settled}
+use Rattle.paris_events.specs.State.{Row, Inputs, State, Work, work_of}
+use Rattle.paris_events.specs.Show.{now}
+use Rattle.paris_events.specs.Settling.{work_in}
 use Rattle.paris_book.specs.Marks.{kept_data}
 use Rattle.paris_book.specs.Entries.{Entry, machine_row, with_data, seen}
 use Rattle.paris_book.proofs.Among.{firm_among, order_among}

@@ -12,12 +12,12 @@ use Rattle.paris_model.specs.Instructions.{reads, writes}
 use Rattle.paris_model.specs.Recipe.{origin}
 use Rattle.paris_depends.specs.Sweeps.{marked}
 use Rattle.paris_depends.proofs.OriginLemmas.{origin-push}
-use Rattle.paris_events.specs.Rows.{is_settled, is_waiting}
-use Rattle.paris_machine.specs.Orders.{is_firm}
+use Rattle.paris_edits.specs.Rows.{is_settled, is_waiting}
+use Rattle.paris_events.specs.Orders.{is_firm}
 use Rattle.paris_book.specs.Entries.{Entry, entry_plan, machine_row}
 use Rattle.paris_book.proofs.Among.{firm_among, ready_among, next_among}
-use Rattle.paris_machine.proofs.Runs.{are_settled, none_ready}
-use Rattle.paris_machine.proofs.Tests.{and_first, and_second}
+use Rattle.paris_events.proofs.Runs.{are_settled, none_ready}
+use Rattle.paris_events.proofs.Tests.{and_first, and_second}
 
 -- a key is firm just after a row where the row is settled, if it writes the key, and else where it was before
 pub firm_past : (es : List Entry) (i : ℕ) (e : Entry) (k : Key) → slice_get es i ≡ Some e → firm_among es (i + 1) k ≡ cond (has_key (writes e.1.plan) k) (is_settled e.1.status) (firm_among es i k)

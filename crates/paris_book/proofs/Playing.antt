@@ -1,10 +1,10 @@
 -- A schedule, one move after another, and the events that its moves stand for.
 use Rattle.std.proofs.Common.{◌≡◌, List, [], ◌∷◌, ◌++◌, Option, Some, None, refl, sym, ap, ◌∙◌}
-use Rattle.paris_machine.specs.State.{State}
-use Rattle.paris_machine.specs.Events.{after_all}
-use Rattle.paris_machine.specs.declared.events.Event.{Event}
-use Rattle.paris_machine.specs.declared.moves.Move.{Move}
-use Rattle.paris_machine.specs.Plays.{Play, event_of, after_event, reply_to_move, after_move, replies_to_moves, after_moves, events_here, events_of}
+use Rattle.paris_events.specs.State.{State}
+use Rattle.paris_events.specs.Events.{after_all}
+use Rattle.paris_events.specs.declared.events.Event.{Event}
+use Rattle.paris_events.specs.declared.moves.Move.{Move}
+use Rattle.paris_events.specs.Plays.{Play, event_of, after_event, reply_to_move, after_move, replies_to_moves, after_moves, events_here, events_of}
 use Rattle.paris_book.proofs.Runs.{after-append}
 
 pub move_replies-append : (p : Play) (xs ys : List Move) → replies_to_moves p (xs ++ ys) ≡ replies_to_moves p xs ++ replies_to_moves (after_moves p xs) ys

@@ -6,10 +6,10 @@ use Rattle.std.specs.Option.{option_map}
 use Rattle.paris_names.specs.declared.ids.RowId.{RowId}
 use Rattle.paris_board.specs.Board.{Board}
 use Rattle.paris_exec.specs.Tasks.{Task}
-use Rattle.paris_machine.specs.Orders.{next_ready, order_of, take_reply}
-use Rattle.paris_machine.specs.Settling.{after_run, ran_orders}
-use Rattle.paris_machine.specs.State.{Inputs, Row, State}
-use Rattle.paris_machine.proofs.Tests.{and_second}
+use Rattle.paris_events.specs.Orders.{next_ready, order_of, take_reply}
+use Rattle.paris_events.specs.Settling.{after_run, ran_orders}
+use Rattle.paris_events.specs.State.{Inputs, Row, State}
+use Rattle.paris_events.proofs.Tests.{and_second}
 use Rattle.paris_book.specs.Entries.{Entry, machine_row, rows_seen}
 use Rattle.paris_book.specs.RanIds.{id_ordered, ran_ids, turned_ids}
 use Rattle.paris_book.specs.Steps.{is_free, is_left, is_run, order_on, runs_at, runs_on, turn_order, turned_at}

@@ -6,15 +6,15 @@ use Rattle.std.specs.List.{list_all, enumerate_from}
 use Rattle.paris_board.specs.Board.{Board}
 use Rattle.paris_model.specs.Instructions.{reads}
 use Rattle.paris_exec.specs.Tasks.{Task}
-use Rattle.paris_events.specs.Rows.{is_waiting}
-use Rattle.paris_machine.specs.State.{Row, Inputs, State, IdsApart, row_ids}
-use Rattle.paris_machine.specs.Show.{now, origin_at}
-use Rattle.paris_machine.specs.Orders.{is_firm, is_ready, next_ready, order_of, take_reply, taken, after_take}
-use Rattle.paris_machine.specs.CutOff.{IsAtRest, cut_off}
-use Rattle.paris_machine.specs.Settling.{run_row, brought_back, after_run}
-use Rattle.paris_machine.proofs.Rests.{take_stays, bring_stays}
-use Rattle.paris_machine.proofs.Runs.{ready_run_is}
-use Rattle.paris_machine.proofs.Tests.{and_second}
+use Rattle.paris_edits.specs.Rows.{is_waiting}
+use Rattle.paris_events.specs.State.{Row, Inputs, State, IdsApart, row_ids}
+use Rattle.paris_events.specs.Show.{now, origin_at}
+use Rattle.paris_events.specs.Orders.{is_firm, is_ready, next_ready, order_of, take_reply, taken, after_take}
+use Rattle.paris_events.specs.CutOff.{IsAtRest, cut_off}
+use Rattle.paris_events.specs.Settling.{run_row, brought_back, after_run}
+use Rattle.paris_events.proofs.Rests.{take_stays, bring_stays}
+use Rattle.paris_events.proofs.Runs.{ready_run_is}
+use Rattle.paris_events.proofs.Tests.{and_second}
 use Rattle.paris_book.specs.Entries.{Entry, machine_row, rows_seen}
 use Rattle.paris_book.specs.Steps.{WasSettled, order_on, own_order, run_on, run_at}
 use Rattle.paris_book.proofs.Finds.{found_passes, row_at}

@@ -3,15 +3,15 @@ use Rattle.std.proofs.Common.{◌≡◌, ℕ, ◌+◌, List, [], ◌∷◌, Bool
 use Rattle.std.proofs.Math.Path.{ap₂}
 use Rattle.std.proofs.lemmas.List.{length-map}
 use Rattle.std.specs.List.{list_all}
-use Rattle.paris_events.specs.declared.rows.Status.{Status}
-use Rattle.paris_events.specs.declared.rows.Status.TheVariants.{Waiting, Out, Settled}
-use Rattle.paris_machine.specs.State.{Row}
-use Rattle.paris_machine.specs.Orders.{recalled_status}
+use Rattle.paris_edits.specs.declared.rows.Status.{Status}
+use Rattle.paris_edits.specs.declared.rows.Status.TheVariants.{Waiting, Out, Settled}
+use Rattle.paris_events.specs.State.{Row}
+use Rattle.paris_events.specs.Orders.{recalled_status}
 use Rattle.paris_book.specs.Entries.{Entry, machine_row, with_data, ChangedAt}
 use Rattle.paris_book.specs.Marks.{recalled_data}
 use Rattle.paris_book.specs.Statuses.{is_unsettled, next_unsettled}
 use Rattle.paris_book.proofs.Searches.{search_found, search_none}
-use Rattle.paris_machine.proofs.Tests.{and_first, and_second}
+use Rattle.paris_events.proofs.Tests.{and_first, and_second}
 
 abbrev is_calm : Status → Bool
 is_calm Waiting = true

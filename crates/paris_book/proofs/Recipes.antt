@@ -6,8 +6,8 @@ use Rattle.paris_model.specs.Recipe.{Recipe}
 use Rattle.paris_depends.specs.Changes.{Differ}
 use Rattle.paris_depends.specs.Sweeps.{touches, spread}
 use Rattle.paris_depends.proofs.Recipes.{same_self, recipe_same, past_differ}
-use Rattle.paris_machine.specs.State.{Row}
-use Rattle.paris_machine.specs.Edits.{Known, row_recipe, past_row, known, unsettled, judged}
+use Rattle.paris_events.specs.State.{Row}
+use Rattle.paris_events.specs.Edits.{Known, row_recipe, past_row, known, unsettled, judged}
 use Rattle.paris_book.proofs.Swept.{swept}
 
 -- the recipe of each key's origin after rows

@@ -12,9 +12,9 @@ use Rattle.paris_model.specs.Instructions.{Plan, reads, refusal, one, value_at, 
 use Rattle.paris_field.specs.Fields.{FieldNumbers}
 use Rattle.paris_exec.specs.Tasks.{Task, numbers_of, result_told}
 use Rattle.paris_exec.specs.declared.orders.Outcome.TheVariants.{Values, Refused}
-use Rattle.paris_events.specs.Rows.{is_settled}
-use Rattle.paris_machine.specs.State.{Inputs, State, start_world}
-use Rattle.paris_machine.specs.Lists.{cause_in, fault_by, faults_in, faults_of}
+use Rattle.paris_edits.specs.Rows.{is_settled}
+use Rattle.paris_events.specs.State.{Inputs, State, start_world}
+use Rattle.paris_events.specs.Lists.{cause_in, fault_by, faults_in, faults_of}
 use Rattle.paris_book.specs.Kept.{last_kept, ripen, Right, Sound}
 use Rattle.paris_book.specs.Whole.{IsWhole}
 use Rattle.paris_book.specs.Among.{cause_told, cause_kept, faults_kept}

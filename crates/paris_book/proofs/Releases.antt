@@ -6,15 +6,15 @@ use Rattle.paris_names.specs.Keys.{has_key}
 use Rattle.paris_board.specs.Board.{Board}
 use Rattle.paris_model.specs.Frame.{World}
 use Rattle.paris_model.specs.Instructions.{writes, one}
-use Rattle.paris_events.specs.Rows.{is_settled}
-use Rattle.paris_machine.specs.State.{Row, Inputs, State, start_world}
-use Rattle.paris_machine.specs.Orders.{recalled_status, recalled_row, after_release}
+use Rattle.paris_edits.specs.Rows.{is_settled}
+use Rattle.paris_events.specs.State.{Row, Inputs, State, start_world}
+use Rattle.paris_events.specs.Orders.{recalled_status, recalled_row, after_release}
 use Rattle.paris_book.specs.Kept.{ripen, Sound}
 use Rattle.paris_book.specs.Whole.{RowsBelow, AllFitted, IsWhole}
 use Rattle.paris_book.specs.Entries.{Entry, machine_row, with_data}
 use Rattle.paris_book.specs.Marks.{recalled_data}
-use Rattle.paris_events.specs.declared.rows.Status.{Status}
-use Rattle.paris_events.specs.declared.rows.Status.TheVariants.{Waiting, Out, Settled}
+use Rattle.paris_edits.specs.declared.rows.Status.{Status}
+use Rattle.paris_edits.specs.declared.rows.Status.TheVariants.{Waiting, Out, Settled}
 use Rattle.paris_book.proofs.Inserts.{state_of}
 use Rattle.paris_book.proofs.Settling.{sound_more}
 use Rattle.paris_book.proofs.Sourced.{Comes, Every, Stands, all_stand, no_news, sourced_from}

@@ -2,7 +2,7 @@
 use Rattle.std.proofs.Common.{◌≡◌, ℕ, List, [], ◌∷◌, refl, sym, ap, ◌∙◌, subst, map, length}
 use Rattle.std.proofs.lemmas.List.{length-map}
 use Rattle.paris_board.specs.Board.{Board}
-use Rattle.paris_machine.specs.State.{Inputs, State, IdsApart, row_ids}
+use Rattle.paris_events.specs.State.{Inputs, State, IdsApart, row_ids}
 use Rattle.paris_program.specs.Program.{ids_of}
 use Rattle.paris_book.specs.Whole.{IsWhole}
 use Rattle.paris_book.specs.Entries.{Entry, machine_row}

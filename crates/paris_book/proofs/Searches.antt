@@ -5,14 +5,14 @@ use Rattle.std.specs.List.{list_all, position_from, count_by}
 use Rattle.std.proofs.lemmas.List.{length-map}
 use Rattle.std.proofs.lemmas.List.Sums.{sum_by-cons}
 use Rattle.std.proofs.lemmas.Option.{slice_get_within}
-use Rattle.paris_events.specs.Rows.{is_settled}
-use Rattle.paris_events.specs.declared.rows.Status.{Status}
-use Rattle.paris_machine.specs.State.{Row}
-use Rattle.paris_machine.specs.Settling.{unsettled_rows}
+use Rattle.paris_edits.specs.Rows.{is_settled}
+use Rattle.paris_edits.specs.declared.rows.Status.{Status}
+use Rattle.paris_events.specs.State.{Row}
+use Rattle.paris_events.specs.Settling.{unsettled_rows}
 use Rattle.paris_book.specs.Entries.{Entry, machine_row}
 use Rattle.paris_book.specs.Statuses.{statuses_of, is_unsettled, first_unsettled, next_unsettled}
-use Rattle.paris_machine.proofs.Runs.{are_settled}
-use Rattle.paris_machine.proofs.Tests.{and_first, and_second}
+use Rattle.paris_events.proofs.Runs.{are_settled}
+use Rattle.paris_events.proofs.Tests.{and_first, and_second}
 
 module _ {X : Type 0} where
   drop_at : (xs : List X) (i : ℕ) (x : X) → slice_get xs i ≡ Some x → drop i xs ≡ x ∷ drop (suc i) xs

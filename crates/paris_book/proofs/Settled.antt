@@ -6,23 +6,24 @@ use Rattle.std.specs.Option.{option_map}
 use Rattle.paris_names.specs.declared.keys.Key.{Key}
 use Rattle.paris_model.specs.Frame.{World}
 use Rattle.paris_model.specs.Instructions.{one}
-use Rattle.paris_events.specs.Rows.{is_settled, is_waiting}
-use Rattle.paris_events.specs.declared.rows.Status.{Status}
-use Rattle.paris_events.specs.declared.rows.Status.TheVariants.{Waiting, Out, Settled}
-use Rattle.paris_machine.specs.State.{Row, State, start_world}
-use Rattle.paris_machine.specs.Orders.{IsIdle, recalled_status, recalled_row, after_release}
-use Rattle.paris_machine.specs.CutOff.{cut_off, IsAtRest}
-use Rattle.paris_machine.specs.Settling.{due, all_settled, settled_row, unsettled_rows}
-use Rattle.paris_machine.proofs.Passes.{cut, cut_row, is_cut_in, firm_after, from_start}
-use Rattle.paris_machine.proofs.Passing.{cut_off_is}
-use Rattle.paris_machine.proofs.Counting.{due_cut, settled_in-cut}
-use Rattle.paris_machine.proofs.Absorbing.{none_unsettled}
-use Rattle.paris_machine.proofs.Spanning.{settled_rest}
-use Rattle.paris_machine.proofs.Runs.{are_settled}
-use Rattle.paris_machine.proofs.OnePass.{stays}
-use Rattle.paris_machine.proofs.Ends.{due_recalled, settled_recalled, idle_recalled, idle_cut}
-use Rattle.paris_machine.proofs.Rests.{at_rest, release_rests, off_rests, off_stays}
-use Rattle.paris_book.specs.Rounds.{StaySettled, OutAreFirm}
+use Rattle.paris_edits.specs.Rows.{is_settled}
+use Rattle.paris_edits.specs.declared.rows.Status.{Status}
+use Rattle.paris_edits.specs.declared.rows.Status.TheVariants.{Waiting, Out, Settled}
+use Rattle.paris_events.specs.State.{Row, State, start_world}
+use Rattle.paris_events.specs.Orders.{IsIdle, recalled_status, recalled_row, after_release}
+use Rattle.paris_events.specs.CutOff.{cut_off, IsAtRest}
+use Rattle.paris_events.specs.Settling.{due, all_settled, settled_row, unsettled_rows}
+use Rattle.paris_events.proofs.Passes.{cut, cut_row, is_cut_in, firm_after, from_start}
+use Rattle.paris_events.proofs.Passing.{cut_off_is}
+use Rattle.paris_events.proofs.Counting.{due_cut, settled_in-cut}
+use Rattle.paris_events.proofs.Absorbing.{none_unsettled}
+use Rattle.paris_events.proofs.Spanning.{settled_rest}
+use Rattle.paris_events.proofs.Runs.{are_settled}
+use Rattle.paris_events.proofs.OnePass.{stays}
+use Rattle.paris_events.proofs.Ends.{due_recalled, settled_recalled, idle_recalled, idle_cut}
+use Rattle.paris_events.proofs.Rests.{at_rest, release_rests, off_rests, off_stays}
+use Rattle.paris_book.specs.Rounds.{StaySettled}
+use Rattle.paris_book.specs.Stopped.{StayUnsettled}
 use Rattle.paris_book.proofs.Releases.{settled_same}
 
 -- ---- a release
@@ -41,27 +42,6 @@ stay_recalled rows place r at settled = slice_get-map recalled_row rows place �
 count_recalled : (rs : List Row) → unsettled_rows (map recalled_row rs) ≡ unsettled_rows rs
 count_recalled [] = refl
 count_recalled (r ∷ rs) = ap₂ (λ b n. cond b 0 1 + n) (settled_same r.status) (count_recalled rs)
-
--- a release changes nothing where no row is out
-idle_same : (rows : List Row) → IsIdle rows → map recalled_row rows ≡ rows
-idle_same [] i = refl
-idle_same (r ∷ rows) i = ap₂ (λ (x : Row) xs. x ∷ xs) (ap (λ (s : Status). record r { status = s }) (by_status r.status i.0)) (idle_same rows i.1)
-  where
-    by_status : (s : Status) → (is_settled s ≡ false → is_waiting s ≡ true) → recalled_status s ≡ s
-    by_status Waiting h = refl
-    by_status Out h = absurd (let x : false ≡ true = h refl in cc)
-    by_status Settled h = refl
-
--- where no row is out, those that are have settled origins
-never_out : (rows : List Row) (place : ℕ) (r : Row) → IsIdle rows → slice_get rows place ≡ Some r → r.status ≡ Out → ⊥
-never_out [] place r i at out = absurd (cc)
-never_out (x ∷ rows) zero r i at out = let same : x ≡ r = cc in by_status x.status i.0 (ap (λ (z : Row). z.status) same ∙ out)
-  where
-    by_status : (s : Status) → (is_settled s ≡ false → is_waiting s ≡ true) → s ≡ Out → ⊥
-    by_status Waiting h e = (cc)
-    by_status Out h e = let x : false ≡ true = h refl in (cc)
-    by_status Settled h e = (cc)
-never_out (x ∷ rows) (suc place) r i at out = never_out rows place r i.1 at out
 
 -- what stays of a state when its orders are given up
 pub record Released (s t : State) : Type 0 where
@@ -105,12 +85,26 @@ stay_cut w h (x ∷ rs) zero r at settled =
     ap Some (stays w h x (ap (λ (z : Row). is_settled z.status) same ∙ settled)) ∙ at
 stay_cut w h (x ∷ rs) (suc place) r at settled = stay_cut (one x.plan w) (firm_after h (cut_row w h x)) rs place r at settled
 
+-- what is still unsettled behind a pass
+unsettled_cut : (w : World) (h : Key → Bool) (rs : List Row) → StayUnsettled rs (cut w h rs)
+unsettled_cut w h [] place r at u = at
+unsettled_cut w h (x ∷ rs) zero r at u = by_test (is_cut_in w h x) at
+  where
+    by_test : (b : Bool) → Some (cond b (settled_row x) x) ≡ Some r → Some x ≡ Some r
+    by_test true e =
+        let same : settled_row x ≡ r = cc in
+        let wrong : true ≡ false = ap (λ (z : Row). is_settled z.status) same ∙ u in
+        absurd (cc)
+    by_test false e = e
+unsettled_cut w h (x ∷ rs) (suc place) r at u = unsettled_cut (one x.plan w) (firm_after h (cut_row w h x)) rs place r at u
+
 -- what stays of a state behind a pass
 pub record Cut (s t : State) : Type 0 where
   pub due : due t ≡ due s
   pub rows : unsettled_rows t.rows ≤ unsettled_rows s.rows
   pub same : all_settled t ≡ all_settled s
   pub stay : StaySettled s.rows t.rows
+  pub unsettled : StayUnsettled s.rows t.rows
   pub idle : IsIdle s.rows → IsIdle t.rows
   pub rests : IsAtRest t
 
@@ -122,6 +116,7 @@ cut_leaves s =
       rows = cut_few w from_start s.rows;
       same = ap (λ (rs : List Row). record s { rows = rs }) (settled_in-cut w from_start s.rows);
       stay = stay_cut w from_start s.rows;
+      unsettled = unsettled_cut w from_start s.rows;
       idle = idle_cut w from_start s.rows;
       rests = subst IsAtRest (cut_off_is s) (off_stays (cut_off s) (off_rests s));
     })
@@ -151,10 +146,3 @@ none_left s h =
       due = none.0;
       ends = ap (λ (rs : List Row). record s { rows = rs }) (sym none.1);
     }
-
--- where no row is out, a release changes nothing, and the rows that are out have settled origins
-pub idle_released : (s : State) → IsIdle s.rows → after_release s ≡ s
-idle_released s i = ap (λ (rs : List Row). record s { rows = rs }) (idle_same s.rows i)
-
-pub idle_firm : (s : State) → IsIdle s.rows → OutAreFirm s
-idle_firm s i place r at out = absurd (never_out s.rows place r i at out)

@@ -15,10 +15,10 @@ use Rattle.paris_model.specs.Run.{run}
 use Rattle.paris_instr.specs.PlanEq.{plan_eq}
 use Rattle.paris_field.specs.Fields.{FieldNumbers, field_eq}
 use Rattle.paris_exec.specs.Tasks.{Task, numbers_of, field_of}
-use Rattle.paris_events.specs.Rows.{is_settled}
-use Rattle.paris_events.specs.declared.rows.Status.TheVariants.{Settled}
-use Rattle.paris_machine.specs.State.{Inputs, start_world, work_of}
-use Rattle.paris_machine.specs.Orders.{is_firm}
+use Rattle.paris_edits.specs.Rows.{is_settled}
+use Rattle.paris_edits.specs.declared.rows.Status.TheVariants.{Settled}
+use Rattle.paris_events.specs.State.{Inputs, start_world, work_of}
+use Rattle.paris_events.specs.Orders.{is_firm}
 use Rattle.paris_names.specs.declared.ids.Edition.{Edition}
 use Rattle.paris_book.specs.Marks.{out_data, kept_data, again_data}
 use Rattle.paris_book.specs.Sources.{AreSources, NamesResult}
@@ -29,15 +29,15 @@ use Rattle.paris_book.specs.Kept.{ripen, Sound, present}
 use Rattle.paris_program.specs.Program.{ids_of}
 use Rattle.paris_book.specs.Whole.{RowsBelow, Fitted, AllFitted, IsWhole}
 use Rattle.paris_book.specs.Entries.{Entry, entry_plan, machine_row, with_data, seen}
-use Rattle.paris_events.specs.declared.verdicts.Verdict.TheVariants.{Stale, Repeated, Foreign, Kept}
+use Rattle.paris_edits.specs.declared.verdicts.Verdict.TheVariants.{Stale, Repeated, Foreign, Kept}
 use Rattle.paris_book.proofs.Among.{origin_among, firm_among, inputs_among, present_among}
 use Rattle.std.proofs.lemmas.Slice.Eq.{bytes_eq-Decides}
 use Rattle.paris_book.proofs.Origins.{ripe, ripe_is, is_firm_or}
 use Rattle.paris_book.proofs.Inserts.{right_unsettled}
-use Rattle.paris_machine.proofs.Tests.{and_first, and_second, all_more}
+use Rattle.paris_events.proofs.Tests.{and_first, and_second, all_more}
 use Rattle.paris_book.proofs.Shows.{fitted_at, present_seen}
-use Rattle.paris_machine.specs.CutOff.{is_present, is_cut, is_last_present}
-use Rattle.paris_machine.specs.Results.{verdict_at}
+use Rattle.paris_events.specs.CutOff.{is_present, is_cut, is_last_present}
+use Rattle.paris_events.specs.Results.{verdict_at}
 
 ripen_more : (h h' : Key → Bool) (e : Entry) → ((f : Key) → h f ≡ true → h' f ≡ true) → (f : Key) → ripen h e f ≡ true → ripen h' e f ≡ true
 unfolding ripen

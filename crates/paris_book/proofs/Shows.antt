@@ -20,15 +20,15 @@ use Rattle.paris_model.specs.Run.{run}
 use Rattle.paris_model.specs.Recipe.{origin, same}
 use Rattle.paris_field.specs.Fields.{FieldNumbers, field_eq}
 use Rattle.paris_exec.specs.Tasks.{Task, numbers_of, field_of, fits_key, fits_keys, task_value}
-use Rattle.paris_events.specs.Rows.{is_settled}
-use Rattle.paris_machine.specs.State.{Row, Inputs, input_of, numbers_in, start_world, row_plan, work_of}
-use Rattle.paris_machine.specs.Show.{now, origin_at, shown_of, show_at}
-use Rattle.paris_machine.specs.Orders.{is_firm, inputs_now}
+use Rattle.paris_edits.specs.Rows.{is_settled}
+use Rattle.paris_events.specs.State.{Row, Inputs, input_of, numbers_in, start_world, row_plan, work_of}
+use Rattle.paris_events.specs.Show.{now, origin_at, shown_of, show_at}
+use Rattle.paris_events.specs.Orders.{is_firm, inputs_now}
 use Rattle.paris_book.specs.Kept.{last_kept, Sound, present}
 use Rattle.paris_book.specs.Whole.{shape_on, input_shape, shape_in, Shaped, Fitted, AllFitted}
 use Rattle.paris_book.specs.Entries.{Entry, id_of, entry_plan, machine_row, seen, rows_seen}
-use Rattle.paris_machine.specs.declared.inputs.Input.{Input}
-use Rattle.paris_machine.specs.declared.events.Shown.TheVariants.{Settled as ShownSettled, Pending}
+use Rattle.paris_events.specs.declared.inputs.Input.{Input}
+use Rattle.paris_events.specs.declared.events.Shown.TheVariants.{Settled as ShownSettled, Pending}
 use Rattle.paris_book.specs.Among.{width_in_shape, shared_shown, LookFits, shown_at}
 use Rattle.paris_book.proofs.Among.{origin_among, value_among, look_among, firm_among, inputs_among, present_among}
 use Rattle.paris_book.proofs.Origins.{origin-map, sound-take, Tells, origin_tells}
@@ -38,7 +38,7 @@ use Rattle.paris_book.specs.declared.look.SharedLook.TheVariants.{Settled as Loo
 use Rattle.paris_book.proofs.Inserts.{state_of}
 use Rattle.std.specs.Cmp.Lexicographic.{pointwise}
 use Rattle.paris_instr.specs.PlanEq.{plan_eq}
-use Rattle.paris_machine.specs.CutOff.{is_present}
+use Rattle.paris_events.specs.CutOff.{is_present}
 
 pub map-row : (es : List Entry) → map row_plan (map machine_row es) ≡ map entry_plan es
 map-row [] = refl

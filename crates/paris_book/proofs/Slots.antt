@@ -1,7 +1,7 @@
 -- The slots of a level: orders, and then their results.
 use Rattle.std.proofs.Common.{◌≡◌, ℕ, ◌<◌, List, [], ◌∷◌, ◌++◌, ap, ◌∙◌, sym, subst, arith, take, drop, length, suc, slice_index_or}
 use Rattle.std.proofs.Math.Seq.{take-append_seam}
-use Rattle.paris_machine.specs.State.{State}
+use Rattle.paris_events.specs.State.{State}
 use Rattle.paris_book.specs.Rounds.{Advances, HasRun, HoldsTask, HoldsOrder, HoldOrders, HoldResults}
 use Rattle.paris_book.specs.declared.rounds.Slot.{Slot}
 use Rattle.paris_book.proofs.Advancing.{task_stays}

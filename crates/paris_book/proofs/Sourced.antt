@@ -5,9 +5,9 @@ use Rattle.std.specs.Prelude.{replicate}
 use Rattle.paris_names.specs.declared.keys.Key.{Key}
 use Rattle.paris_names.specs.declared.ids.Edition.{Edition}
 use Rattle.paris_exec.specs.Tasks.{Task}
-use Rattle.paris_events.specs.Rows.{is_settled}
-use Rattle.paris_machine.specs.State.{Inputs, input_of}
-use Rattle.paris_machine.specs.declared.inputs.Input.{Input}
+use Rattle.paris_edits.specs.Rows.{is_settled}
+use Rattle.paris_events.specs.State.{Inputs, input_of}
+use Rattle.paris_events.specs.declared.inputs.Input.{Input}
 use Rattle.paris_depends.specs.Sweeps.{touches, spread}
 use Rattle.paris_book.specs.Entries.{Entry, id_of, with_data}
 use Rattle.paris_book.specs.Marks.{stale_data}

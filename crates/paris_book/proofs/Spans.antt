@@ -6,7 +6,7 @@ use Rattle.std.proofs.lemmas.List.Edits.{length-insert, length-remove}
 use Rattle.paris_names.specs.declared.limits.TheConstants.{MAX_ROWS}
 use Rattle.std.proofs.lemmas.List.Sums.{sum_by-cons, sum_by-set, sum_by-insert, sum_by-remove, count_by-le-length}
 use Rattle.std.proofs.lemmas.Option.{slice_get_within, get_or_from_slice_get}
-use Rattle.paris_events.specs.declared.rows.Status.{Status}
+use Rattle.paris_edits.specs.declared.rows.Status.{Status}
 use Rattle.paris_book.specs.Statuses.{IsInSpan, IsSpanned, is_unsettled, first_unsettled}
 use Rattle.paris_book.specs.declared.statuses.Span.{Span}
 

@@ -13,16 +13,16 @@ use Rattle.paris_model.specs.Instructions.{Plan, reads, writes}
 use Rattle.paris_model.specs.Run.{run}
 use Rattle.paris_model.specs.Recipe.{origin}
 use Rattle.paris_depends.specs.Sweeps.{touches}
-use Rattle.paris_events.specs.Rows.{is_settled}
-use Rattle.paris_machine.specs.State.{Row, State, row_plan, start_world}
-use Rattle.paris_machine.specs.Show.{now, origin_at}
-use Rattle.paris_machine.specs.Orders.{is_firm}
-use Rattle.paris_machine.specs.CutOff.{is_cut, cut_found, cut_at, cut_to, cut_off, IsAtRest}
-use Rattle.paris_machine.specs.Settling.{is_same, settled_row}
-use Rattle.paris_machine.proofs.Passes.{is_cut_in, firm_after, from_start}
-use Rattle.paris_machine.proofs.Passing.{firm_behind, firm_start, firm_more, test_is}
-use Rattle.paris_machine.proofs.Ends.{rests_at, world_is}
-use Rattle.paris_machine.proofs.Rests.{at_rest}
+use Rattle.paris_edits.specs.Rows.{is_settled}
+use Rattle.paris_events.specs.State.{Row, State, row_plan, start_world}
+use Rattle.paris_events.specs.Show.{now, origin_at}
+use Rattle.paris_events.specs.Orders.{is_firm}
+use Rattle.paris_events.specs.CutOff.{is_cut, cut_found, cut_at, cut_to, cut_off, IsAtRest}
+use Rattle.paris_events.specs.Settling.{is_same, settled_row}
+use Rattle.paris_events.proofs.Passes.{is_cut_in, firm_after, from_start}
+use Rattle.paris_events.proofs.Passing.{firm_behind, firm_start, firm_more, test_is}
+use Rattle.paris_events.proofs.Ends.{rests_at, world_is}
+use Rattle.paris_events.proofs.Rests.{at_rest}
 use Rattle.paris_book.specs.Statuses.{next_unsettled}
 use Rattle.paris_book.specs.Steps.{WasSettled, sweeps_on, sweeps_at, swept_on, swept_at}
 use Rattle.paris_book.proofs.Advancing.{cut_means, plans_put, put_in}

@@ -4,8 +4,8 @@ use Rattle.paris_names.specs.declared.keys.Key.{Key}
 use Rattle.paris_depends.specs.Sweeps.{touches, spread, swept as swept_by}
 use Rattle.paris_book.specs.Entries.{Entry, with_data}
 use Rattle.paris_book.specs.Marks.{data_plan, stale_data}
-use Rattle.paris_machine.specs.State.{Row}
-use Rattle.paris_machine.specs.Edits.{unsettled}
+use Rattle.paris_events.specs.State.{Row}
+use Rattle.paris_events.specs.Edits.{unsettled}
 
 -- the rows after a sweep from changed keys
 abbrev pub swept : ℕ → (Key → Bool) → List Row → List Row

@@ -10,17 +10,17 @@ use Rattle.paris_board.specs.Board.{Board, empty_board}
 use Rattle.paris_model.specs.Frame.{World}
 use Rattle.paris_model.specs.Instructions.{reads}
 use Rattle.paris_exec.specs.Tasks.{field_of}
-use Rattle.paris_events.specs.Rows.{is_settled, is_waiting}
-use Rattle.paris_machine.specs.State.{Row, Inputs, State}
-use Rattle.paris_machine.specs.Orders.{next_ready, order_of, take_reply, taken, after_take}
+use Rattle.paris_edits.specs.Rows.{is_settled, is_waiting}
+use Rattle.paris_events.specs.State.{Row, Inputs, State}
+use Rattle.paris_events.specs.Orders.{next_ready, order_of, take_reply, taken, after_take}
 use Rattle.paris_book.specs.Marks.{out_data}
 use Rattle.paris_book.specs.Entries.{Entry, id_of, machine_row, with_data, seen, rows_seen}
-use Rattle.paris_events.specs.declared.rows.Status.{Status}
-use Rattle.paris_events.specs.declared.rows.Status.TheVariants.{Waiting, Out, Settled}
+use Rattle.paris_edits.specs.declared.rows.Status.{Status}
+use Rattle.paris_edits.specs.declared.rows.Status.TheVariants.{Waiting, Out, Settled}
 use Rattle.paris_book.proofs.Among.{firm_among, ready_among, next_among, order_among, own_among}
 use Rattle.paris_book.proofs.Finds.{found_by, found_passes}
-use Rattle.paris_machine.proofs.Finds.{none_of}
-use Rattle.paris_machine.proofs.Tests.{and_first, and_second}
+use Rattle.paris_events.proofs.Finds.{none_of}
+use Rattle.paris_events.proofs.Tests.{and_first, and_second}
 use Rattle.paris_book.proofs.Inserts.{state_of}
 use Rattle.paris_book.proofs.Shows.{now_is, firm_is, firm_seen}
 use Rattle.paris_book.specs.Steps.{order_on}

@@ -6,7 +6,7 @@ use Rattle.std.specs.Option.{option_map, unwrap_or}
 use Rattle.paris_board.specs.Board.{Board}
 use Rattle.paris_program.specs.Program.{place_of, place_in, row_of}
 use Rattle.paris_program.proofs.CallerLemmas.{row_there}
-use Rattle.paris_machine.specs.State.{Row, Inputs, State, find_id}
+use Rattle.paris_events.specs.State.{Row, Inputs, State, find_id}
 use Rattle.paris_book.specs.Entries.{Entry, machine_row}
 use Rattle.paris_book.specs.Rows.{RowData}
 use Rattle.paris_book.proofs.Finds.{found_some}

@@ -11,18 +11,18 @@ use Rattle.paris_model.specs.Instructions.{Plan, reads, writes, one}
 use Rattle.paris_model.specs.Run.{run}
 use Rattle.paris_field.specs.Fields.{FieldNumbers}
 use Rattle.paris_exec.specs.Tasks.{field_of}
-use Rattle.paris_events.specs.Rows.{is_settled}
-use Rattle.paris_events.specs.declared.rows.Status.TheVariants.{Settled}
+use Rattle.paris_edits.specs.Rows.{is_settled}
+use Rattle.paris_edits.specs.declared.rows.Status.TheVariants.{Settled}
 use Rattle.paris_depends.specs.Sweeps.{touches, spread, touched}
 use Rattle.paris_depends.proofs.Recipes.{eqb_self}
-use Rattle.paris_machine.specs.State.{Row, State, IdsApart, row_plan, row_ids, find_id, start_world, with_status}
-use Rattle.paris_machine.specs.CutOff.{cut_found}
-use Rattle.paris_machine.specs.Edits.{unsettled}
-use Rattle.paris_machine.specs.Settling.{is_last, settled_row}
-use Rattle.paris_machine.proofs.Passes.{is_cut_in, cut_row, cut, firm_after, from_start, Rests}
-use Rattle.paris_machine.proofs.Passing.{firm_behind, firm_more, run_more, is_cut_behind, put_cut, test_is, cut_off_is}
-use Rattle.paris_machine.proofs.AtRests.{plan_stays}
-use Rattle.paris_machine.proofs.Tests.{or_first, or_second}
+use Rattle.paris_events.specs.State.{Row, State, IdsApart, row_plan, row_ids, find_id, start_world, with_status}
+use Rattle.paris_events.specs.CutOff.{cut_found}
+use Rattle.paris_events.specs.Edits.{unsettled}
+use Rattle.paris_events.specs.Settling.{is_last, settled_row}
+use Rattle.paris_events.proofs.Passes.{is_cut_in, cut_row, cut, firm_after, from_start, Rests}
+use Rattle.paris_events.proofs.Passing.{firm_behind, firm_more, run_more, is_cut_behind, put_cut, test_is, cut_off_is}
+use Rattle.paris_events.proofs.AtRests.{plan_stays}
+use Rattle.paris_events.proofs.Tests.{or_first, or_second}
 use Rattle.paris_book.specs.Entries.{Entry, machine_row}
 use Rattle.paris_book.specs.Marks.{data_plan}
 use Rattle.paris_book.specs.Touched.{cut_one, cut_listed, AreEnough}

@@ -11,16 +11,16 @@ use Rattle.paris_board.specs.Board.{Board}
 use Rattle.paris_model.specs.Frame.{World}
 use Rattle.paris_model.specs.Instructions.{Plan, reads, writes, one}
 use Rattle.paris_model.specs.Run.{run}
-use Rattle.paris_events.specs.Rows.{is_settled}
+use Rattle.paris_edits.specs.Rows.{is_settled}
 use Rattle.paris_depends.specs.Sweeps.{touched}
 use Rattle.paris_program.specs.Program.{ids_of, place_of}
-use Rattle.paris_machine.specs.State.{Row, State, Inputs, IdsApart, row_plan, row_ids, find_id, find_row, start_world}
-use Rattle.paris_machine.specs.CutOff.{IsAtRest, cut_at}
-use Rattle.paris_machine.proofs.Passes.{cut_row, firm_after, from_start, Rests}
-use Rattle.paris_machine.proofs.Passing.{firm_behind, firm_more, run_more}
-use Rattle.paris_machine.proofs.AtRests.{plan_stays}
-use Rattle.paris_machine.proofs.Rests.{at_rest}
-use Rattle.paris_machine.proofs.Tests.{or_first, or_second}
+use Rattle.paris_events.specs.State.{Row, State, Inputs, IdsApart, row_plan, row_ids, find_id, find_row, start_world}
+use Rattle.paris_events.specs.CutOff.{IsAtRest, cut_at}
+use Rattle.paris_events.proofs.Passes.{cut_row, firm_after, from_start, Rests}
+use Rattle.paris_events.proofs.Passing.{firm_behind, firm_more, run_more}
+use Rattle.paris_events.proofs.AtRests.{plan_stays}
+use Rattle.paris_events.proofs.Rests.{at_rest}
+use Rattle.paris_events.proofs.Tests.{or_first, or_second}
 use Rattle.paris_book.specs.Entries.{Entry, machine_row}
 use Rattle.paris_book.specs.Marks.{data_plan, ids_in, fresh_data, replaced_data, writes_either}
 use Rattle.paris_book.specs.Touched.{cut_one, cut_listed, AreEnough}

@@ -6,7 +6,7 @@ use Rattle.std.proofs.lemmas.List.{append-nil, map-append, length-append}
 use Rattle.std.proofs.lemmas.List.Elements.{filter_more}
 use Rattle.std.proofs.lemmas.Option.{slice_get_within, get_or_from_slice_get}
 use Rattle.std.specs.List.{filter}
-use Rattle.paris_machine.specs.State.{Row}
+use Rattle.paris_events.specs.State.{Row}
 use Rattle.paris_book.specs.TouchedIds.{is_touched, touched_ids}
 use Rattle.paris_book.specs.Unsettled.{filled}
 

@@ -6,11 +6,11 @@ use Rattle.std.specs.Cmp.Lexicographic.{pointwise}
 use Rattle.paris_instr.specs.PlanEq.{plan_eq}
 use Rattle.paris_field.specs.Fields.{field_eq}
 use Rattle.paris_exec.specs.Tasks.{Task}
-use Rattle.paris_events.specs.Rows.{is_settled}
-use Rattle.paris_machine.specs.State.{Row, State, Work}
-use Rattle.paris_machine.specs.Orders.{inputs_now, order_of}
-use Rattle.paris_machine.specs.CutOff.{is_cut, is_last_present, cut_found, cut_at}
-use Rattle.paris_machine.specs.Settling.{settled_row}
+use Rattle.paris_edits.specs.Rows.{is_settled}
+use Rattle.paris_events.specs.State.{Row, State, Work}
+use Rattle.paris_events.specs.Orders.{inputs_now, order_of}
+use Rattle.paris_events.specs.CutOff.{is_cut, is_last_present, cut_found, cut_at}
+use Rattle.paris_events.specs.Settling.{settled_row}
 use Rattle.paris_book.specs.Steps.{is_free, order_on, own_order, run_on, run_at, settled_on, cuts_on, cuts_at, is_left, left_on, left_at, is_run, runs_on, runs_at, turn_order, turned_on, turned_at}
 use Rattle.paris_book.specs.Rounds.{HoldsTask}
 use Rattle.paris_book.proofs.Finds.{entry_at}

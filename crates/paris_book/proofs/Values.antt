@@ -7,8 +7,8 @@ use Rattle.paris_names.specs.Keys.{has_key}
 use Rattle.paris_model.specs.Frame.{World}
 use Rattle.paris_model.specs.Instructions.{Plan, reads, writes, one, given}
 use Rattle.paris_model.proofs.Worlds.{one_is}
-use Rattle.paris_events.specs.Rows.{is_settled}
-use Rattle.paris_machine.specs.Edits.{unsettled}
+use Rattle.paris_edits.specs.Rows.{is_settled}
+use Rattle.paris_events.specs.Edits.{unsettled}
 use Rattle.paris_book.specs.Marks.{stale_data}
 use Rattle.paris_book.specs.Kept.{ripen, Right, Sound}
 use Rattle.paris_depends.specs.Sweeps.{touches, spread}

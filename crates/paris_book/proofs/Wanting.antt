@@ -17,18 +17,18 @@ use Rattle.paris_board.specs.Board.{Board, key_named, width_of}
 use Rattle.paris_field.specs.Fields.{FieldNumbers}
 use Rattle.paris_model.specs.Instructions.{reads, writes}
 use Rattle.paris_model.specs.Recipe.{origin}
-use Rattle.paris_events.specs.Rows.{is_settled}
-use Rattle.paris_machine.specs.State.{Row, State, row_ids, row_plan, place_of_spot, start_world}
-use Rattle.paris_machine.specs.Show.{now, origin_at, shown_of, show_from, show_key, show_reply}
-use Rattle.paris_machine.specs.declared.events.Shown.TheVariants.{Settled, Pending}
-use Rattle.paris_machine.specs.Events.{has_value}
-use Rattle.paris_machine.specs.Orders.{is_firm}
-use Rattle.paris_machine.specs.CutOff.{is_cut, cut_found, cut_off}
-use Rattle.paris_machine.specs.Settling.{settled_row, run_row}
-use Rattle.paris_machine.proofs.Passes.{cut, firm_after, from_start}
-use Rattle.paris_machine.proofs.Passing.{firm_behind, firm_start, cut_off_is}
-use Rattle.paris_machine.proofs.Passing as passing
-use Rattle.paris_machine.proofs.Ends.{ids_cut}
+use Rattle.paris_edits.specs.Rows.{is_settled}
+use Rattle.paris_events.specs.State.{Row, State, row_ids, row_plan, place_of_spot, start_world}
+use Rattle.paris_events.specs.Show.{now, origin_at, shown_of, show_from, show_key, show_reply}
+use Rattle.paris_events.specs.declared.events.Shown.TheVariants.{Settled, Pending}
+use Rattle.paris_events.specs.Events.{has_value}
+use Rattle.paris_events.specs.Orders.{is_firm}
+use Rattle.paris_events.specs.CutOff.{is_cut, cut_found, cut_off}
+use Rattle.paris_events.specs.Settling.{settled_row, run_row}
+use Rattle.paris_events.proofs.Passes.{cut, firm_after, from_start}
+use Rattle.paris_events.proofs.Passing.{firm_behind, firm_start, cut_off_is}
+use Rattle.paris_events.proofs.Passing as passing
+use Rattle.paris_events.proofs.Ends.{ids_cut}
 use Rattle.paris_book.specs.Steps.{is_free, is_run, run_on, turned_on, turned_at}
 use Rattle.paris_book.specs.Entries.{Entry, machine_row}
 use Rattle.paris_book.specs.Statuses.{next_unsettled}
@@ -40,16 +40,16 @@ use Rattle.paris_book.proofs.Searches.{passed_over, none_beyond}
 
 -- ---- keys
 
-or_left : (a b : Bool) → a ≡ true → (a || b) ≡ true
+pub or_left : (a b : Bool) → a ≡ true → (a || b) ≡ true
 or_left true b e = refl
 or_left false b e = absurd (let x : false ≡ true = e in cc)
 
-or_right : (a b : Bool) → b ≡ true → (a || b) ≡ true
+pub or_right : (a b : Bool) → b ≡ true → (a || b) ≡ true
 or_right true b e = refl
 or_right false b e = e
 
 -- a test that all keys of a list pass
-pass_all : (test : Key → Bool) (ks : List Key) → ((k : Key) → has_key ks k ≡ true → test k ≡ true) → list_all test ks ≡ true
+pub pass_all : (test : Key → Bool) (ks : List Key) → ((k : Key) → has_key ks k ≡ true → test k ≡ true) → list_all test ks ≡ true
 pass_all test [] h = refl
 pass_all test (k ∷ ks) h =
     rw (h k (or_left (key_eq k k) (has_key ks k) (key_eq-same k))) (pass_all test ks (λ j t. h j (or_right (key_eq j k) (has_key ks j) t)))
@@ -59,7 +59,7 @@ none_rest : (a b : Bool) → (a || b) ≡ false → b ≡ false
 none_rest true b n = absurd (let x : true ≡ false = n in cc)
 none_rest false b n = n
 
-apart : (test : Key → Bool) (ks : List Key) (k : Key) → list_any test ks ≡ false → test k ≡ true → has_key ks k ≡ false
+pub apart : (test : Key → Bool) (ks : List Key) (k : Key) → list_any test ks ≡ false → test k ≡ true → has_key ks k ≡ false
 apart test [] k none t = refl
 apart test (j ∷ ks) k none t = by_same (apart test ks k (none_rest (test j) (list_any test ks) none) t) (key_eq k j) refl
   where
@@ -99,7 +99,7 @@ taken_on (y ∷ all) zero r at = let same : y ≡ r = cc in ap (λ z. z ∷ []) 
 taken_on (y ∷ all) (suc n) r at = ap (λ rest. y ∷ rest) (taken_on all n r at)
 
 -- which keys are settled behind a row
-firm_next : (s : State) (n : ℕ) (r : Row) (k : Key) → slice_get s.rows n ≡ Some r → is_firm (origin_at s (suc n) k) ≡ cond (has_key (writes r.plan) k) (is_settled r.status) (is_firm (origin_at s n k))
+pub firm_next : (s : State) (n : ℕ) (r : Row) (k : Key) → slice_get s.rows n ≡ Some r → is_firm (origin_at s (suc n) k) ≡ cond (has_key (writes r.plan) k) (is_settled r.status) (is_firm (origin_at s n k))
 unfolding firm_after
 firm_next s n r k at =
     let h : Key → Bool = λ j. is_firm (origin row_plan j (take n s.rows)) in
@@ -239,20 +239,23 @@ settled_front want n (suc m) (r ∷ rs) h =
     ∙ settled_front want (suc n) m rs (λ i q less at. h (suc i) q (omega (arith, less)) at)
     ∙ ap (λ p. wanted_from want p (drop m rs)) place
 
-get_taken : (rs : List Row) (n i : ℕ) (r : Row) → slice_get (take n rs) i ≡ Some r → slice_get rs i ≡ Some r
+pub get_taken : (rs : List Row) (n i : ℕ) (r : Row) → slice_get (take n rs) i ≡ Some r → slice_get rs i ≡ Some r
 get_taken [] zero i r at = at
 get_taken [] (suc n) i r at = at
 get_taken (y ∷ rs) zero i r at = absurd (cc)
 get_taken (y ∷ rs) (suc n) zero r at = at
 get_taken (y ∷ rs) (suc n) (suc i) r at = get_taken rs n i r at
 
--- where a search for the first unsettled row ends
-pub settled_start : (want : Key → Bool) (rs : List Row) (place start at : ℕ) → start ≡ unwrap_or (next_unsettled rs 0) place → at ≤ start → wanted_from want at (drop at (take place rs)) ≡ wanted_from want 0 (take place rs)
-settled_start want rs place start at is less = let from : at ≡ 0 + at = omega arith in ap (λ p. wanted_from want p (drop at (take place rs))) from ∙ sym (settled_front want 0 at (take place rs) (λ i r below here. by_found (next_unsettled rs 0) refl is i r below (get_taken rs place i r here)))
+-- rows before the place where a search for the first unsettled row ends are settled
+pub settled_under : (rs : List Row) (place start at : ℕ) → start ≡ unwrap_or (next_unsettled rs 0) place → at ≤ start → (i : ℕ) (r : Row) → i < at → slice_get rs i ≡ Some r → is_settled r.status ≡ true
+settled_under rs place start at is less = by_found (next_unsettled rs 0) refl is
   where
     by_found : (o : Option ℕ) → next_unsettled rs 0 ≡ o → start ≡ unwrap_or o place → (i : ℕ) (r : Row) → i < at → slice_get rs i ≡ Some r → is_settled r.status ≡ true
     by_found None found e i r below here = none_beyond rs 0 found i r (omega arith) here
     by_found (Some p) found e i r below here = passed_over rs 0 p found i r (omega arith) (omega (arith, e, below, less)) here
+
+pub settled_start : (want : Key → Bool) (rs : List Row) (place start at : ℕ) → start ≡ unwrap_or (next_unsettled rs 0) place → at ≤ start → wanted_from want at (drop at (take place rs)) ≡ wanted_from want 0 (take place rs)
+settled_start want rs place start at is less = let from : at ≡ 0 + at = omega arith in ap (λ p. wanted_from want p (drop at (take place rs))) from ∙ sym (settled_front want 0 at (take place rs) (λ i r below here. settled_under rs place start at is less i r below (get_taken rs place i r here)))
 
 -- ---- one step back
 
@@ -293,7 +296,7 @@ module _ (want : Key → Bool) (es : List Entry) (place n k : ℕ) (e : Entry) (
 
 -- ---- what is shown then
 
-board_turn : (s : State) (p : ℕ) (o : Option Row) → (turned_on s p o).board ≡ s.board
+pub board_turn : (s : State) (p : ℕ) (o : Option Row) → (turned_on s p o).board ≡ s.board
 board_turn s p None = refl
 board_turn s p (Some r) = by_tests (is_run s p r) (is_cut s p r)
   where
@@ -302,7 +305,7 @@ board_turn s p (Some r) = by_tests (is_run s p r) (is_cut s p r)
     by_tests false true = refl
     by_tests false false = refl
 
-board_turned : (places : List ℕ) (s : State) → (turned_all places s).board ≡ s.board
+pub board_turned : (places : List ℕ) (s : State) → (turned_all places s).board ≡ s.board
 board_turned [] s = refl
 board_turned (p ∷ places) s = board_turn (turned_all places s) p (slice_get (turned_all places s).rows p) ∙ board_turned places s
 
@@ -337,7 +340,7 @@ ids_find i (r ∷ rs) (y ∷ ys) n e =
     by_test later false true same = absurd (let x : true ≡ false = same in cc)
     by_test later false false same = later
 
-spot_stays : (s t : State) (spot : Spot) → row_ids t.rows ≡ row_ids s.rows → place_of_spot t spot ≡ place_of_spot s spot
+pub spot_stays : (s t : State) (spot : Spot) → row_ids t.rows ≡ row_ids s.rows → place_of_spot t spot ≡ place_of_spot s spot
 spot_stays s t AtStart e = refl
 spot_stays s t (After id) e = ids_find id.0 t.rows s.rows 0 e
 spot_stays s t AtEnd e = ap Some (ids_long t.rows s.rows e)

@@ -4,12 +4,12 @@ use Rattle.paris_names.specs.declared.keys.Key.{Key}
 use Rattle.paris_model.specs.declared.actions.Refusal.{Refusal}
 use Rattle.paris_model.specs.Instructions.{reads, refusal, value_at}
 use Rattle.paris_exec.specs.Tasks.{Task, numbers_of}
-use Rattle.paris_events.specs.Rows.{is_settled}
+use Rattle.paris_edits.specs.Rows.{is_settled}
 use Rattle.paris_field.specs.Fields.{AllFit, overwritten}
-use Rattle.paris_machine.specs.State.{Inputs}
-use Rattle.paris_machine.specs.declared.inputs.Input.{Input}
-use Rattle.paris_machine.specs.Show.{now, origin_at, shown_of}
-use Rattle.paris_machine.specs.Lists.{fault_by}
+use Rattle.paris_events.specs.State.{Inputs}
+use Rattle.paris_events.specs.declared.inputs.Input.{Input}
+use Rattle.paris_events.specs.Show.{now, origin_at, shown_of}
+use Rattle.paris_events.specs.Lists.{fault_by}
 use Rattle.paris_book.specs.Whole.{shape_in}
 use Rattle.paris_book.specs.declared.inputs.Given.{Given}
 use Rattle.paris_book.specs.declared.inputs.Given.TheVariants.{Numbers, Words}
@@ -19,10 +19,10 @@ use Rattle.paris_book.specs.declared.look.Look.{Look}
 use Rattle.paris_book.specs.declared.look.Look.TheVariants.{Settled as LookSettled, Pending as LookPending}
 use Rattle.paris_book.specs.declared.look.SharedLook.{SharedLook}
 use Rattle.paris_book.specs.declared.look.SharedLook.TheVariants.{Settled as SharedSettled, Pending as SharedPending}
-use Rattle.paris_events.specs.declared.rows.RowFault.{RowFault}
-use Rattle.paris_events.specs.declared.rows.RowLook.{RowLook}
-use Rattle.paris_machine.specs.declared.events.Shown.{Shown}
-use Rattle.paris_machine.specs.declared.events.Shown.TheVariants.{Settled as ShownSettled, Pending}
+use Rattle.paris_edits.specs.declared.rows.RowFault.{RowFault}
+use Rattle.paris_edits.specs.declared.rows.RowLook.{RowLook}
+use Rattle.paris_events.specs.declared.events.Shown.{Shown}
+use Rattle.paris_events.specs.declared.events.Shown.TheVariants.{Settled as ShownSettled, Pending}
 
 abbrev pub inputs_of : InputData → Inputs
 inputs_of d = record { fields = d.fields.items; flags = d.flags.items }

@@ -5,7 +5,7 @@ use Rattle.paris_names.specs.declared.profiles.Profile.TheVariants.{One}
 use Rattle.paris_board.specs.Board.{empty_board}
 use Rattle.paris_model.specs.Instructions.{Plan}
 use Rattle.std.specs.Option.{option_map}
-use Rattle.paris_machine.specs.State.{Row, State, Inputs, work_of}
+use Rattle.paris_events.specs.State.{Row, State, Inputs, work_of}
 use Rattle.paris_book.specs.Rows.{RowData}
 
 -- a row's id, and what the book keeps of the row

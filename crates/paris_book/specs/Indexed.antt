@@ -7,7 +7,7 @@ use Rattle.paris_book.specs.Entries.{Entry}
 use Rattle.paris_book.specs.Marks.{data_plan}
 use Rattle.paris_book.specs.Rows.{RowData}
 use Rattle.paris_book.specs.Statuses.{is_unsettled, status_in, statuses_of}
-use Rattle.paris_events.specs.declared.rows.Status.{Status}
+use Rattle.paris_edits.specs.declared.rows.Status.{Status}
 
 -- the index is that of the rows, the statuses are theirs by place, and there are no more of them than a program may have
 pub record IsIndexed (rows : List Entry) (index : List (ℕ × Footprint)) (statuses : List Status) : Type 0 where

@@ -8,8 +8,8 @@ use Rattle.paris_model.specs.Frame.{World}
 use Rattle.paris_model.specs.Instructions.{Plan, reads, writes, one}
 use Rattle.paris_model.specs.Run.{run}
 use Rattle.paris_exec.specs.Tasks.{Task, numbers_of}
-use Rattle.paris_events.specs.Rows.{is_settled}
-use Rattle.paris_machine.specs.State.{Inputs, start_world}
+use Rattle.paris_edits.specs.Rows.{is_settled}
+use Rattle.paris_events.specs.State.{Inputs, start_world}
 use Rattle.paris_book.specs.Entries.{Entry, entry_plan}
 
 -- the plan and inputs of the result that a row keeps

@@ -1,16 +1,21 @@
 -- Laws of a book: what its parts promise of numbers and plans, and that the run of its program is the direct one.
-use Rattle.std.specs.Prelude.{◌≡◌, ℕ, List, map, take, All}
+use Rattle.std.specs.Prelude.{◌≡◌, ◌<◌, ℕ, List, map, take, All, IsSome}
 use Rattle.paris_names.specs.declared.keys.FlagName.{FlagName}
 use Rattle.paris_names.specs.declared.keys.Key.{Key}
+use Rattle.paris_names.specs.declared.profiles.Profile.{Profile}
 use Rattle.paris_model.specs.Frame.{World}
 use Rattle.paris_model.specs.Fits.{IsFit}
 use Rattle.paris_model.specs.Run.{direct_run}
 use Rattle.paris_field.specs.Fields.{AllFit}
-use Rattle.paris_machine.specs.declared.inputs.Input.{Input}
-use Rattle.paris_machine.specs.declared.inputs.FlagInputs.{FlagInputs}
+use Rattle.paris_events.specs.declared.inputs.Input.{Input}
+use Rattle.paris_events.specs.declared.inputs.FlagInputs.{FlagInputs}
 use Rattle.paris_book.specs.Entries.{Entry}
-use Rattle.paris_machine.specs.State.{Inputs, State, flag_input, start_world, row_plan}
-use Rattle.paris_machine.specs.Show.{now}
+use Rattle.paris_events.specs.State.{Inputs, State, empty_state_of, flag_input, start_world, row_plan}
+use Rattle.paris_events.specs.Events.{after_all}
+use Rattle.paris_events.specs.Orders.{after_release, take_reply}
+use Rattle.paris_events.specs.Settling.{all_settled, due, ran_orders}
+use Rattle.paris_events.specs.Show.{now}
+use Rattle.paris_events.specs.declared.events.Event.{Event}
 
 -- the numbers of input data fit its width
 abbrev pub InputFits : Input → Type 0
@@ -39,3 +44,27 @@ direct_now s place = direct_run (start_world s.inputs) (map row_plan (take place
 -- at each place that is the world of which all else is said
 abbrev pub NowIsDirect : State → Type 0
 NowIsDirect s = (place : ℕ) (k : Key) → now s place k ≡ direct_now s place k
+
+-- once the orders that are out are given up, takes and brings leave every row settled, and as many takes give an order as rows are due
+abbrev pub OrdersSettle : State → Type 0
+OrdersSettle s = (ran_orders (due s) (after_release s) ≡ all_settled s) × ((n : ℕ) → n < due s → IsSome (take_reply (ran_orders n (after_release s))))
+
+-- a state that a book can have: some events lead to it from an empty book of a profile, whose count of edits begins anywhere
+abbrev pub IsBookState : State → Type 0
+IsBookState s = (profile : Profile) × (count : ℕ) × (events : List Event) × (s ≡ after_all (empty_state_of profile count) events)
+
+-- whatever events come next, they lead to such a state
+abbrev pub EventsGoOn : Type 0
+EventsGoOn = (s : State) (more : List Event) → IsBookState s → IsBookState (after_all s more)
+
+-- and so does settling
+abbrev pub SettlingGoesOn : Type 0
+SettlingGoesOn = (s : State) → IsBookState s → IsBookState (all_settled s)
+
+-- in each such state the run is the direct one
+abbrev pub StatesAreDirect : Type 0
+StatesAreDirect = (s : State) → IsBookState s → NowIsDirect s
+
+-- and orders settle it
+abbrev pub StatesSettle : Type 0
+StatesSettle = (s : State) → IsBookState s → OrdersSettle s

@@ -1,10 +1,12 @@
 pub mod Among
 pub mod Entries
 pub mod Indexed
+pub mod InputWidths
 pub mod Kept
 pub mod Laws
 pub mod Marks
 pub mod MostRead
+pub mod OrdersFor
 pub mod Origins
 pub mod RanIds
 pub mod Rounds
@@ -15,6 +17,7 @@ pub mod SourceLists
 pub mod Sources
 pub mod Statuses
 pub mod Steps
+pub mod Stopped
 pub mod TouchedIds
 pub mod Touched
 pub mod Unsettled

@@ -7,12 +7,12 @@ use Rattle.paris_model.specs.Instructions.{Plan, writes}
 use Rattle.paris_names.specs.declared.ids.RowId.{RowId}
 use Rattle.paris_depends.specs.Sweeps.{by_ids}
 use Rattle.paris_exec.specs.Tasks.{Task}
-use Rattle.paris_machine.specs.Orders.{recalled_status}
+use Rattle.paris_events.specs.Orders.{recalled_status}
 use Rattle.paris_book.specs.Rows.{RowData}
 use Rattle.paris_book.specs.Entries.{Entry, with_data}
 use Rattle.paris_book.specs.SourceLists.{no_sources}
 use Rattle.paris_book.specs.declared.sources.Source.{Source}
-use Rattle.paris_events.specs.declared.rows.Status.TheVariants.{Waiting, Out, Settled}
+use Rattle.paris_edits.specs.declared.rows.Status.TheVariants.{Waiting, Out, Settled}
 
 abbrev pub data_plan : RowData → Plan
 data_plan row = row.plan

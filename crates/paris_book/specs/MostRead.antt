@@ -1,6 +1,6 @@
 -- How much of the index of keys an edit reads.
 use Rattle.std.specs.Prelude.{ℕ, ◌+◌, ◌*◌, length}
-use Rattle.paris_machine.specs.State.{State}
+use Rattle.paris_events.specs.State.{State}
 use Rattle.paris_book.specs.TouchedIds.{touched_ids}
 
 -- how many entries are read at most to find so many rows: 128 is the number of keys

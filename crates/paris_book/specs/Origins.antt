@@ -8,8 +8,8 @@ use Rattle.paris_names.specs.declared.ids.Spot.{Spot}
 use Rattle.paris_names.specs.declared.keys.Key.{Key}
 use Rattle.paris_names.specs.declared.names.KeyName.{KeyName}
 use Rattle.paris_board.specs.Board.{key_named}
-use Rattle.paris_machine.specs.State.{State, place_of_spot}
-use Rattle.paris_machine.specs.Show.{origin_at}
+use Rattle.paris_events.specs.State.{State, place_of_spot}
+use Rattle.paris_events.specs.Show.{origin_at}
 
 -- the last row before a place that writes the key, by its id; none is the start
 abbrev pub origin_from : State → Key → Option ℕ → Result (Option RowId) Fault

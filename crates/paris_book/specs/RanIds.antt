@@ -5,9 +5,9 @@ use Rattle.paris_names.specs.declared.keys.Key.{Key}
 use Rattle.paris_names.specs.declared.names.KeyName.{KeyName}
 use Rattle.paris_board.specs.Board.{key_named}
 use Rattle.paris_exec.specs.Tasks.{Task}
-use Rattle.paris_machine.specs.Orders.{take_reply}
-use Rattle.paris_machine.specs.Settling.{ran_orders}
-use Rattle.paris_machine.specs.State.{State, place_of_spot}
+use Rattle.paris_events.specs.Orders.{take_reply}
+use Rattle.paris_events.specs.Settling.{ran_orders}
+use Rattle.paris_events.specs.State.{State, place_of_spot}
 use Rattle.paris_book.specs.Steps.{turn_order}
 use Rattle.paris_book.specs.Wanted.{stands_on, turned_all}
 

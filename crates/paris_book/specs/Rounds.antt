@@ -1,16 +1,13 @@
 -- Settling by several workers: the slots of a level, and what settling leaves of a book.
 use Rattle.std.specs.Prelude.{◌≡◌, ℕ, ◌+◌, ◌≤◌, zero, suc, List, [], ◌∷◌, true, false, Some, Result, Ok, Err, slice_get}
-use Rattle.std.specs.List.{list_all}
-use Rattle.paris_model.specs.Instructions.{reads}
 use Rattle.paris_exec.specs.Tasks.{Task}
-use Rattle.paris_events.specs.Rows.{is_settled}
-use Rattle.paris_events.specs.declared.rows.Status.TheVariants.{Out}
-use Rattle.paris_machine.specs.State.{Row, State, row_ids, work_of}
-use Rattle.paris_machine.specs.Show.{now, origin_at}
-use Rattle.paris_machine.specs.Orders.{IsIdle, is_firm, is_ready, order_of}
-use Rattle.paris_machine.specs.CutOff.{cut_off}
-use Rattle.paris_machine.specs.Results.{kept_at}
-use Rattle.paris_machine.specs.Settling.{all_settled, due, is_same, unsettled_rows}
+use Rattle.paris_edits.specs.Rows.{is_settled}
+use Rattle.paris_events.specs.State.{Row, State, row_ids, work_of}
+use Rattle.paris_events.specs.Show.{now}
+use Rattle.paris_events.specs.Orders.{IsIdle, is_ready, order_of}
+use Rattle.paris_events.specs.CutOff.{cut_off}
+use Rattle.paris_events.specs.Results.{kept_at}
+use Rattle.paris_events.specs.Settling.{all_settled, due, is_same, unsettled_rows}
 use Rattle.paris_book.specs.Steps.{own_order}
 use Rattle.paris_book.specs.declared.rounds.Slot.{Slot}
 use Rattle.paris_book.specs.declared.settlement.SettleFault.{SettleFault}
@@ -18,10 +15,6 @@ use Rattle.paris_book.specs.declared.settlement.SettleFault.{SettleFault}
 -- every row that was settled stands there as it was
 abbrev pub StaySettled : List Row → List Row → Type 0
 StaySettled old new = (place : ℕ) (r : Row) → slice_get old place ≡ Some r → is_settled r.status ≡ true → slice_get new place ≡ Some r
-
--- a row of which an order is out reads keys whose origins are the start or settled
-abbrev pub OutAreFirm : State → Type 0
-OutAreFirm s = (place : ℕ) (r : Row) → slice_get s.rows place ≡ Some r → r.status ≡ Out → list_all (λ k. is_firm (origin_at s place k)) (reads r.plan) ≡ true
 
 -- a row that is ready is run: its order was executed, and the result brought
 abbrev pub Runs : State → State → Type 0

@@ -3,7 +3,7 @@ use Rattle.std.specs.Prelude.{ℕ, List, Option}
 use Rattle.paris_names.specs.declared.ids.Edition.{Edition}
 use Rattle.paris_model.specs.Instructions.{Plan}
 use Rattle.paris_exec.specs.Tasks.{Task}
-use Rattle.paris_events.specs.declared.rows.Status.{Status}
+use Rattle.paris_edits.specs.declared.rows.Status.{Status}
 use Rattle.paris_book.specs.declared.sources.Source.{Source}
 
 -- its plan, the edit that set it, its edition, where it stands, the task of the result that was last kept, and where the values that

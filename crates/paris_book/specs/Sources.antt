@@ -5,11 +5,11 @@ use Rattle.paris_model.specs.Instructions.{Plan, reads}
 use Rattle.paris_model.specs.Recipe.{origin}
 use Rattle.paris_field.specs.Fields.{FieldNumbers}
 use Rattle.paris_exec.specs.Tasks.{Task, field_of, task_value}
-use Rattle.paris_events.specs.Rows.{is_settled}
+use Rattle.paris_edits.specs.Rows.{is_settled}
 use Rattle.paris_names.specs.declared.ids.Edition.{Edition}
-use Rattle.paris_machine.specs.State.{Inputs, input_of, number_in}
-use Rattle.paris_machine.specs.Show.{now}
-use Rattle.paris_machine.specs.declared.inputs.Input.{Input}
+use Rattle.paris_events.specs.State.{Inputs, input_of, number_in}
+use Rattle.paris_events.specs.Show.{now}
+use Rattle.paris_events.specs.declared.inputs.Input.{Input}
 use Rattle.paris_book.specs.Entries.{Entry, id_of, entry_plan, seen}
 use Rattle.paris_book.specs.SourceLists.{IsKnownAt}
 use Rattle.paris_book.specs.declared.sources.Source.{Source}

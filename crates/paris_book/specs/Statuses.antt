@@ -2,9 +2,9 @@
 use Rattle.std.specs.Prelude.{◌≡◌, ◌<◌, ◌≤◌, ℕ, List, Bool, true, Option, Some, length, map, drop, not, slice_get}
 use Rattle.std.specs.List.{count_by, position_from}
 use Rattle.paris_names.specs.declared.limits.TheConstants.{MAX_ROWS}
-use Rattle.paris_events.specs.Rows.{is_settled}
-use Rattle.paris_events.specs.declared.rows.Status.{Status}
-use Rattle.paris_machine.specs.State.{Row}
+use Rattle.paris_edits.specs.Rows.{is_settled}
+use Rattle.paris_edits.specs.declared.rows.Status.{Status}
+use Rattle.paris_events.specs.State.{Row}
 use Rattle.paris_book.specs.Entries.{Entry}
 use Rattle.paris_book.specs.declared.statuses.Span.{Span}
 

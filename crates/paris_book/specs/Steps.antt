@@ -5,15 +5,15 @@ use Rattle.paris_names.specs.declared.keys.Key.{Key}
 use Rattle.paris_depends.specs.Sweeps.{touches}
 use Rattle.paris_model.specs.Instructions.{reads}
 use Rattle.paris_exec.specs.Tasks.{Task}
-use Rattle.paris_events.specs.Rows.{is_settled}
-use Rattle.paris_events.specs.declared.verdicts.Verdict.{Verdict}
-use Rattle.paris_events.specs.declared.verdicts.Verdict.TheVariants.{Kept}
-use Rattle.paris_machine.specs.State.{Row, State, Work, work_of, find_row}
-use Rattle.paris_machine.specs.Show.{now, origin_at}
-use Rattle.paris_machine.specs.Orders.{is_firm, order_of}
-use Rattle.paris_machine.specs.CutOff.{IsAtRest, is_cut, cut_found}
-use Rattle.paris_machine.specs.Results.{kept_at, verdict_of}
-use Rattle.paris_machine.specs.Settling.{run_row}
+use Rattle.paris_edits.specs.Rows.{is_settled}
+use Rattle.paris_edits.specs.declared.verdicts.Verdict.{Verdict}
+use Rattle.paris_edits.specs.declared.verdicts.Verdict.TheVariants.{Kept}
+use Rattle.paris_events.specs.State.{Row, State, Work, work_of, find_row}
+use Rattle.paris_events.specs.Show.{now, origin_at}
+use Rattle.paris_events.specs.Orders.{is_firm, order_of}
+use Rattle.paris_events.specs.CutOff.{IsAtRest, is_cut, cut_found}
+use Rattle.paris_events.specs.Results.{kept_at, verdict_of}
+use Rattle.paris_events.specs.Settling.{run_row}
 
 -- the state with a result kept, where it is, before any other row is settled
 abbrev pub kept_on : State → Verdict → Option (ℕ × Row) → Work → State

@@ -1,7 +1,7 @@
 -- Behind an edit: looking at rows that it touched, and at no others.
 use Rattle.std.specs.Prelude.{◌≡◌, ℕ, List, [], ◌∷◌, Option, Some, None}
-use Rattle.paris_machine.specs.State.{Row, State, find_id}
-use Rattle.paris_machine.specs.CutOff.{cut_at, cut_off}
+use Rattle.paris_events.specs.State.{Row, State, find_id}
+use Rattle.paris_events.specs.CutOff.{cut_at, cut_off}
 
 -- the state once a row that was found was looked at
 abbrev pub cut_one : State → Option (ℕ × Row) → State

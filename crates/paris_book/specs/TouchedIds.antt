@@ -1,7 +1,7 @@
 -- The rows that later edits touched, by their ids.
 use Rattle.std.specs.Prelude.{ℕ, List, Bool, map, nat_lt}
 use Rattle.std.specs.List.{filter}
-use Rattle.paris_machine.specs.State.{Row}
+use Rattle.paris_events.specs.State.{Row}
 
 -- whether an edit behind the first so many touched a row: it was put in or replaced, or its recipe became another one
 abbrev pub is_touched : ℕ → Row → Bool

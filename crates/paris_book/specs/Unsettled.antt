@@ -1,7 +1,7 @@
 -- The unsettled rows by their ids, in a room that has places for some of them.
 use Rattle.std.specs.Prelude.{ℕ, List, [], ◌∷◌, ◌++◌, length, take, drop, if◌then◌else◌}
-use Rattle.paris_events.specs.Rows.{is_settled}
-use Rattle.paris_machine.specs.State.{Row}
+use Rattle.paris_edits.specs.Rows.{is_settled}
+use Rattle.paris_events.specs.State.{Row}
 
 -- the ids of the unsettled rows, in program order
 abbrev pub unsettled_ids : List Row → List ℕ

@@ -5,7 +5,7 @@ use Rattle.paris_names.specs.Keys.{has_key}
 use Rattle.paris_geometry.specs.Geometry.{processor_count}
 use Rattle.paris_model.specs.Instructions.{writes}
 use Rattle.paris_exec.specs.Tasks.{Task, task_value}
-use Rattle.paris_events.specs.Rows.{is_settled}
+use Rattle.paris_edits.specs.Rows.{is_settled}
 use Rattle.paris_book.specs.Entries.{Entry, id_of}
 use Rattle.paris_book.specs.declared.look.SharedLook.{SharedLook}
 use Rattle.paris_book.specs.declared.look.SharedLook.TheVariants.{Settled, Pending}

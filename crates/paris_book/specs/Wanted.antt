@@ -1,15 +1,17 @@
 -- What the value of a key at a place stands on: the unsettled rows that have to be run, or cut off, before it is settled.
-use Rattle.std.specs.Prelude.{ℕ, suc, List, [], ◌∷◌, ◌++◌, take, Bool, true, false, ◌&&◌, not, Option, Some, None, if◌then◌else◌}
-use Rattle.std.specs.List.{list_any}
+use Rattle.std.specs.Prelude.{◌≡◌, ℕ, suc, List, [], ◌∷◌, ◌++◌, take, Bool, true, false, ◌&&◌, not, Option, Some, None, if◌then◌else◌, slice_get}
+use Rattle.std.specs.List.{list_all, list_any}
 use Rattle.paris_names.specs.declared.keys.Key.{Key}
 use Rattle.paris_names.specs.declared.ids.Spot.{Spot}
 use Rattle.paris_names.specs.declared.names.KeyName.{KeyName}
 use Rattle.paris_names.specs.Keys.{has_key}
 use Rattle.paris_board.specs.Board.{key_named}
 use Rattle.paris_model.specs.Instructions.{reads, writes}
-use Rattle.paris_events.specs.Rows.{is_settled}
-use Rattle.paris_machine.specs.State.{Row, State, place_of_spot}
-use Rattle.paris_machine.specs.CutOff.{cut_off}
+use Rattle.paris_edits.specs.Rows.{is_settled}
+use Rattle.paris_events.specs.State.{Row, State, place_of_spot}
+use Rattle.paris_events.specs.Show.{origin_at}
+use Rattle.paris_events.specs.Orders.{is_firm}
+use Rattle.paris_events.specs.CutOff.{cut_off}
 use Rattle.paris_book.specs.Steps.{turned_at}
 
 -- whether a row writes a key that is wanted behind it
@@ -61,3 +63,19 @@ settled_key s spot (Some k) = settled_from s k (place_of_spot s spot)
 -- the same of the value that a look shows, and where the look is refused the state as it was
 abbrev pub settled_for : State → KeyName → Spot → State
 settled_for s name spot = settled_key s spot (key_named s.board name)
+
+-- the places of the unsettled rows that the value that a look shows stands on, from the last row to the first
+abbrev pub places_from : State → Key → Option ℕ → List ℕ
+places_from s k None = []
+places_from s k (Some place) = stands_on s place k
+
+abbrev pub places_of_key : State → Spot → Option Key → List ℕ
+places_of_key s spot None = []
+places_of_key s spot (Some k) = places_from s k (place_of_spot s spot)
+
+abbrev pub wanted_places : State → KeyName → Spot → List ℕ
+wanted_places s name spot = places_of_key s spot (key_named s.board name)
+
+-- what a settled row reads has the start or settled rows as origins
+abbrev pub SettledAreFirm : State → Type 0
+SettledAreFirm s = (place : ℕ) (r : Row) → slice_get s.rows place ≡ Some r → is_settled r.status ≡ true → list_all (λ k. is_firm (origin_at s place k)) (reads r.plan) ≡ true

@@ -7,8 +7,8 @@ use Rattle.paris_board.specs.Board.{Board, is_declared, width_of, count_of}
 use Rattle.paris_model.specs.Instructions.{Plan, reads, writes, key_width}
 use Rattle.paris_program.specs.Program.{ids_of}
 use Rattle.paris_book.specs.Kept.{Sound}
-use Rattle.paris_machine.specs.State.{Inputs, IdsApart, input_of, number_in, start_world}
-use Rattle.paris_machine.specs.declared.inputs.Input.{Input}
+use Rattle.paris_events.specs.State.{Inputs, IdsApart, input_of, number_in, start_world}
+use Rattle.paris_events.specs.declared.inputs.Input.{Input}
 use Rattle.paris_book.specs.Entries.{Entry}
 use Rattle.paris_book.specs.Sources.{IsSourced}
 use Rattle.paris_names.specs.declared.limits.TheConstants.{MAX_EDITS}

@@ -2,23 +2,24 @@
 
 ghost use Rattle.std.specs.Prelude.{◌≡◌, ◌+◌, ◌^◌, ◌≤◌, Ok, Err, IsSome, IfOk, IfErr, OnOk, OnErr};
 ghost use Rattle.paris_names.specs.Faults.{IsFaultOf};
-ghost use Rattle.paris_names.specs.declared.limits.TheConstants.{MAX_EDITS};
-ghost use Rattle.paris_events.specs.declared.edits.Edit.TheVariants as EditCase;
-ghost use Rattle.paris_machine.specs.State.{empty_state, empty_state_of};
-ghost use Rattle.paris_machine.specs.Show.{show_reply};
-ghost use Rattle.paris_machine.specs.Orders.{take_reply, after_take, after_release};
-ghost use Rattle.paris_machine.specs.CutOff.{cut_off};
-ghost use Rattle.paris_machine.specs.Results.{verdict_of, after_bring};
-ghost use Rattle.paris_machine.specs.Edits.{edit_fault, edit_answer, accepted};
-ghost use Rattle.paris_machine.specs.Settling.{unsettled_rows};
+ghost use Rattle.paris_names.specs.declared.limits.TheConstants.{MAX_EDITS, MAX_PROCESSORS, MAX_WIDTH};
+ghost use Rattle.paris_edits.specs.declared.edits.Edit.TheVariants as EditCase;
+ghost use Rattle.paris_events.specs.State.{empty_state, empty_state_of};
+ghost use Rattle.paris_events.specs.Show.{show_reply};
+ghost use Rattle.paris_events.specs.Orders.{take_reply, after_take, after_release};
+ghost use Rattle.paris_events.specs.CutOff.{cut_off};
+ghost use Rattle.paris_events.specs.Results.{verdict_of, after_bring};
+ghost use Rattle.paris_events.specs.Edits.{edit_fault, edit_answer, accepted};
+ghost use Rattle.paris_events.specs.Settling.{unsettled_rows};
 ghost use Rattle.paris_book.specs.Among.{look_shown, shared_shown};
+ghost use Rattle.paris_book.specs.InputWidths.{input_width};
 ghost use Rattle.paris_book.specs.MostRead.{most_read_by};
 ghost use Rattle.paris_book.specs.Origins.{origin_reply};
 
 use crate::look::{Look, SharedLook};
 use crate::loose::Loose;
 use paris_depends::Looks;
-use paris_events::{Edit, EditReply, Verdict};
+use paris_edits::{Edit, EditReply, Verdict};
 use paris_exec::{Done, Order};
 use paris_names::{Fault, KeyName, Profile, RowId, Spot};
 use std::alloc::{AllocError, Global};
@@ -35,8 +36,8 @@ pub struct Book {
 }
 
 impl Model for Book {
-    ghost use Rattle.paris_machine.specs.State.{State};
-    ghost use Rattle.paris_machine.specs.CutOff.{IsAtRest};
+    ghost use Rattle.paris_events.specs.State.{State};
+    ghost use Rattle.paris_events.specs.CutOff.{IsAtRest};
 
     ghost Value = { State };
 
@@ -145,6 +146,16 @@ impl Book {
         ensures read { OnOk result (looks.new ≤ looks.old + most_read_by self.old self.new) }
     {
         self.loose.set_words(key, from, words, looks)
+    }
+
+    /// The width that so many numbers have to fit which are given to a key from a processor on. The error is why they are refused,
+    /// whatever they are. It takes no memory.
+    pub fn input_width(&self, key: KeyName, from: u64, count: usize) -> Result<u64, Fault>
+        ensures width { result ≡ input_width self.now key from count }
+        ensures narrow { IfOk result (λ width. width ≤ MAX_WIDTH) }
+        ensures within { OnOk result (from + count ≤ MAX_PROCESSORS) }
+    {
+        self.loose.input_width(key, from, count)
     }
 
     /// An order for the first row that waits and whose keys read all have the start or a settled row as origin. `None` where there

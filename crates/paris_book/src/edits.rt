@@ -1,31 +1,34 @@
 //! Edits of a book: declarations, input data, and rows that are put in, taken out and replaced.
 
-ghost use Rattle.std.specs.Prelude.{◌≡◌, ◌∷◌, [], ◌+◌, ◌^◌, ◌<◌, ◌≤◌, length, Ok, Some, None, IfOk, IfErr, IfSome, IsSome, OnOk, OnErr, if◌then◌else◌};
+ghost use Rattle.std.specs.Prelude.{◌≡◌, ◌∷◌, [], ◌+◌, ◌^◌, ◌<◌, ◌≤◌, length, true, Ok, Some, None, IfOk, IfErr, IfSome, IsSome, OnOk, OnErr, if◌then◌else◌};
 ghost use Rattle.std.specs.Option.{option_or};
 ghost use Rattle.paris_names.specs.Faults.{IsFaultOf};
 ghost use Rattle.paris_names.specs.declared.faults.Fault.TheVariants as FaultCase;
 ghost use Rattle.paris_names.specs.declared.ids.Spot.TheVariants as SpotCase;
 ghost use Rattle.paris_geometry.specs.Geometry.{is_geometry};
-ghost use Rattle.paris_board.specs.Board.{set_fault, field_fault, key_named, set_named};
+ghost use Rattle.paris_board.specs.Board.{set_fault, field_fault, is_declared, key_named, set_named};
 ghost use Rattle.paris_instr.specs.Resolve.{IsFittedTo};
-ghost use Rattle.paris_machine.specs.State.{find_row, input_of, place_of_spot};
-ghost use Rattle.paris_machine.specs.CutOff.{IsAtRest, cut_off};
-ghost use Rattle.paris_machine.specs.Edits.{HasEditsLeft, edit_fault, edit_answer, content_fault, edited_by, accepted, input_fault, set_added, field_added, input_set, row_inserted, replaced_from};
-ghost use Rattle.paris_events.specs.declared.edits.Edit.TheVariants as EditCase;
+ghost use Rattle.paris_events.specs.State.{find_row, input_of, place_of_spot};
+ghost use Rattle.paris_events.specs.CutOff.{IsAtRest, cut_off};
+ghost use Rattle.paris_events.specs.Edits.{HasEditsLeft, edit_fault, edit_answer, content_fault, edited_by, accepted, input_fault, set_added, field_added, input_set, row_inserted, replaced_from};
+ghost use Rattle.paris_edits.specs.declared.edits.Edit.TheVariants as EditCase;
 ghost use Rattle.paris_book.specs.Among.{CanGive, given_numbers};
+ghost use Rattle.paris_book.specs.InputWidths.{input_width, width_for};
 ghost use Rattle.paris_book.specs.Touched.{AreEnough};
+ghost use Rattle.paris_names.specs.declared.limits.TheConstants.{MAX_PROCESSORS, MAX_WIDTH};
 ghost use Rattle.paris_book.specs.Marks.{ids_in};
 ghost use Rattle.paris_book.specs.MostRead.{most_read, most_read_by};
 ghost use Rattle.paris_book.specs.TouchedIds.{touched_ids};
 
 use crate::inputs::{
-    Given, declare_flags, declare_input, give_key, given_fault, push_field, push_flags,
+    Given, declare_flags, declare_input, give_key, given_fault, is_wrong_count, push_field,
+    push_flags,
 };
 use crate::loose::Loose;
 use crate::marks::{end_edit, unsettled_by_replace};
 use crate::rows::RowData;
 use paris_depends::Looks;
-use paris_events::{Edit, EditReply};
+use paris_edits::{Edit, EditReply};
 use paris_geometry::Geometry;
 use paris_instr::{Plan, resolve};
 use paris_model::Instr;
@@ -104,6 +107,34 @@ impl Loose {
         let ids = self.put_input(key, from, given, looks)?;
         self.cut_listed(ids.as_slice());
         Ok(())
+    }
+
+    /// The width of a declared key, where so many numbers can be given to it from a processor on.
+    fn width_for(&self, key: &Key, from: u64, count: usize) -> Result<u64, Fault>
+        requires { is_declared self.now.board key.now ≡ true }
+        ensures width { result ≡ width_for self.now from count (Some key.now) }
+        ensures narrow { IfOk result (λ width. width ≤ MAX_WIDTH) }
+        ensures within { OnOk result (from + count ≤ MAX_PROCESSORS) }
+    {
+        let vps = self.board.geometry(self.board.set_of_key(*key)).vps();
+        if is_wrong_count(vps as u64, from, count) {
+            return Err(Fault::WrongCount);
+        }
+        Ok(self.board.width(*key))
+    }
+
+    /// The width that so many numbers have to fit which are given to a key from a processor on. The error is why they are refused,
+    /// whatever they are.
+    pub(crate) fn input_width(&self, name: KeyName, from: u64, count: usize) -> Result<u64, Fault>
+        ensures width { result ≡ input_width self.now name from count }
+        ensures narrow { IfOk result (λ width. width ≤ MAX_WIDTH) }
+        ensures within { OnOk result (from + count ≤ MAX_PROCESSORS) }
+    {
+        if self.edits >= MAX_EDITS {
+            return Err(Fault::EditionsSpent);
+        }
+        let key = self.board.key_of(name)?;
+        self.width_for(&key, from, count)
     }
 
     /// Gives a key numbers from a processor on that can be given, and ends that edit. The answer is the ids of the rows that it

@@ -1,15 +1,16 @@
 //! Events of a book, one and then any list of them.
 
-ghost use Rattle.std.specs.Prelude.{◌≡◌, ◌<◌, ◌≤◌, ◌++◌, ◌∷◌, [], take, length, vec_len, vec_capacity, None, true, IfOk, IfErr, OnOk, OnErr};
-ghost use Rattle.paris_machine.specs.Show.{show_reply};
-ghost use Rattle.paris_machine.specs.Edits.{edit_fault};
-ghost use Rattle.paris_machine.specs.Events.{reply_to, after, replies_to, after_all, has_value, grows};
-ghost use Rattle.paris_machine.specs.declared.events.Event.TheVariants as EventCase;
+ghost use Rattle.std.specs.Prelude.{◌≡◌, ◌<◌, ◌≤◌, ◌++◌, ◌∷◌, [], take, length, slice_get, vec_len, vec_capacity, None, Some, true, IfOk, IfErr, OnOk, OnErr};
+ghost use Rattle.paris_events.specs.Show.{show_reply};
+ghost use Rattle.paris_events.specs.Edits.{edit_fault};
+ghost use Rattle.paris_events.specs.Events.{reply_to, after, replies_to, after_all, has_value, grows};
+ghost use Rattle.paris_events.specs.declared.events.Event.{Event as AnyEvent};
+ghost use Rattle.paris_events.specs.declared.events.Event.TheVariants as EventCase;
 
 use crate::book::Book;
 use crate::look::SharedLook;
-use paris_events::Edit;
-use paris_machine::{Event, Reply, Shown};
+use paris_edits::Edit;
+use paris_events::{Event, Reply, Shown};
 use paris_names::{Items, KeyName, Spot};
 use std::alloc::AllocError;
 
@@ -90,7 +91,7 @@ impl Book {
     }
 
     /// Any list of events, in order. The error says that memory was refused: it holds the replies so far, and the book is that
-    /// after the events of these.
+    /// after the events of these. Room for all replies is asked for first; behind the first reply the next event is one that takes memory.
     pub fn run_events(
         &mut self,
         events: Vec<Event>,
@@ -100,6 +101,8 @@ impl Book {
         ensures err { IfErr result (λ e. (e.0 ≡ replies_to self.old (take (length e.0) events.items))
             × (self.new ≡ after_all self.old (take (length e.0) events.items))) }
         ensures fewer { IfErr result (λ e. length e.0 < length events.items) }
+        ensures grows { IfErr result (λ e. (next : AnyEvent) → 0 < length e.0 → slice_get events.items (length e.0) ≡ Some next
+            → grows self.new next ≡ true) }
     {
         let mut replies = Vec::new(self.loose.allocator());
         if let Err(refused) = replies.reserve(events.len()) {

@@ -3,13 +3,13 @@
 ghost use Rattle.std.specs.Prelude.{◌≡◌, ◌<◌, ◌≤◌, ◌+◌, ◌^◌, ◌==◌, ◌||◌, ◌++◌, ◌∷◌, [], false, length, nat_le, nat_lt, position, None, IfOk, IfSome, IsSome, OnErr, OnOk, vec_len, vec_capacity};
 ghost use Rattle.std.specs.Option.{option_copied};
 ghost use Rattle.paris_field.specs.Fields.{AllFit};
-ghost use Rattle.paris_machine.specs.State.{flag_input, input_of, with_flag_input, with_input, declared_input, declared_flags};
-ghost use Rattle.paris_machine.specs.Edits.{fault_of_values};
+ghost use Rattle.paris_events.specs.State.{flag_input, input_of, with_flag_input, with_input, declared_input, declared_flags};
+ghost use Rattle.paris_events.specs.Edits.{fault_of_values};
 ghost use Rattle.paris_book.specs.Among.{CanGive, given_numbers, input_given, inputs_of};
 ghost use Rattle.paris_names.specs.declared.limits.TheConstants.{MAX_WIDTH};
 
+use paris_events::{FlagInputs, Input};
 use paris_field::{FieldValue, SharedValue};
-use paris_machine::{FlagInputs, Input};
 use paris_names::{Fault, FlagName, Key};
 use std::alloc::{AllocError, Global};
 
@@ -65,7 +65,7 @@ pub(crate) fn input_at<'a>(inputs: &'a InputData, key: &Key) -> Option<&'a Input
 }
 
 /// Whether so many numbers are none, or more than there are processors from one on, of `count`.
-fn is_wrong_count(count: u64, from: u64, given: usize) -> bool
+pub(crate) fn is_wrong_count(count: u64, from: u64, given: usize) -> bool
     ensures value { result ≡ (given == 0) || nat_lt count (from + given) }
     ensures within { result ≡ false → from + given ≤ count }
 {

@@ -1,19 +1,20 @@
 //! Laws of a book. A run of its program is the one in which each instruction sees the whole world: what that takes of numbers and
-//! plans their types promise, so the functions go over them and learn it. And settling is what takes and results come to.
+//! plans their types promise, so the functions go over them and learn it. And settling is what takes and results come to. The same is
+//! said of each state that events lead to from an empty book, whoever holds it: a session, a desk, a look or a history.
 
 ghost use Rattle.std.specs.Prelude.{◌≡◌, ℕ, ◌<◌, All, IsSome};
-ghost use Rattle.paris_machine.specs.Orders.{after_release, take_reply};
-ghost use Rattle.paris_machine.specs.Settling.{all_settled, ran_orders, due};
-ghost use Rattle.paris_machine.specs.State.{IdsApart, row_ids};
+ghost use Rattle.paris_events.specs.Orders.{after_release, take_reply};
+ghost use Rattle.paris_events.specs.Settling.{all_settled, ran_orders, due};
+ghost use Rattle.paris_events.specs.State.{IdsApart, row_ids};
 ghost use Rattle.paris_book.specs.Among.{inputs_of};
-ghost use Rattle.paris_book.specs.Laws.{InputFits, FlagsFit, InputsFit, ActionFits, ActionsFit, NowIsDirect};
+ghost use Rattle.paris_book.specs.Laws.{InputFits, FlagsFit, InputsFit, ActionFits, ActionsFit, NowIsDirect, EventsGoOn, SettlingGoesOn, StatesAreDirect, StatesSettle};
 
 use crate::book::Book;
 use crate::inputs::InputData;
 use crate::loose::Loose;
 use crate::program_rows::Rows;
 use crate::rows::RowData;
-use paris_machine::{FlagInputs, Input};
+use paris_events::{FlagInputs, Input};
 use paris_model::laws::run_is_direct;
 use paris_names::RowId;
 
@@ -115,3 +116,24 @@ impl Book {
         self.loose.ids_are_apart();
     }
 }
+
+/// What events lead to from an empty book of a profile is a state that a book can have. Further events lead to such a state, and so
+/// does settling. It does nothing: what it ensures is the law.
+pub fn states_go_on()
+    ensures events { EventsGoOn }
+    ensures settling { SettlingGoesOn }
+{}
+
+/// In each state that a book can have, running the program once gives at each place what the same run gives in which each instruction
+/// sees the whole world. It does nothing: what it ensures is the law.
+pub fn states_are_direct()
+    ensures { StatesAreDirect }
+{
+    run_is_direct();
+}
+
+/// Each state that a book can have is settled by what takes and results come to, as `Book::orders_settle` says of a book. It does
+/// nothing: what it ensures is the law.
+pub fn states_settle()
+    ensures { StatesSettle }
+{}

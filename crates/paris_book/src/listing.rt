@@ -1,8 +1,8 @@
 //! The list of rows, with their states.
 
 ghost use Rattle.std.specs.Prelude.{◌≡◌, length, map, slice_set, IfOk};
-ghost use Rattle.paris_machine.specs.Lists.{list_of};
-ghost use Rattle.paris_machine.specs.Settling.{unsettled_rows};
+ghost use Rattle.paris_events.specs.Lists.{list_of};
+ghost use Rattle.paris_events.specs.Settling.{unsettled_rows};
 ghost use Rattle.paris_book.specs.Among.{listed_entry, looks_kept};
 ghost use Rattle.paris_book.specs.Entries.{machine_row};
 ghost use Rattle.paris_book.specs.TouchedIds.{touched_ids};
@@ -13,7 +13,7 @@ use crate::loose::Loose;
 use crate::program_rows::Rows;
 use crate::refusals::cause_of;
 use crate::rows::RowData;
-use paris_events::RowLook;
+use paris_edits::RowLook;
 use paris_names::{Items, RowId};
 use std::alloc::{AllocError, Global};
 

@@ -4,12 +4,12 @@ ghost use Rattle.std.specs.Prelude.{◌≡◌, ◌<◌, ◌≤◌, ◌+◌, leng
 ghost use Rattle.std.specs.Option.{option_map};
 ghost use Rattle.paris_names.specs.declared.faults.Fault.TheVariants as FaultCase;
 ghost use Rattle.paris_program.specs.Program.{place_of};
-ghost use Rattle.paris_machine.specs.State.{empty_state_of, place_of_spot};
-ghost use Rattle.paris_machine.specs.Show.{show_reply};
-ghost use Rattle.paris_machine.specs.Orders.{take_reply, after_take};
-ghost use Rattle.paris_machine.specs.CutOff.{IsAtRest};
-ghost use Rattle.paris_machine.specs.Results.{verdict_of, after_bring};
-ghost use Rattle.paris_machine.specs.Settling.{unsettled_rows};
+ghost use Rattle.paris_events.specs.State.{empty_state_of, place_of_spot};
+ghost use Rattle.paris_events.specs.Show.{show_reply};
+ghost use Rattle.paris_events.specs.Orders.{take_reply, after_take};
+ghost use Rattle.paris_events.specs.CutOff.{IsAtRest};
+ghost use Rattle.paris_events.specs.Results.{verdict_of, after_bring};
+ghost use Rattle.paris_events.specs.Settling.{unsettled_rows};
 ghost use Rattle.paris_book.specs.Among.{shared_shown};
 ghost use Rattle.paris_book.specs.Entries.{machine_row};
 ghost use Rattle.paris_book.specs.Origins.{origin_reply};
@@ -20,7 +20,7 @@ use crate::look::SharedLook;
 use crate::looks::{first_ready, judge, look_at, order_at, present_sources};
 use crate::program_rows::Rows;
 use paris_board::Board;
-use paris_events::Verdict;
+use paris_edits::Verdict;
 use paris_exec::{Done, Order};
 use paris_names::{Fault, KeyName, Profile, RowId, Spot};
 use std::alloc::{AllocError, Global};
@@ -38,7 +38,7 @@ pub(crate) struct Loose {
 
 impl Model for Loose {
     ghost use Rattle.std.specs.Prelude.{map};
-    ghost use Rattle.paris_machine.specs.State.{State};
+    ghost use Rattle.paris_events.specs.State.{State};
 
     ghost Value = { State };
 

@@ -1,18 +1,18 @@
 //! A schedule from a list: events, and the orders that its takes give, executed and brought in any order, more than once, or lost.
 
-ghost use Rattle.std.specs.Prelude.{◌≡◌, ◌<◌, ◌≤◌, ◌++◌, ◌∷◌, [], take, length, vec_len, vec_capacity, Some, List, IfOk, IfErr, OnOk, OnErr};
+ghost use Rattle.std.specs.Prelude.{◌≡◌, ◌<◌, ◌≤◌, ◌++◌, ◌∷◌, [], take, length, slice_get, vec_len, vec_capacity, Some, IsSome, List, true, is_some, IfOk, IfErr, OnOk, OnErr};
 ghost use Rattle.std.specs.Option.{option_copied};
-ghost use Rattle.paris_machine.specs.Orders.{take_reply, after_take};
-ghost use Rattle.paris_machine.specs.Results.{verdict_of, after_bring};
-ghost use Rattle.paris_machine.specs.Events.{reply_to, after, after_all};
-ghost use Rattle.paris_machine.specs.Plays.{play_of, start_of, order_numbered, reply_to_loss, lost_at, with_order, orders_after, reply_to_move, after_move, replies_to_moves, after_moves, events_of};
-ghost use Rattle.paris_machine.specs.declared.moves.Move.{Move as AnyMove};
-ghost use Rattle.paris_machine.specs.declared.moves.Move.TheVariants as MoveCase;
+ghost use Rattle.paris_events.specs.Orders.{take_reply, after_take};
+ghost use Rattle.paris_events.specs.Results.{verdict_of, after_bring};
+ghost use Rattle.paris_events.specs.Events.{reply_to, after, after_all, grows};
+ghost use Rattle.paris_events.specs.Plays.{play_of, start_of, order_numbered, reply_to_loss, lost_at, with_order, orders_after, reply_to_move, after_move, replies_to_moves, after_moves, events_of, move_grows};
+ghost use Rattle.paris_events.specs.declared.moves.Move.{Move as AnyMove};
+ghost use Rattle.paris_events.specs.declared.moves.Move.TheVariants as MoveCase;
 
 use crate::book::Book;
-use paris_events::Verdict;
+use paris_edits::Verdict;
+use paris_events::{Event, Move, MoveReply, Reply};
 use paris_exec::{Order, execute};
-use paris_machine::{Event, Move, MoveReply, Reply};
 use std::alloc::AllocError;
 
 /// The order of a number, if it was given and isn't lost. The first has number 1.
@@ -70,6 +70,7 @@ impl Book {
         ensures state { OnOk result (self.new ≡ after_take self.old) }
         ensures orders { OnOk result (orders.new.items ≡ with_order orders.old.items (take_reply self.old)) }
         ensures err { OnErr result ((self.new ≡ self.old) × (orders.new.items ≡ orders.old.items)) }
+        ensures ready { OnErr result (IsSome (take_reply self.old)) }
     {
         let Some(copy) = self.peek()? else {
             return self.take();
@@ -101,6 +102,7 @@ impl Book {
         ensures reply { IfOk result (λ reply. reply ≡ reply_to_move (play_of self.old orders.now) (MoveCase.Bring number)) }
         ensures state { OnOk result (self.new ≡ (after_move (play_of self.old orders.now) (MoveCase.Bring number)).state) }
         ensures err { OnErr result (self.new ≡ self.old) }
+        ensures there { OnErr result (is_some (order_numbered orders.now number) ≡ true) }
     {
         match order_numbered(orders, number) {
             None => Ok(MoveReply::NoOrder),
@@ -118,6 +120,7 @@ impl Book {
         ensures state { OnOk result (self.new ≡ after self.old event) }
         ensures orders { OnOk result (orders.new.items ≡ orders_after (play_of self.old orders.old.items) event) }
         ensures err { OnErr result ((self.new ≡ self.old) × (orders.new.items ≡ orders.old.items)) }
+        ensures grows { OnErr result (grows self.old event ≡ true) }
     {
         match event {
             Event::Take => Ok(Reply::Take(self.take_and_keep(orders)?)),
@@ -137,6 +140,7 @@ impl Book {
         ensures reply { IfOk result (λ reply. reply ≡ reply_to_move (play_of self.old orders.old.items) next) }
         ensures play { OnOk result (play_of self.new orders.new.items ≡ after_move (play_of self.old orders.old.items) next) }
         ensures err { OnErr result ((self.new ≡ self.old) × (orders.new.items ≡ orders.old.items)) }
+        ensures grows { OnErr result (move_grows (play_of self.old orders.old.items) next ≡ true) }
     {
         match next {
             Move::Event(event) => Ok(MoveReply::Reply(self.play_event(orders, event)?)),
@@ -146,13 +150,16 @@ impl Book {
     }
 
     /// A schedule: any list of moves, in order. The orders that its takes give are numbered from 1 and kept until its end. The error
-    /// says that memory was refused: it holds the replies so far, and the book is that after the moves of these.
+    /// says that memory was refused: it holds the replies so far, and the book is that after the moves of these. Room for all replies is
+    /// asked for first; where the error has some, the next move is one that takes memory. A loss and a number of no order take none.
     pub fn play(&mut self, moves: Vec<Move>) -> Result<Vec<MoveReply>, (Vec<MoveReply>, AllocError)>
         ensures replies { IfOk result (λ replies. replies.items ≡ replies_to_moves (start_of self.old) moves.items) }
         ensures state { OnOk result (self.new ≡ (after_moves (start_of self.old) moves.items).state) }
         ensures err { IfErr result (λ e. (e.0.items ≡ replies_to_moves (start_of self.old) (take (vec_len e.0) moves.items))
             × (self.new ≡ (after_moves (start_of self.old) (take (vec_len e.0) moves.items)).state)) }
         ensures fewer { IfErr result (λ e. vec_len e.0 < length moves.items) }
+        ensures grows { IfErr result (λ e. (next : AnyMove) → 0 < vec_capacity e.0 → slice_get moves.items (vec_len e.0) ≡ Some next
+            → move_grows (after_moves (start_of self.old) (take (vec_len e.0) moves.items)) next ≡ true) }
     {
         let mut replies = Vec::new(self.loose.allocator());
         if let Err(refused) = replies.reserve(moves.len()) {

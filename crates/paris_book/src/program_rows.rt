@@ -8,7 +8,7 @@ ghost use Rattle.paris_program.specs.Program.{IsProgram, Inserts, Stays, AreOwn,
 ghost use Rattle.paris_depends.specs.Index.{footprint, footprints};
 ghost use Rattle.paris_depends.specs.Sweeps.{touched};
 ghost use Rattle.paris_model.specs.Recipe.{origin as last_writer};
-ghost use Rattle.paris_machine.specs.Settling.{unsettled_rows};
+ghost use Rattle.paris_events.specs.Settling.{unsettled_rows};
 ghost use Rattle.paris_book.specs.Entries.{Entry, ChangedAt, entry_plan, machine_row};
 ghost use Rattle.paris_book.specs.Indexed.{IsUnsettledAt};
 ghost use Rattle.paris_book.specs.Marks.{data_plan, is_among, ids_in, out_data, kept_data, again_data, recalled_data, stale_data};

@@ -1,14 +1,14 @@
 //! The settled rows whose instructions are refused.
 
 ghost use Rattle.std.specs.Prelude.{◌≡◌, IfOk};
-ghost use Rattle.paris_machine.specs.Lists.{faults_of};
+ghost use Rattle.paris_events.specs.Lists.{faults_of};
 ghost use Rattle.paris_book.specs.Among.{cause_kept, faults_kept};
 
 use crate::book::Book;
 use crate::loose::Loose;
 use crate::program_rows::Rows;
 use crate::rows::RowData;
-use paris_events::RowFault;
+use paris_edits::RowFault;
 use paris_exec::Outcome;
 use paris_model::Refusal;
 use paris_names::{Items, RowId};

@@ -1,9 +1,10 @@
 //! Settling a book by several workers. The rows of a level are run at once, one level after another.
 
-ghost use Rattle.std.specs.Prelude.{◌≡◌, ℕ, ◌<◌, ◌≤◌, ◌+◌, length, slice_index_or, OnOk, OnErr, IfOk, IfErr};
-ghost use Rattle.paris_machine.specs.Orders.{IsIdle, after_release};
-ghost use Rattle.paris_machine.specs.Settling.{all_settled, unsettled_rows, due};
-ghost use Rattle.paris_book.specs.Rounds.{Advances, StaySettled, OutAreFirm, RunsTo, HasRun, HoldsTask, HoldOrders, HoldResults, ran_of};
+ghost use Rattle.std.specs.Prelude.{◌≡◌, ℕ, ◌<◌, ◌≤◌, length, slice_index_or, OnOk, IfOk, IfErr};
+ghost use Rattle.paris_events.specs.Orders.{IsIdle};
+ghost use Rattle.paris_events.specs.Settling.{all_settled, unsettled_rows, due};
+ghost use Rattle.paris_book.specs.Rounds.{Advances, HasRun, HoldsTask, HoldOrders, HoldResults, ran_of};
+ghost use Rattle.paris_book.specs.Stopped.{IsStopped};
 ghost use Rattle.paris_book.specs.declared.rounds.Slot.{Slot as SlotShape};
 ghost use Rattle.paris_names.specs.declared.limits.TheConstants.{MAX_WORKERS};
 
@@ -242,9 +243,8 @@ impl Loose {
 
 impl Book {
     /// Settles the book as `settle` does, with at most so many orders executed at once, each inside the gate. The answer is how many
-    /// were run, whatever the number of workers. The error says that memory was refused: as many orders were run as it says, each of
-    /// a row that was ready, the rows that were settled stay so, rows of further orders may be out, which read settled keys alone,
-    /// and the book can be settled again.
+    /// were run, whatever the number of workers. The error says that memory was refused, and leaves what that of `settle` does, but that
+    /// the orders may have been run in another order.
     pub fn settle_par<R: Threads + Sync, G: Gate + Sync>(
         &mut self,
         rt: &R,
@@ -254,13 +254,7 @@ impl Book {
         requires workers { (1 ≤ workers) × (workers ≤ MAX_WORKERS) }
         ensures count { IfOk result (λ ran. ran ≡ due self.old) }
         ensures settled { OnOk result (self.new ≡ all_settled self.old) }
-        ensures same { OnErr result (all_settled self.new ≡ all_settled self.old) }
-        ensures stay { OnErr result (StaySettled self.old.rows self.new.rows) }
-        ensures left { IfErr result (λ fault. due self.new + fault.ran ≡ due self.old) }
-        ensures rows { IfErr result (λ fault. unsettled_rows self.new.rows + fault.ran ≤ unsettled_rows self.old.rows) }
-        ensures fewer { IfErr result (λ fault. fault.ran < due self.old) }
-        ensures runs { IfErr result (λ fault. RunsTo fault.ran (after_release self.old) (after_release self.new)) }
-        ensures out { OnErr result (OutAreFirm self.new) }
+        ensures stopped { IfErr result (λ fault. IsStopped fault.ran self.old self.new) }
     {
         self.loose.release();
         match self.loose.run_all(rt, workers, gate) {

@@ -6,7 +6,7 @@ ghost use Rattle.paris_book.specs.RowsInside.{plan_held, done_held, of_plan};
 ghost use Rattle.paris_book.specs.Marks.{fresh_data, replaced_data, out_data, kept_data, again_data, recalled_data, stale_data};
 
 use crate::sources::Sources;
-use paris_events::Status;
+use paris_edits::Status;
 use paris_exec::Done;
 use paris_instr::{Plan, SharedPlan};
 use paris_names::Edition;

@@ -3,9 +3,9 @@
 ghost use Rattle.std.specs.Prelude.{◌≡◌, ◌<◌, ◌≤◌, None, is_some, IsSome, IfOk, OnOk, OnErr};
 ghost use Rattle.std.specs.Option.{option_map};
 ghost use Rattle.paris_exec.specs.Tasks.{Task};
-ghost use Rattle.paris_machine.specs.CutOff.{IsAtRest};
-ghost use Rattle.paris_machine.specs.Orders.{take_reply};
-ghost use Rattle.paris_machine.specs.Settling.{after_run, ran_orders};
+ghost use Rattle.paris_events.specs.CutOff.{IsAtRest};
+ghost use Rattle.paris_events.specs.Orders.{take_reply};
+ghost use Rattle.paris_events.specs.Settling.{after_run, ran_orders};
 ghost use Rattle.paris_book.specs.RanIds.{ran_ids};
 ghost use Rattle.paris_book.specs.Rounds.{ran_of};
 ghost use Rattle.paris_book.specs.Unsettled.{filled};
@@ -61,6 +61,13 @@ impl Book {
         ensures ready { OnErr result (IsSome (take_reply self.old)) }
     {
         self.loose.run_next()
+    }
+
+    /// Whether a row is ready, so that a take would give an order. It takes no memory.
+    pub fn has_ready(&self) -> bool
+        ensures { result ≡ is_some (take_reply self.now) }
+    {
+        self.loose.ready_row().is_some()
     }
 
     /// Takes orders, executes them and brings their results, one after another: at most so many, and fewer where no row is ready any

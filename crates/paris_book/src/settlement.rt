@@ -1,14 +1,15 @@
 //! Settling a book: orders that are out are given up, and rows are run until every row is settled.
 
-ghost use Rattle.std.specs.Prelude.{◌≡◌, ◌<◌, ◌≤◌, ◌+◌, ◌⊎◌, length, slice_get, true, false, if◌then◌else◌, Some, map, is_some, OnOk, OnErr, IfOk, IfErr, IfSome};
+ghost use Rattle.std.specs.Prelude.{◌≡◌, ◌<◌, ◌≤◌, length, slice_get, true, false, if◌then◌else◌, Some, map, is_some, OnOk, OnErr, IfOk, IfErr, IfSome};
 ghost use Rattle.paris_names.specs.declared.limits.TheConstants.{MAX_ROWS};
-ghost use Rattle.paris_machine.specs.CutOff.{cut_off};
-ghost use Rattle.paris_machine.specs.Orders.{IsIdle, after_release, after_take};
-ghost use Rattle.paris_machine.specs.Settling.{ran_orders, all_settled, unsettled_rows, due};
+ghost use Rattle.paris_events.specs.CutOff.{cut_off};
+ghost use Rattle.paris_events.specs.Orders.{IsIdle, after_release};
+ghost use Rattle.paris_events.specs.Settling.{ran_orders, all_settled, unsettled_rows, due};
 ghost use Rattle.paris_book.specs.Marks.{recalled_data};
 ghost use Rattle.paris_book.specs.Entries.{with_data};
-ghost use Rattle.paris_book.specs.Rounds.{StaySettled, Advances, ran_of};
+ghost use Rattle.paris_book.specs.Rounds.{Advances, ran_of};
 ghost use Rattle.paris_book.specs.Statuses.{next_unsettled};
+ghost use Rattle.paris_book.specs.Stopped.{IsStopped};
 ghost use Rattle.paris_book.specs.Steps.{own_order, settled_on, run_at, left_at, runs_at, turned_at};
 
 use crate::book::Book;
@@ -168,19 +169,13 @@ impl Loose {
 impl Book {
     /// Gives up the orders that are out, and then takes orders, executes them and brings their results until every row is settled.
     /// The answer is how many orders were run, one for each row that was due: unsettled, with another plan or other inputs than its
-    /// last kept result. The error says that memory was refused: the rows of the orders that were run are settled, those that were
-    /// settled stay so, the row of one more order may be out, and the book can be settled again.
+    /// last kept result. The error says that memory was refused, and comes only where a row is left that must be run: the rows of the
+    /// orders that were run are settled, those that were settled stay so, no order is out, and the book can be settled again.
     pub fn settle(&mut self) -> Result<u64, SettleFault>
         ensures count { IfOk result (λ ran. ran ≡ due self.old) }
         ensures settled { OnOk result (self.new ≡ all_settled self.old) }
-        ensures ran { IfOk result (λ ran. self.new ≡ ran_orders ran (after_release self.old)) }
-        ensures stopped { IfErr result (λ fault. (self.new ≡ ran_orders fault.ran (after_release self.old))
-            ⊎ (self.new ≡ after_take (ran_orders fault.ran (after_release self.old)))) }
-        ensures fewer { IfErr result (λ fault. fault.ran < due self.old) }
-        ensures left { IfErr result (λ fault. due self.new + fault.ran ≡ due self.old) }
-        ensures rows { IfErr result (λ fault. unsettled_rows self.new.rows + fault.ran ≤ unsettled_rows self.old.rows) }
-        ensures same { OnErr result (all_settled self.new ≡ all_settled self.old) }
-        ensures stay { OnErr result (StaySettled self.old.rows self.new.rows) }
+        ensures ran { self.new ≡ ran_orders (ran_of result) (after_release self.old) }
+        ensures stopped { IfErr result (λ fault. IsStopped fault.ran self.old self.new) }
     {
         self.loose.release();
         match self.loose.run_in_order(&OpenGate) {

@@ -6,7 +6,7 @@ ghost use Rattle.paris_book.specs.Among.{inputs_of};
 use crate::book::Book;
 use crate::inputs::InputData;
 use crate::loose::Loose;
-use paris_machine::{FlagInputs, Input};
+use paris_events::{FlagInputs, Input};
 use std::alloc::{AllocError, Global};
 
 /// A copy of the input data of a key.

@@ -1,12 +1,12 @@
 //! Where rows stand, by place.
 
 ghost use Rattle.std.specs.Prelude.{◌≡◌, ℕ, true, cond, ◌<◌, ◌≤◌, ◌+◌, [], length, set, insert, remove, slice_get, None, Some, IfOk, OnErr, OnOk};
-ghost use Rattle.paris_events.specs.declared.rows.Status.{Status as AnyStatus};
+ghost use Rattle.paris_edits.specs.declared.rows.Status.{Status as AnyStatus};
 ghost use Rattle.std.specs.List.{count_by};
 ghost use Rattle.paris_names.specs.declared.limits.TheConstants.{MAX_ROWS};
 ghost use Rattle.paris_book.specs.Statuses.{IsInSpan, is_unsettled, first_unsettled as first_from};
 
-use paris_events::Status;
+use paris_edits::Status;
 use std::alloc::{AllocError, Global};
 use std::marker::Model;
 
@@ -143,7 +143,7 @@ pub(crate) struct Statuses {
 
 impl Model for Statuses {
     ghost use Rattle.std.specs.Prelude.{List};
-    ghost use Rattle.paris_events.specs.declared.rows.Status.{Status};
+    ghost use Rattle.paris_edits.specs.declared.rows.Status.{Status};
     ghost use Rattle.paris_book.specs.Statuses.{IsSpanned};
 
     ghost Value = { List Status };

@@ -6,15 +6,16 @@ ghost use Rattle.paris_names.specs.declared.keys.Key.{Key as AnyKey};
 ghost use Rattle.paris_names.specs.Keys.{has_key};
 ghost use Rattle.paris_board.specs.Board.{key_named};
 ghost use Rattle.paris_depends.specs.Sweeps.{marked};
-ghost use Rattle.paris_machine.specs.Settling.{all_settled, due};
-ghost use Rattle.paris_machine.specs.State.{Row, place_of_spot};
-ghost use Rattle.paris_machine.specs.Events.{has_value};
-ghost use Rattle.paris_machine.specs.Show.{show_reply};
+ghost use Rattle.paris_events.specs.Settling.{all_settled, due};
+ghost use Rattle.paris_events.specs.State.{Row, place_of_spot};
+ghost use Rattle.paris_events.specs.Events.{has_value};
+ghost use Rattle.paris_events.specs.Show.{show_reply};
 ghost use Rattle.paris_book.specs.Entries.{machine_row};
 ghost use Rattle.paris_book.specs.RanIds.{ran_ids_for, turned_ids};
 ghost use Rattle.paris_book.specs.Rounds.{Advances, StaySettled, ran_of};
+ghost use Rattle.paris_book.specs.Stopped.{IsStoppedFor, StayUnsettled, StopsAmong, StopsAt};
 ghost use Rattle.paris_book.specs.Unsettled.{filled};
-ghost use Rattle.paris_book.specs.Wanted.{has_turn, stands_on, settled_for, turned_all, wanted_from, wants};
+ghost use Rattle.paris_book.specs.Wanted.{SettledAreFirm, has_turn, stands_on, settled_for, turned_all, wanted_from, wants};
 
 use crate::book::Book;
 use crate::listing::put_id;
@@ -28,7 +29,7 @@ use paris_names::{Fault, Key, KeyName, RowId, Spot};
 use std::alloc::{AllocError, Global};
 
 /// Carries the marks of the keys that are wanted back past a row, and answers whether the row is wanted and unsettled.
-fn carry_back(wanted: &mut [bool; 128], id: RowId, row: &RowData) -> bool
+pub(crate) fn carry_back(wanted: &mut [bool; 128], id: RowId, row: &RowData) -> bool
     ensures turn { result ≡ has_turn (marked wanted.old) (machine_row (id.0, row.now)) }
     ensures marks { (k : AnyKey) → marked wanted.new k ≡ wants (marked wanted.old) (machine_row (id.0, row.now)) k }
 {
@@ -45,10 +46,11 @@ fn carry_back(wanted: &mut [bool; 128], id: RowId, row: &RowData) -> bool
 }
 
 /// The places of the unsettled rows that the value of a key at a place stands on, from the last row to the first. Rows before the
-/// first unsettled one aren't looked at.
+/// first unsettled one aren't looked at. The error says that memory for such a place was refused.
 fn places_for(alloc: Global, rows: &Rows, place: usize, key: Key) -> Result<Vec<usize>, AllocError>
     requires { place ≤ length rows.now.rows }
-    ensures { IfOk result (λ places. places.items ≡ wanted_from (has_key (key ∷ [])) 0 (take place (map machine_row rows.now.rows))) }
+    ensures places { IfOk result (λ places. places.items ≡ wanted_from (has_key (key ∷ [])) 0 (take place (map machine_row rows.now.rows))) }
+    ensures some { OnErr result (0 < length (wanted_from (has_key (key ∷ [])) 0 (take place (map machine_row rows.now.rows)))) }
 {
     let mut places = Vec::new(alloc);
     let mut wanted = [false; 128];
@@ -76,6 +78,14 @@ fn put_ran(room: &mut [u64], at: u64, more: u64, id: Option<RowId>)
 }
 
 impl Loose {
+    /// What a settled row reads is settled, or the start. It changes nothing: what it ensures is the law.
+    fn settled_are_firm(&self)
+        ensures { SettledAreFirm self.now }
+    {
+        // Whoever touches a part knows the invariant.
+        let _rows = &self.rows;
+    }
+
     /// The id of the row at a place. `None` where there is no row.
     fn id_at(&self, place: usize) -> Option<RowId>
         ensures { result ≡ option_map (λ (r : Row). r.id) (slice_get self.now.rows place) }
@@ -88,7 +98,7 @@ impl Loose {
     }
 
     /// The key and the place that a look is at. The error is the look's.
-    fn found(&self, name: KeyName, spot: Spot) -> Result<(Key, usize), Fault>
+    pub(crate) fn found(&self, name: KeyName, spot: Spot) -> Result<(Key, usize), Fault>
         ensures key { IfOk result (λ found. key_named self.now.board name ≡ Some found.0) }
         ensures place { IfOk result (λ found. place_of_spot self.now spot ≡ Some found.1) }
         ensures within { IfOk result (λ found. found.1 ≤ length self.now.rows) }
@@ -100,11 +110,13 @@ impl Loose {
     }
 
     /// Gives the rows at these places their turn, the last of them first, and puts the ids of those that are run into a room. The answer
-    /// is how many were run, at an error too, which says that memory was refused.
+    /// is how many were run, at an error too, which says that memory was refused for the next one.
+    #[tactic(auto, using(crate::proofs::Stopping::none_turned))]
     fn turn_all(&mut self, places: Vec<usize>, room: &mut [u64]) -> Result<u64, SettleFault>
         ensures ids { room.new ≡ filled room.old (take (ran_of result) (turned_ids places.items self.old)) }
         ensures state { OnOk result (self.new ≡ turned_all places.items self.old) }
         ensures advances { Advances (ran_of result) self.old self.new }
+        ensures stopped { OnErr result (StopsAt places.items self.old self.new) }
     {
         // How many rows are unsettled bounds how many are run.
         let _unsettled = self.unsettled_count();
@@ -128,6 +140,7 @@ impl Loose {
         ensures ids { room.new ≡ filled room.old (take (ran_of result) (turned_ids (stands_on self.old place key) self.old)) }
         ensures state { OnOk result (self.new ≡ turned_all (stands_on self.old place key) self.old) }
         ensures advances { Advances (ran_of result) self.old self.new }
+        ensures stopped { OnErr result (StopsAmong (stands_on self.old place key) self.old self.new) }
     {
         let Ok(places) = places_for(self.alloc, &self.rows, place, key) else {
             return Err(SettleFault { ran: 0 });
@@ -141,8 +154,9 @@ impl Book {
     /// other. Rows that would compute again what they computed last aren't run, and one of which an order is out is run here too. The
     /// answer is how many orders were run.
     ///
-    /// The outer error is that of a look, and nothing has changed. The inner one says that memory was refused: the rows of the orders
-    /// that were run are settled, those that were settled stay so, and the rest is as before.
+    /// The outer error is that of a look, and nothing has changed. The inner one says that memory was refused, and comes only where the
+    /// value isn't shown yet: the rows of the orders that were run are settled, those that were settled stay so, and those that are
+    /// still unsettled wait or are out as they were.
     pub fn settle_for(
         &mut self,
         name: KeyName,
@@ -153,6 +167,8 @@ impl Book {
         ensures count { IfOk result (λ ran. due self.new + ran_of ran ≡ due self.old) }
         ensures same { OnOk result (all_settled self.new ≡ all_settled self.old) }
         ensures stay { OnOk result (StaySettled self.old.rows self.new.rows) }
+        ensures unsettled { OnOk result (StayUnsettled self.old.rows self.new.rows) }
+        ensures stopped { IfOk result (λ ran. IfErr ran (λ fault. IsStoppedFor name spot fault.ran self.old self.new)) }
         ensures refused { IfErr result (λ fault. Err fault ≡ show_reply self.old name spot) }
         ensures err { OnErr result (self.new ≡ self.old) }
     {
@@ -173,6 +189,8 @@ impl Book {
         ensures count { IfOk result (λ ran. due self.new + ran_of ran ≡ due self.old) }
         ensures same { OnOk result (all_settled self.new ≡ all_settled self.old) }
         ensures stay { OnOk result (StaySettled self.old.rows self.new.rows) }
+        ensures unsettled { OnOk result (StayUnsettled self.old.rows self.new.rows) }
+        ensures stopped { IfOk result (λ ran. IfErr ran (λ fault. IsStoppedFor name spot fault.ran self.old self.new)) }
         ensures refused { IfErr result (λ fault. Err fault ≡ show_reply self.old name spot) }
         ensures err { OnErr result (self.new ≡ self.old) }
         ensures room { OnErr result (room.new ≡ room.old) }
@@ -180,6 +198,7 @@ impl Book {
         let (key, place) = self.loose.found(name, spot)?;
         let ran = self.loose.turn_for(place, key, room);
         self.loose.cut_off();
+        self.loose.settled_are_firm();
         Ok(ran)
     }
 }

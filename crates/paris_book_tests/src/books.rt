@@ -5,7 +5,7 @@ use crate::steps::Change::{Delete, Field, Input, Insert, Set};
 use crate::steps::Step::*;
 use crate::steps::{Step, plays_after, plays_after_another, plays_beside_a_snapshot, plays_in};
 use paris_book::Book;
-use paris_events::Verdict::{Foreign, Gone, Kept, Repeated, Stale};
+use paris_edits::Verdict::{Foreign, Gone, Kept, Repeated, Stale};
 use paris_names::Spot::{End, Start};
 use paris_names::{Edition, Fault};
 use std::alloc::AllocError;

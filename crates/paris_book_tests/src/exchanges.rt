@@ -2,7 +2,7 @@
 
 use crate::instructions::{FOUR, ZEROS};
 use crate::programs::{Given, Row, hold};
-use paris_events::RowFault;
+use paris_edits::RowFault;
 use paris_model::Refusal;
 use paris_names::RowId;
 use std::alloc::AllocError;

@@ -5,7 +5,7 @@ use crate::steps::Change::{Delete, Field, Insert, Replace, Set};
 use crate::steps::Step::*;
 use crate::steps::{Step, inserts, plays_after, plays_in};
 use paris_book::Book;
-use paris_events::Status::Settled;
+use paris_edits::Status::Settled;
 use paris_names::Spot::{After, End, Start};
 use paris_names::{Fault, RowId};
 use std::alloc::{AllocError, Global};

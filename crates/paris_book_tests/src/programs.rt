@@ -2,7 +2,7 @@
 
 use crate::spellings::*;
 use paris_book::{Book, Look};
-use paris_events::{Edit, EditReply, RowFault};
+use paris_edits::{Edit, EditReply, RowFault};
 use paris_field::FieldValue;
 use paris_model::Instr;
 use paris_names::{Items, KeyName, RowId, Spot};

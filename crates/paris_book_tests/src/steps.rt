@@ -4,9 +4,9 @@ use crate::programs;
 use crate::programs::{becomes_row, is_settled_by, shows_at};
 use crate::spellings::*;
 use paris_book::{Book, Look};
-use paris_events::{Edit, RowLook, Status, Verdict};
+use paris_edits::{Edit, RowLook, Status, Verdict};
+use paris_events::{Event, Reply};
 use paris_exec::{Done, Order, execute};
-use paris_machine::{Event, Reply};
 use paris_model::Refusal;
 use paris_names::{Edition, Fault, Items, KeyName, RowId, Spot};
 use std::alloc::{AllocError, Global};
@@ -51,6 +51,11 @@ pub(crate) enum Step {
     Peeks(u64, u64),
     /// The next take would give no order. The list of rows stays as it was.
     PeeksAtNothing,
+    /// An order for what a key holds at a spot is for the row of this id with this edition. Its result is kept in hand, and the list of
+    /// rows stays as it was.
+    OrdersFor(Text, Spot, u64, u64),
+    /// There is no order for what a key holds at a spot. The list of rows stays as it was.
+    OrdersNothingFor(Text, Spot),
     /// A copy of the result in hand that was taken after that many others is brought, and is judged so.
     Brings(usize, Verdict),
     /// The orders that are out are given up.
@@ -294,6 +299,52 @@ fn peeks_at_nothing(rt: &impl Abort, book: &Book) -> Result<(), AllocError> {
     Ok(())
 }
 
+/// The order for what a key holds at a spot, which is for the row of this id with this edition.
+fn order_for(
+    rt: &impl Abort,
+    book: &Book,
+    text: &[u8],
+    spot: Spot,
+    id: u64,
+    edition: u64,
+) -> Result<Order, AllocError> {
+    let order = book.order_for(key(rt, text), spot)?;
+    let order = order.expect(rt, "a row is ready");
+    assert!(rt; is_for(&order, id, edition));
+    Ok(order)
+}
+
+/// Runs an order, and keeps its result in hand. The rows of the book are still these.
+fn holds(
+    rt: &impl Abort,
+    alloc: Global,
+    book: &Book,
+    hand: &mut Vec<Done>,
+    order: Order,
+    rows: &[RowLook],
+) -> Result<(), AllocError> {
+    hand.push(run(rt, alloc, order))?;
+    let same = is_listed(book, rows)?;
+    assert!(rt; same);
+    Ok(())
+}
+
+fn has_no_order_for(book: &Book, key: KeyName, spot: Spot) -> Result<bool, AllocError> {
+    Ok(book.order_for(key, spot)?.is_none())
+}
+
+fn orders_nothing_for(
+    rt: &impl Abort,
+    book: &Book,
+    text: &[u8],
+    spot: Spot,
+) -> Result<(), AllocError> {
+    let rows = book.list()?;
+    let nothing = has_no_order_for(book, key(rt, text), spot)? && is_listed(book, rows.as_slice())?;
+    assert!(rt; nothing);
+    Ok(())
+}
+
 /// Whether a copy of a result is judged so.
 fn is_judged(book: &mut Book, done: &Done, verdict: Verdict) -> Result<bool, AllocError> {
     Ok(book.bring(done.copy()?) == verdict)
@@ -498,6 +549,12 @@ fn plays_step(
         Step::TakesNothing => takes_nothing(rt, book),
         Step::Peeks(id, edition) => peeks(rt, book, *id, *edition),
         Step::PeeksAtNothing => peeks_at_nothing(rt, book),
+        Step::OrdersFor(text, spot, id, edition) => {
+            let rows = book.list()?;
+            let order = order_for(rt, book, *text, *spot, *id, *edition)?;
+            holds(rt, alloc, book, hand, order, rows.as_slice())
+        }
+        Step::OrdersNothingFor(text, spot) => orders_nothing_for(rt, book, *text, *spot),
         Step::Brings(number, verdict) => brings(rt, book, hand.as_slice(), *number, *verdict),
         Step::Releases => releases(book),
         Step::ReleasesByEvent => releases_by_event(rt, book),

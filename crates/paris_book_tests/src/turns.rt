@@ -4,7 +4,7 @@ use crate::spellings::Text;
 use crate::steps::Change::{Delete, Input, Replace, Set};
 use crate::steps::Step::*;
 use crate::steps::{Step, plays, plays_after};
-use paris_events::Verdict::{Kept, Repeated};
+use paris_edits::Verdict::{Kept, Repeated};
 use paris_names::Fault::{NoField, NoRow};
 use paris_names::RowId;
 use paris_names::Spot::{After, End, Start};
@@ -122,13 +122,40 @@ fn a_row_that_is_out_is_run_for_a_value(rt: HostRuntime) -> Result<(), AllocErro
 }
 
 #[test]
+fn an_order_for_a_value_is_of_the_first_ready_row_that_it_stands_on(
+    rt: HostRuntime,
+) -> Result<(), AllocError> {
+    const STEPS: &[Step] = &[
+        OrdersNothingFor(b"a", End),
+        OrdersNothingFor(b"c", Start),
+        OrdersFor(b"d", End, 3, 10),
+        OrdersFor(b"c", End, 1, 8),
+        Takes(1, 8),
+        // The first row is out, and the second waits for it.
+        OrdersNothingFor(b"c", End),
+        Brings(0, Kept),
+        Shows(b"d", End, &[40, 30, 30, 40]),
+        Brings(1, Kept),
+        OrdersNothingFor(b"c", After(RowId(1))),
+        OrdersFor(b"c", End, 2, 9),
+        Brings(2, Repeated),
+        Brings(3, Kept),
+        Shows(b"c", End, &[40, 30, 30, 40]),
+        OrdersNothingFor(b"c", End),
+    ];
+    plays_after(&rt, rt.alloc(), THREE_ROWS, STEPS)
+}
+
+#[test]
 fn looks_are_refused_as_they_are_shown(rt: HostRuntime) -> Result<(), AllocError> {
     const STEPS: &[Step] = &[
         RefusesLook(b"e", End, NoField),
         RefusesToSettle(b"e", End, NoField),
+        OrdersNothingFor(b"e", End),
         RefusesOrigin(b"e", End, NoField),
         RefusesLook(b"c", After(RowId(9)), NoRow),
         RefusesToSettle(b"c", After(RowId(9)), NoRow),
+        OrdersNothingFor(b"c", After(RowId(9))),
         RefusesOrigin(b"c", After(RowId(9)), NoRow),
         RefusesToSettle(b"e", After(RowId(9)), NoField),
     ];

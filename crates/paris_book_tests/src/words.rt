@@ -6,7 +6,7 @@ use crate::steps::Change::{Field, Set};
 use crate::steps::Step::*;
 use crate::steps::{Step, is_listed, plays_in};
 use paris_book::Book;
-use paris_events::{Edit, EditReply};
+use paris_edits::{Edit, EditReply};
 use paris_names::Spot::End;
 use paris_names::{Fault, Items, KeyName};
 use std::alloc::{AllocError, Global};

@@ -4,9 +4,9 @@ use Rattle.std.specs.Prelude.{flat_map}
 use Rattle.std.proofs.lemmas.Grind.{flat_map-append}
 use Rattle.paris_model.specs.Frame.{World}
 use Rattle.paris_model.specs.Instructions.{one}
-use Rattle.paris_events.specs.declared.rows.RowFault.{RowFault}
-use Rattle.paris_machine.specs.State.{Row, State, start_world}
-use Rattle.paris_machine.specs.Lists.{cause_in, fault_by, faults_in, faults_of, listed_in, listed_row, list_of}
+use Rattle.paris_edits.specs.declared.rows.RowFault.{RowFault}
+use Rattle.paris_events.specs.State.{Row, State, start_world}
+use Rattle.paris_events.specs.Lists.{cause_in, fault_by, faults_in, faults_of, listed_in, listed_row, list_of}
 use Rattle.paris_c.specs.Calls.{fault_words, row_words}
 
 words_in : (w : World) (rs : List Row) → flat_map row_words (listed_in w rs) ≡ flat_map fault_words (faults_in w rs)

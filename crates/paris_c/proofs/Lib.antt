@@ -1,5 +1,7 @@
 mod KeptValues
 mod KeptOrderValues
+mod KeptDeskValues
+mod KeptSeatValues
 mod SendSync
 mod FaultNumbers
 mod Numbers

@@ -17,7 +17,11 @@ use Rattle.std.specs.contracts.impls.GlobalAllocator.TheImpl as heap
 use Rattle.paris_c.specs.Holding.{holds}
 use Rattle.paris_c.specs.contracts.contents.Contents as contents
 use Rattle.paris_c.specs.contracts.order_state.OrderState as order_state
+use Rattle.paris_c.specs.contracts.seating.DeskContents as desk_contents
+use Rattle.paris_c.specs.contracts.seating.SeatContents as seat_contents
 use Rattle.paris_c.specs.contracts.handle.Kept as kept
+use Rattle.paris_c.specs.contracts.desk_handle.KeptDesk as kept_desk
+use Rattle.paris_c.specs.contracts.seat_handle.KeptSeat as kept_seat
 use Rattle.paris_c.specs.contracts.order_handle.KeptOrder as kept_order
 
 pointer_send : IsSend RawPtr
@@ -38,3 +42,15 @@ kept_order_send s =
     let O = kept_order.the_type in
     let all : AllSend (fields O) = (pointer_send, (heap_crosses.the_field_send, tt)) in
     owning_send O all (λ d. held order_state.the_row s d.alloc d.at d.value) (λ k. quiet (to O) (exits_of k (fields O)) ((struct_send (shape O) all).leaving k))
+
+pub kept_desk_send : IsSend desk_contents.the_row → IsSend kept_desk.the_row
+kept_desk_send s =
+    let O = kept_desk.the_type in
+    let all : AllSend (fields O) = (pointer_send, (heap_crosses.the_field_send, tt)) in
+    owning_send O all (λ d. held desk_contents.the_row s d.alloc d.at d.value) (λ k. quiet (to O) (exits_of k (fields O)) ((struct_send (shape O) all).leaving k))
+
+pub kept_seat_send : IsSend seat_contents.the_row → IsSend kept_seat.the_row
+kept_seat_send s =
+    let O = kept_seat.the_type in
+    let all : AllSend (fields O) = (pointer_send, (heap_crosses.the_field_send, tt)) in
+    owning_send O all (λ d. held seat_contents.the_row s d.alloc d.at d.value) (λ k. quiet (to O) (exits_of k (fields O)) ((struct_send (shape O) all).leaving k))

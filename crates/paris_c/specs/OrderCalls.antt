@@ -1,10 +1,10 @@
 -- What a call does to an order of a handle, which is none where that is closed, and to a session by an order.
 use Rattle.std.specs.Prelude.{◌≡◌, ℕ, Bool, true, false, [], Option, Some, None}
 use Rattle.paris_exec.specs.Tasks.{Task}
-use Rattle.paris_events.specs.declared.verdicts.Verdict.{Verdict}
-use Rattle.paris_events.specs.declared.verdicts.Verdict.TheVariants as verdict
-use Rattle.paris_machine.specs.Orders.{take_reply, after_take, after_release}
-use Rattle.paris_machine.specs.Results.{verdict_of, after_bring}
+use Rattle.paris_edits.specs.declared.verdicts.Verdict.{Verdict}
+use Rattle.paris_edits.specs.declared.verdicts.Verdict.TheVariants as verdict
+use Rattle.paris_events.specs.Orders.{take_reply, after_take, after_release}
+use Rattle.paris_events.specs.Results.{verdict_of, after_bring}
 use Rattle.paris_session.specs.Transcript.{with_book}
 use Rattle.paris_c.specs.declared.contents.Contents.{Contents}
 use Rattle.paris_c.specs.declared.order_state.OrderState.{OrderState}
@@ -41,7 +41,7 @@ abbrev pub IsTaken : Option Contents → Option Contents → Option OrderState �
 IsTaken (Some old) (Some new) (Some order) =
     (task_in order ≡ take_reply old.session.state)
     × (is_executed order ≡ false)
-    × (new ≡ record old { session = with_book old.session (after_take old.session.state) old.session.tray })
+    × (new ≡ record old { session = with_book old.session (after_take old.session.state) old.session.hand.tray })
 IsTaken _ _ _ = ⊥
 
 -- no row is ready
@@ -54,10 +54,15 @@ abbrev pub IsExecuted : Option OrderState → Option OrderState → Type 0
 IsExecuted (Some old) (Some new) = (task_in new ≡ task_in old) × (is_executed new ≡ true)
 IsExecuted _ _ = ⊥
 
+-- an order isn't executed
+abbrev pub IsToExecute : Option OrderState → Type 0
+IsToExecute None = ⊥
+IsToExecute (Some order) = is_executed order ≡ false
+
 -- the result of a task was brought: of the session the book alone is another
 abbrev pub IsBrought : Option Contents → Option Contents → Option Task → Type 0
 IsBrought (Some old) (Some new) (Some task) =
-    new ≡ record old { session = with_book old.session (after_bring old.session.state task) old.session.tray }
+    new ≡ record old { session = with_book old.session (after_bring old.session.state task) old.session.hand.tray }
 IsBrought _ _ _ = ⊥
 
 -- a verdict by its number
@@ -100,5 +105,5 @@ IsSnapshot _ _ = ⊥
 
 -- the orders that are out were given up: of the session the book alone is another
 abbrev pub IsReleased : Option Contents → Option Contents → Type 0
-IsReleased (Some old) (Some new) = new ≡ record old { session = with_book old.session (after_release old.session.state) old.session.tray }
+IsReleased (Some old) (Some new) = new ≡ record old { session = with_book old.session (after_release old.session.state) old.session.hand.tray }
 IsReleased _ _ = ⊥

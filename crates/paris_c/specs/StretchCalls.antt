@@ -2,11 +2,11 @@
 use Rattle.std.specs.Prelude.{◌≡◌, ◌<◌, ◌⊎◌, ℕ, ◌+◌, ◌*◌, ◌^◌, List, length, map, Option, Some, None, Result, Ok, sum}
 use Rattle.std.specs.List.{range_with_len}
 use Rattle.paris_names.specs.declared.faults.Fault.{Fault}
-use Rattle.paris_machine.specs.declared.events.Shown.{Shown}
-use Rattle.paris_machine.specs.declared.events.Shown.TheVariants.{Settled, Pending}
+use Rattle.paris_events.specs.declared.events.Shown.{Shown}
+use Rattle.paris_events.specs.declared.events.Shown.TheVariants.{Settled, Pending}
 use Rattle.paris_stretches.specs.Stretches.{count_others, differences, greatest, least, stretch, sum_number}
 use Rattle.paris_c.specs.declared.stretches.Summary.{Summary}
-use Rattle.paris_c.specs.Calls.{wide_number}
+use Rattle.paris_c.specs.Calls.{IsShown, wide_number}
 
 -- so many of the numbers that are shown are other than 0
 abbrev pub ShowsOthers : Option (Result Shown Fault) → ℕ → Type 0
@@ -39,11 +39,6 @@ ShowsSummaries _ parts room = ⊥
 -- so many processors can't be cut into so many parts, each with a processor
 abbrev pub IsNoCut : ℕ → ℕ → Type 0
 IsNoCut parts count = (parts ≡ 0) ⊎ (count < parts)
-
--- a value is shown
-abbrev pub IsShown : Option (Result Shown Fault) → Type 0
-IsShown (Some (Ok (Settled value))) = Unit {0}
-IsShown _ = ⊥
 
 -- of two looks the first tells this, or it shows a value and the other one tells it
 abbrev pub OfTwo : (Option (Result Shown Fault) → ℕ → Type 0) → Option (Result Shown Fault) → Option (Result Shown Fault) → ℕ → Type 0

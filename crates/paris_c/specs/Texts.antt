@@ -38,6 +38,8 @@ status_text status =
     else if status == 109 then codes "no row is ready"
     else if status == 110 then codes "the order is not executed"
     else if status == 111 then codes "the two values differ in width or in the number of their processors"
+    else if status == 112 then codes "the line is no event of a desk"
+    else if status == 113 then codes "the seat is of another desk"
     else []
 
 -- the text of a cause, by its number; no other number has one

@@ -1,16 +1,16 @@
 -- What a call runs of a session, and what it tells of unsettled rows, where the handle is open.
-use Rattle.std.specs.Prelude.{◌≡◌, ◌<◌, ◌+◌, ℕ, true, List, length, take, Option, Some, None, Result, Ok, Err}
+use Rattle.std.specs.Prelude.{◌≡◌, ◌<◌, ◌+◌, ℕ, true, List, length, take, Option, Some, None, IsSome, Result, Ok, Err}
 use Rattle.paris_names.specs.declared.faults.Fault.{Fault}
 use Rattle.paris_names.specs.declared.ids.RowId.{RowId}
 use Rattle.paris_names.specs.declared.names.KeyName.{KeyName}
 use Rattle.paris_names.specs.Faults.{number_of}
-use Rattle.paris_machine.specs.Events.{has_value}
-use Rattle.paris_machine.specs.Orders.{take_reply}
-use Rattle.paris_machine.specs.Settling.{all_settled, due, unsettled_rows}
-use Rattle.paris_machine.specs.Show.{show_reply}
+use Rattle.paris_events.specs.Events.{has_value}
+use Rattle.paris_events.specs.Orders.{take_reply}
+use Rattle.paris_events.specs.Settling.{due, unsettled_rows}
+use Rattle.paris_events.specs.Show.{show_reply}
 use Rattle.paris_book.specs.Origins.{origin_reply}
 use Rattle.paris_book.specs.RanIds.{ran_ids, ran_ids_for}
-use Rattle.paris_book.specs.Rounds.{StaySettled}
+use Rattle.paris_book.specs.Stopped.{IsStoppedFor}
 use Rattle.paris_book.specs.TouchedIds.{touched_ids}
 use Rattle.paris_book.specs.Unsettled.{filled, unsettled_ids}
 use Rattle.paris_book.specs.Wanted.{settled_for}
@@ -28,6 +28,11 @@ HasRunOrders _ _ ran = ⊥
 abbrev pub HasRunAll : Option Contents → ℕ → ℕ → Type 0
 HasRunAll None most ran = ⊥
 HasRunAll (Some new) most ran = ran < most → take_reply new.session.state ≡ None
+
+-- a row is ready
+abbrev pub HasReady : Option Contents → Type 0
+HasReady None = ⊥
+HasReady (Some contents) = IsSome (take_reply contents.session.state)
 
 -- the room has as many ids of the rows that so many orders were run of as there is room for
 abbrev pub HasRanIds : Option Contents → ℕ → List ℕ → List ℕ → Type 0
@@ -88,16 +93,14 @@ HasOriginFault _ number = ⊥
 -- what a value stands on was settled, by so many orders, and the value is shown: of the session the book alone is another
 abbrev pub IsSettledFor : Option Contents → Option Contents → Option KeyName → ℕ → ℕ → Type 0
 IsSettledFor (Some old) (Some new) (Some key) place ran =
-    (new ≡ record old { session = with_book old.session (settled_for old.session.state key (spot_of place)) old.session.tray })
+    (new ≡ record old { session = with_book old.session (settled_for old.session.state key (spot_of place)) old.session.hand.tray })
     × (has_value (show_reply new.session.state key (spot_of place)) ≡ true)
     × (due new.session.state + ran ≡ due old.session.state)
 IsSettledFor _ _ _ place ran = ⊥
 
--- memory was refused once so many orders were run: settled rows are as they were, and settling ends where it would have ended
-abbrev pub IsPartlySettledFor : Option Contents → Option Contents → ℕ → Type 0
-IsPartlySettledFor (Some old) (Some new) ran =
-    (new ≡ record old { session = with_book old.session new.session.state old.session.tray })
-    × (due new.session.state + ran ≡ due old.session.state)
-    × (all_settled new.session.state ≡ all_settled old.session.state)
-    × StaySettled old.session.state.rows new.session.state.rows
-IsPartlySettledFor _ _ ran = ⊥
+-- memory was refused once so many orders were run, and the value isn't shown: the book alone is another, as such a settle leaves it
+abbrev pub IsPartlySettledFor : Option Contents → Option Contents → Option KeyName → ℕ → ℕ → Type 0
+IsPartlySettledFor (Some old) (Some new) (Some key) place ran =
+    (new ≡ record old { session = with_book old.session new.session.state old.session.hand.tray })
+    × IsStoppedFor key (spot_of place) ran old.session.state new.session.state
+IsPartlySettledFor _ _ _ place ran = ⊥

@@ -1,7 +1,8 @@
 //! A session with the reply to its last line, as C calls it.
 
-ghost use Rattle.std.specs.Prelude.{◌≡◌, ◌⊎◌, ◌^◌, [], Some, nat_lt};
-ghost use Rattle.paris_machine.specs.State.{empty_state_of};
+ghost use Rattle.std.specs.Prelude.{◌≡◌, ◌⊎◌, ◌^◌, [], false, Some, nat_lt};
+ghost use Rattle.paris_events.specs.State.{empty_state_of};
+ghost use Rattle.paris_session.specs.Hands.{is_skipped};
 ghost use Rattle.paris_session.specs.Transcript.{start, with_book, answer};
 ghost use Rattle.paris_c.specs.Calls.{IsFull, IsPartlyAnswered, IsSettled, IsPartlySettled};
 ghost use Rattle.paris_c.specs.declared.statuses.TheConstants.{OK, NO_MEMORY, TOO_MANY, PARTLY};
@@ -43,7 +44,7 @@ impl Contents {
 
     /// Whether the session can count one more command.
     fn has_room(&self) -> bool
-        ensures { result ≡ nat_lt self.now.session.commands (2 ^ 62) }
+        ensures { result ≡ nat_lt self.now.session.hand.commands (2 ^ 62) }
     {
         self.session.summary().commands < 1 << 62
     }
@@ -52,6 +53,7 @@ impl Contents {
     pub(crate) fn answer(&mut self, line: &[u8]) -> u32
         ensures answered { result ≡ OK → (self.new.session, self.new.reply.items) ≡ answer self.old.session line.now }
         ensures kept { (result ≡ NO_MEMORY) ⊎ (result ≡ TOO_MANY) → self.new ≡ self.old }
+        ensures memory { result ≡ NO_MEMORY → is_skipped line.now ≡ false }
         ensures full { result ≡ TOO_MANY → IsFull (Some self.old) }
         ensures partly { result ≡ PARTLY → IsPartlyAnswered (Some self.old) (Some self.new) line.now }
         ensures status { (result ≡ OK) ⊎ ((result ≡ NO_MEMORY) ⊎ ((result ≡ TOO_MANY) ⊎ (result ≡ PARTLY))) }

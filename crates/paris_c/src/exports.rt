@@ -1,10 +1,11 @@
 //! The calls from C.
 
-ghost use Rattle.std.specs.Prelude.{◌≡◌, ◌≢◌, ◌⊎◌, ◌<◌, ◌≤◌, ◌+◌, ◌^◌, None, length};
+ghost use Rattle.std.specs.Prelude.{◌≡◌, ◌≢◌, ◌⊎◌, ◌<◌, ◌≤◌, ◌+◌, ◌^◌, false, None, length};
 ghost use Rattle.paris_book.specs.Unsettled.{filled};
 ghost use Rattle.paris_text.specs.Words.{key_word};
+ghost use Rattle.paris_session.specs.Hands.{is_skipped};
 ghost use Rattle.paris_session.specs.Transcript.{transcript};
-ghost use Rattle.paris_c.specs.Calls.{looked, profile_of, wide_numbers, CountsReply, IsFresh, IsFreshOf, IsAnswered, IsFull, IsPartlyAnswered, IsReply, IsSet, IsSetFault, ShowsNumbers, ShowsPart, ShowsCount, ShowsPending, ShowsFault, ShowsWide, HasRows, CountsRows, HasFaults, CountsFaults, IsSettled, IsPartlySettled};
+ghost use Rattle.paris_c.specs.Calls.{looked, profile_of, wide_numbers, CanBeSet, CountsReply, IsFresh, IsFreshOf, IsAnswered, IsFull, IsPartlyAnswered, IsReply, IsSet, IsSetFault, IsShown, ShowsNumbers, ShowsPart, ShowsCount, ShowsPending, ShowsFault, ShowsWide, HasRows, CountsRows, HasFaults, CountsFaults, IsSettled, IsPartlySettled};
 ghost use Rattle.paris_c.specs.Texts.{cause_text, status_text};
 ghost use Rattle.paris_c.specs.declared.statuses.TheConstants.{OK, NO_MEMORY, CLOSED, NO_KEY, PENDING, WRONG_ROOM, TOO_MANY, TOO_WIDE, PARTLY, NO_PROFILE};
 
@@ -83,7 +84,7 @@ pub extern "C" fn paris_close(alloc: Global, handle: &mut Handle) -> u32
     }
 }
 
-/// Answers a line, keeps the reply, and says the length of the reply that is kept.
+/// Answers a line, keeps the reply, and says the length of the reply that is kept. An empty line and a comment need no memory.
 #[unsafe(no_mangle)]
 pub extern "C" fn paris_answer(
     alloc: Global,
@@ -95,6 +96,7 @@ pub extern "C" fn paris_answer(
     ensures closed { handle.old.kept.value ≡ None → (result ≡ CLOSED) × (handle.new.kept.value ≡ None) }
     ensures was_closed { result ≡ CLOSED → handle.old.kept.value ≡ None }
     ensures kept { (result ≡ NO_MEMORY) ⊎ (result ≡ TOO_MANY) → handle.new.kept.value ≡ handle.old.kept.value }
+    ensures memory { result ≡ NO_MEMORY → is_skipped line.now ≡ false }
     ensures full { result ≡ TOO_MANY → IsFull handle.old.kept.value }
     ensures partly { result ≡ PARTLY → IsPartlyAnswered handle.old.kept.value handle.new.kept.value line.now }
     ensures open { result ≢ CLOSED → handle.new.kept.value ≢ None }
@@ -168,6 +170,7 @@ pub extern "C" fn paris_set(
     ensures key { result ≡ NO_KEY → key_word key.now ≡ None }
     ensures fault { 1 ≤ result → result ≤ 23 → result ≢ NO_MEMORY →
         IsSetFault handle.old.kept.value (key_word key.now) from words.now result }
+    ensures memory { result ≡ NO_MEMORY → CanBeSet handle.old.kept.value (key_word key.now) from words.now }
     ensures status { (result ≤ 23) ⊎ ((result ≡ CLOSED) ⊎ (result ≡ NO_KEY)) }
 {
     let Some(mut contents) = handle.take(alloc) else {
@@ -194,6 +197,7 @@ pub extern "C" fn paris_get(
     ensures pending { result ≡ PENDING → ShowsPending (looked handle.old.kept.value (key_word key.now) place) told.new }
     ensures fault { 1 ≤ result → result ≤ 23 → result ≢ NO_MEMORY →
         ShowsFault (looked handle.old.kept.value (key_word key.now) place) result }
+    ensures memory { result ≡ NO_MEMORY → IsShown (looked handle.old.kept.value (key_word key.now) place) }
     ensures closed { handle.old.kept.value ≡ None → result ≡ CLOSED }
     ensures was_closed { result ≡ CLOSED → handle.old.kept.value ≡ None }
     ensures key { result ≡ NO_KEY → key_word key.now ≡ None }
@@ -226,8 +230,8 @@ pub extern "C" fn paris_part(
     ensures part { result ≡ OK → ShowsPart (looked handle.old.kept.value (key_word key.now) place) from (length room.old) room.new }
     ensures count { (result ≡ OK) ⊎ (result ≡ WRONG_ROOM) → ShowsCount (looked handle.old.kept.value (key_word key.now) place) told.new }
     ensures pending { result ≡ PENDING → ShowsPending (looked handle.old.kept.value (key_word key.now) place) told.new }
-    ensures fault { 1 ≤ result → result ≤ 23 → result ≢ NO_MEMORY →
-        ShowsFault (looked handle.old.kept.value (key_word key.now) place) result }
+    ensures fault { 1 ≤ result → result ≤ 23 → ShowsFault (looked handle.old.kept.value (key_word key.now) place) result }
+    ensures memory { result ≢ NO_MEMORY }
     ensures closed { handle.old.kept.value ≡ None → result ≡ CLOSED }
     ensures was_closed { result ≡ CLOSED → handle.old.kept.value ≡ None }
     ensures key { result ≡ NO_KEY → key_word key.now ≡ None }
@@ -261,6 +265,7 @@ pub extern "C" fn paris_set_wide(
     ensures key { result ≡ NO_KEY → key_word key.now ≡ None }
     ensures fault { 1 ≤ result → result ≤ 23 → result ≢ NO_MEMORY →
         IsSetFault handle.old.kept.value (key_word key.now) from (wide_numbers given.now) result }
+    ensures memory { result ≡ NO_MEMORY → CanBeSet handle.old.kept.value (key_word key.now) from (wide_numbers given.now) }
     ensures status { (result ≤ 23) ⊎ ((result ≡ CLOSED) ⊎ (result ≡ NO_KEY)) }
 {
     let Some(mut contents) = handle.take(alloc) else {
@@ -287,6 +292,7 @@ pub extern "C" fn paris_get_wide(
     ensures pending { result ≡ PENDING → ShowsPending (looked handle.old.kept.value (key_word key.now) place) told.new }
     ensures fault { 1 ≤ result → result ≤ 23 → result ≢ NO_MEMORY →
         ShowsFault (looked handle.old.kept.value (key_word key.now) place) result }
+    ensures memory { result ≡ NO_MEMORY → IsShown (looked handle.old.kept.value (key_word key.now) place) }
     ensures closed { handle.old.kept.value ≡ None → result ≡ CLOSED }
     ensures was_closed { result ≡ CLOSED → handle.old.kept.value ≡ None }
     ensures key { result ≡ NO_KEY → key_word key.now ≡ None }

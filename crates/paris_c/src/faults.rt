@@ -1,14 +1,14 @@
 //! The rows that are refused for their data, as words.
 
 ghost use Rattle.std.specs.Prelude.{◌≡◌, ◌≢◌, ◌⊎◌, ◌++◌, flat_map, Some, IfOk, OnOk};
-ghost use Rattle.paris_machine.specs.Lists.{faults_of};
+ghost use Rattle.paris_events.specs.Lists.{faults_of};
 ghost use Rattle.paris_c.specs.Calls.{cause_number, cause_processor, fault_words, row_words, HasFaults, CountsFaults};
 ghost use Rattle.paris_c.specs.declared.statuses.TheConstants.{OK, NO_MEMORY};
 
 use crate::contents::Contents;
 use crate::rooms::fill;
 use crate::statuses::{BAD_ADDRESS, COLLISION, NO_MEMORY, OK};
-use paris_events::RowLook;
+use paris_edits::RowLook;
 use paris_model::Refusal;
 use std::alloc::{AllocError, Global};
 

@@ -2,7 +2,7 @@
 
 ghost use Rattle.std.specs.Prelude.{◌≡◌, ◌≢◌, ◌⊎◌, ◌≤◌, None, Some};
 ghost use Rattle.paris_text.specs.Words.{key_word};
-ghost use Rattle.paris_c.specs.Calls.{IsSet, IsSetFault};
+ghost use Rattle.paris_c.specs.Calls.{CanBeSet, IsSet, IsSetFault};
 ghost use Rattle.paris_c.specs.declared.statuses.TheConstants.{OK, NO_MEMORY, CLOSED, NO_KEY};
 
 use crate::contents::Contents;
@@ -17,6 +17,7 @@ impl Contents {
         ensures key { result ≡ NO_KEY → key_word key.now ≡ None }
         ensures fault { 1 ≤ result → result ≤ 23 → result ≢ NO_MEMORY →
             IsSetFault (Some self.old) (key_word key.now) from words.now result }
+        ensures memory { result ≡ NO_MEMORY → CanBeSet (Some self.old) (key_word key.now) from words.now }
         ensures status { (result ≤ 23) ⊎ (result ≡ NO_KEY) }
         ensures open { result ≢ CLOSED }
     {

@@ -2,10 +2,15 @@
 #![tactic(auto)]
 
 mod contents;
+mod desk_calls;
+mod desk_handle;
+mod desk_lines;
+mod desk_work;
 mod exports;
 mod faults;
 mod handle;
 mod inputs;
+mod laws;
 mod looks;
 mod order_handle;
 mod order_state;
@@ -13,6 +18,9 @@ mod orders;
 mod overviews;
 mod rooms;
 mod running;
+mod seat_handle;
+mod seat_looks;
+mod seating;
 mod statuses;
 mod stretches;
 mod texts;

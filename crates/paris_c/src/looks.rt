@@ -3,13 +3,13 @@
 ghost use Rattle.std.specs.Prelude.{◌≡◌, ◌≢◌, ◌⊎◌, ◌<◌, ◌≤◌, ◌+◌, length, None, Some, map, nat_lt};
 ghost use Rattle.paris_text.specs.Words.{key_word};
 ghost use Rattle.paris_field.specs.Fields.{AllFit};
-ghost use Rattle.paris_c.specs.Calls.{spot_of, looked, ids_listed, IsPart, ShowsNumbers, ShowsPart, ShowsCount, ShowsPending, ShowsFault, ShowsWide};
+ghost use Rattle.paris_c.specs.Calls.{spot_of, looked, ids_listed, IsPart, IsShown, ShowsNumbers, ShowsPart, ShowsCount, ShowsPending, ShowsFault, ShowsWide};
 ghost use Rattle.paris_c.specs.declared.statuses.TheConstants.{OK, NO_MEMORY, CLOSED, NO_KEY, PENDING, WRONG_ROOM, TOO_WIDE};
 
 use crate::contents::Contents;
 use crate::statuses::{self, NO_KEY, NO_MEMORY, OK, PENDING, TOO_WIDE, WRONG_ROOM};
 use paris_book::Look;
-use paris_events::RowLook;
+use paris_edits::RowLook;
 use paris_field::FieldValue;
 use paris_names::{RowId, Spot};
 use paris_text::key_of_word;
@@ -46,7 +46,7 @@ fn put_words(numbers: &[u128], room: &mut [u64])
 }
 
 /// Puts the numbers of a value into a room of as many words, and says how many they are.
-fn put_value(value: &FieldValue, room: &mut [u64], told: &mut u64) -> u32
+pub(crate) fn put_value(value: &FieldValue, room: &mut [u64], told: &mut u64) -> u32
     ensures numbers { result ≡ OK → room.new ≡ value.now.numbers }
     ensures told { told.new ≡ length value.now.numbers }
     ensures kept { result ≢ OK → room.new ≡ room.old }
@@ -118,6 +118,7 @@ impl Contents {
         ensures count { (result ≡ OK) ⊎ (result ≡ WRONG_ROOM) → ShowsCount (looked (Some self.now) (key_word key.now) place) told.new }
         ensures pending { result ≡ PENDING → ShowsPending (looked (Some self.now) (key_word key.now) place) told.new }
         ensures fault { 1 ≤ result → result ≤ 23 → result ≢ NO_MEMORY → ShowsFault (looked (Some self.now) (key_word key.now) place) result }
+        ensures memory { result ≡ NO_MEMORY → IsShown (looked (Some self.now) (key_word key.now) place) }
         ensures key { result ≡ NO_KEY → key_word key.now ≡ None }
         ensures few { result ≡ WRONG_ROOM → length room.old ≢ told.new }
         ensures wide { result ≡ TOO_WIDE → ShowsWide (looked (Some self.now) (key_word key.now) place) }
@@ -151,7 +152,8 @@ impl Contents {
         ensures part { result ≡ OK → ShowsPart (looked (Some self.now) (key_word key.now) place) from (length room.old) room.new }
         ensures count { (result ≡ OK) ⊎ (result ≡ WRONG_ROOM) → ShowsCount (looked (Some self.now) (key_word key.now) place) told.new }
         ensures pending { result ≡ PENDING → ShowsPending (looked (Some self.now) (key_word key.now) place) told.new }
-        ensures fault { 1 ≤ result → result ≤ 23 → result ≢ NO_MEMORY → ShowsFault (looked (Some self.now) (key_word key.now) place) result }
+        ensures fault { 1 ≤ result → result ≤ 23 → ShowsFault (looked (Some self.now) (key_word key.now) place) result }
+        ensures memory { result ≢ NO_MEMORY }
         ensures key { result ≡ NO_KEY → key_word key.now ≡ None }
         ensures past { result ≡ WRONG_ROOM → told.new < from + length room.old }
         ensures wide { result ≡ TOO_WIDE → ShowsWide (looked (Some self.now) (key_word key.now) place) }

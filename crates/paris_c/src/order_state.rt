@@ -1,7 +1,7 @@
 //! An order as C calls it: to be executed, or executed.
 
 ghost use Rattle.std.specs.Prelude.{◌≡◌, true, false, Some};
-ghost use Rattle.paris_c.specs.OrderCalls.{is_spent, is_executed, task_in, IsExecuted};
+ghost use Rattle.paris_c.specs.OrderCalls.{is_spent, is_executed, task_in, IsExecuted, IsToExecute};
 
 use paris_exec::{Done, Order, execute};
 use std::alloc::Global;
@@ -16,11 +16,12 @@ pub enum OrderState {
 }
 
 impl OrderState {
-    /// Executes the order in its place, unless it is executed. False where memory was refused: then it is as it was.
+    /// Executes the order in its place, unless it is executed. False where memory was refused: then it isn't executed, and is as it was.
     pub(crate) fn execute(&mut self, alloc: Global) -> bool
         requires { is_spent self.old ≡ false }
         ensures executed { result ≡ true → IsExecuted (Some self.old) (Some self.new) }
         ensures kept { result ≡ false → self.new ≡ self.old }
+        ensures waits { result ≡ false → IsToExecute (Some self.old) }
         ensures whole { is_spent self.new ≡ false }
     {
         match mem::replace(self, OrderState::Nothing) {

@@ -1,7 +1,8 @@
 //! The calls from C for orders, results and snapshots.
 
 ghost use Rattle.std.specs.Prelude.{◌≡◌, ◌≢◌, ◌⊎◌, None};
-ghost use Rattle.paris_c.specs.OrderCalls.{result_in, IsTaken, HasNoneReady, IsExecuted, IsBrought, HasVerdict, HasEdition, IsOrderOf, IsSnapshot, IsReleased};
+ghost use Rattle.paris_c.specs.OrderCalls.{result_in, IsTaken, HasNoneReady, IsExecuted, IsToExecute, IsBrought, HasVerdict, HasEdition, IsOrderOf, IsSnapshot, IsReleased};
+ghost use Rattle.paris_c.specs.TurnCalls.{HasReady};
 ghost use Rattle.paris_c.specs.declared.statuses.TheConstants.{OK, NO_MEMORY, CLOSED, NOTHING, NOT_RUN};
 
 use crate::handle::Handle;
@@ -15,6 +16,7 @@ use std::alloc::Global;
 pub extern "C" fn paris_take(alloc: Global, handle: &mut Handle, order: &mut OrderHandle) -> u32
     ensures taken { result ≡ OK → IsTaken handle.old.kept.value handle.new.kept.value order.new.kept.value }
     ensures nothing { result ≡ NOTHING → HasNoneReady handle.old.kept.value }
+    ensures memory { result ≡ NO_MEMORY → HasReady handle.old.kept.value }
     ensures kept { result ≢ OK → handle.new.kept.value ≡ handle.old.kept.value }
     ensures dropped { result ≢ OK → order.new.kept.value ≡ None }
     ensures closed { handle.old.kept.value ≡ None → result ≡ CLOSED }
@@ -27,8 +29,9 @@ pub extern "C" fn paris_take(alloc: Global, handle: &mut Handle, order: &mut Ord
     };
     // The box comes first, so that no order is lost for want of one.
     let Ok(mut state) = Box::new(alloc, OrderState::Nothing) else {
+        let status = contents.without_box();
         handle.put(contents);
-        return NO_MEMORY;
+        return status;
     };
     let status = contents.take(&mut state);
     handle.put(contents);
@@ -43,6 +46,7 @@ pub extern "C" fn paris_take(alloc: Global, handle: &mut Handle, order: &mut Ord
 pub extern "C" fn paris_execute(alloc: Global, order: &mut OrderHandle) -> u32
     ensures executed { result ≡ OK → IsExecuted order.old.kept.value order.new.kept.value }
     ensures kept { result ≢ OK → order.new.kept.value ≡ order.old.kept.value }
+    ensures memory { result ≡ NO_MEMORY → IsToExecute order.old.kept.value }
     ensures closed { order.old.kept.value ≡ None → result ≡ CLOSED }
     ensures was_closed { result ≡ CLOSED → order.old.kept.value ≡ None }
     ensures status { (result ≡ OK) ⊎ ((result ≡ CLOSED) ⊎ (result ≡ NO_MEMORY)) }

@@ -2,16 +2,17 @@
 
 ghost use Rattle.std.specs.Prelude.{◌≡◌, ◌≢◌, ◌⊎◌, [], None, Some, false, IfOk};
 ghost use Rattle.paris_c.specs.OrderCalls.{is_spent, result_in, verdict_number, IsTaken, HasNoneReady, IsBrought, HasVerdict, TellsEdition, HasEdition, IsReleased, IsSnapshot};
+ghost use Rattle.paris_c.specs.TurnCalls.{HasReady};
 ghost use Rattle.paris_c.specs.declared.statuses.TheConstants.{OK, NO_MEMORY, NOTHING, NOT_RUN};
 
 use crate::contents::Contents;
 use crate::order_state::OrderState;
 use crate::statuses::{FOREIGN, GONE, KEPT, NO_MEMORY, NOT_RUN, NOTHING, OK, REPEATED, STALE};
-use paris_events::Verdict;
+use paris_edits::Verdict;
 use std::alloc::{AllocError, Global};
 
 /// The number of a verdict. Of a stale result it says the row's present edition.
-fn tell_verdict(verdict: Verdict, edition: &mut u64) -> u32
+pub(crate) fn tell_verdict(verdict: Verdict, edition: &mut u64) -> u32
     ensures number { result ≡ verdict_number verdict }
     ensures edition { TellsEdition verdict edition.new }
 {
@@ -28,11 +29,25 @@ fn tell_verdict(verdict: Verdict, edition: &mut u64) -> u32
 }
 
 impl Contents {
+    /// What is answered where memory for the box of an order was refused: that, or that no row is ready.
+    pub(crate) fn without_box(&self) -> u32
+        ensures nothing { result ≡ NOTHING → HasNoneReady (Some self.now) }
+        ensures memory { result ≡ NO_MEMORY → HasReady (Some self.now) }
+        ensures status { (result ≡ NO_MEMORY) ⊎ (result ≡ NOTHING) }
+    {
+        if self.session.has_ready() {
+            NO_MEMORY
+        } else {
+            NOTHING
+        }
+    }
+
     /// Takes an order for the first ready row, and puts it into its state.
     pub(crate) fn take(&mut self, state: &mut OrderState) -> u32
         ensures taken { result ≡ OK → IsTaken (Some self.old) (Some self.new) (Some state.new) }
         ensures whole { result ≡ OK → is_spent state.new ≡ false }
         ensures nothing { result ≡ NOTHING → HasNoneReady (Some self.old) }
+        ensures memory { result ≡ NO_MEMORY → HasReady (Some self.old) }
         ensures kept { result ≢ OK → self.new ≡ self.old }
         ensures status { (result ≡ OK) ⊎ ((result ≡ NO_MEMORY) ⊎ (result ≡ NOTHING)) }
     {

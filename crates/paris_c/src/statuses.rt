@@ -8,8 +8,14 @@ use paris_names::Fault;
 /// The call did what it is for.
 pub(crate) const OK: u32 = 0;
 
+/// The history has as many entries as it may have. It is the number of that fault.
+pub(crate) const FULL: u32 = 18;
+
 /// There is no memory left. It is the number of that fault.
 pub(crate) const NO_MEMORY: u32 = 19;
+
+/// No entry has this number. It is the number of that fault.
+pub(crate) const NO_ENTRY: u32 = 23;
 
 /// The handle is closed.
 pub(crate) const CLOSED: u32 = 101;
@@ -44,6 +50,12 @@ pub(crate) const NOT_RUN: u32 = 110;
 /// Two values have another width or another number of processors.
 pub(crate) const UNLIKE: u32 = 111;
 
+/// The line is no event of a desk.
+pub(crate) const NO_EVENT: u32 = 112;
+
+/// The seat is of another desk.
+pub(crate) const STRANGE: u32 = 113;
+
 /// The cause of a row that is refused for its data: two messages meet at a processor.
 pub(crate) const COLLISION: u32 = 1;
 
@@ -64,6 +76,24 @@ pub(crate) const GONE: u32 = 4;
 
 /// The verdict on a result: its plan or an input differs from the present one, or an origin isn't settled.
 pub(crate) const FOREIGN: u32 = 5;
+
+/// The kind of an event: an edit.
+pub(crate) const EDIT: u32 = 1;
+
+/// The kind of an event: an order is taken.
+pub(crate) const TAKE: u32 = 2;
+
+/// The kind of an event: a result is brought.
+pub(crate) const BRING: u32 = 3;
+
+/// The kind of an event: the orders that are out are given up.
+pub(crate) const RELEASE: u32 = 4;
+
+/// The kind of an event: a look at a key.
+pub(crate) const SHOW: u32 = 5;
+
+/// The kind of an event: a look at the rows.
+pub(crate) const LIST: u32 = 6;
 
 /// The status of a call that is refused by a fault.
 #[tactic(auto, using(crate::proofs::FaultNumbers::number_small))]

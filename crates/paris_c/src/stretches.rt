@@ -1,7 +1,7 @@
 //! What the numbers of a value come to, and where two values differ, in stretches of their processors.
 
 ghost use Rattle.std.specs.Prelude.{◌≡◌, ◌≢◌, ◌⊎◌, ◌≤◌, Some, None, Ok, length, map};
-ghost use Rattle.paris_machine.specs.declared.events.Shown.TheVariants.{Settled};
+ghost use Rattle.paris_events.specs.declared.events.Shown.TheVariants.{Settled};
 ghost use Rattle.paris_text.specs.Words.{key_word};
 ghost use Rattle.paris_stretches.specs.Stretches.{differences};
 ghost use Rattle.paris_c.specs.Calls.{looked, wide_of, ShowsCount, ShowsPending, ShowsFault};

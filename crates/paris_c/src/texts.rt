@@ -43,6 +43,8 @@ pub(crate) fn status_text(status: u32) -> &'static [u8]
         109 => b"no row is ready",
         110 => b"the order is not executed",
         111 => b"the two values differ in width or in the number of their processors",
+        112 => b"the line is no event of a desk",
+        113 => b"the seat is of another desk",
         _ => b"",
     }
 }

@@ -3,7 +3,7 @@
 ghost use Rattle.std.specs.Prelude.{◌≡◌, ◌≢◌, ◌⊎◌, ◌<◌, ◌≤◌, None};
 ghost use Rattle.paris_text.specs.Words.{key_word};
 ghost use Rattle.paris_c.specs.Calls.{looked, ShowsFault};
-ghost use Rattle.paris_c.specs.TurnCalls.{origin_looked, HasRanFor, HasRanIds, HasRunOrders, HasRunAll, HasUnsettled, CountsUnsettled, HasTouched, CountsTouched, HasEdits, HasOrigin, HasOriginFault, IsSettledFor, IsPartlySettledFor};
+ghost use Rattle.paris_c.specs.TurnCalls.{origin_looked, HasRanFor, HasRanIds, HasRunOrders, HasRunAll, HasReady, HasUnsettled, CountsUnsettled, HasTouched, CountsTouched, HasEdits, HasOrigin, HasOriginFault, IsSettledFor, IsPartlySettledFor};
 ghost use Rattle.paris_c.specs.declared.statuses.TheConstants.{OK, CLOSED, NO_KEY, PARTLY};
 
 use crate::handle::Handle;
@@ -17,6 +17,7 @@ pub extern "C" fn paris_run(alloc: Global, handle: &mut Handle, most: u64, ran: 
     ensures most { (result ≡ OK) ⊎ (result ≡ PARTLY) → ran.new ≤ most }
     ensures all { result ≡ OK → HasRunAll handle.new.kept.value most ran.new }
     ensures fewer { result ≡ PARTLY → ran.new < most }
+    ensures ready { result ≡ PARTLY → HasReady handle.new.kept.value }
     ensures closed { result ≡ CLOSED → (handle.old.kept.value ≡ None) × (handle.new.kept.value ≡ None) }
     ensures status { (result ≡ OK) ⊎ ((result ≡ CLOSED) ⊎ (result ≡ PARTLY)) }
 {
@@ -42,6 +43,7 @@ pub extern "C" fn paris_run_ids(
     ensures most { (result ≡ OK) ⊎ (result ≡ PARTLY) → ran.new ≤ most }
     ensures all { result ≡ OK → HasRunAll handle.new.kept.value most ran.new }
     ensures fewer { result ≡ PARTLY → ran.new < most }
+    ensures ready { result ≡ PARTLY → HasReady handle.new.kept.value }
     ensures room { result ≡ CLOSED → room.new ≡ room.old }
     ensures closed { result ≡ CLOSED → (handle.old.kept.value ≡ None) × (handle.new.kept.value ≡ None) }
     ensures status { (result ≡ OK) ⊎ ((result ≡ CLOSED) ⊎ (result ≡ PARTLY)) }
@@ -64,7 +66,7 @@ pub extern "C" fn paris_settle_for(
     ran: &mut u64,
 ) -> u32
     ensures settled { result ≡ OK → IsSettledFor handle.old.kept.value handle.new.kept.value (key_word key.now) place ran.new }
-    ensures partly { result ≡ PARTLY → IsPartlySettledFor handle.old.kept.value handle.new.kept.value ran.new }
+    ensures partly { result ≡ PARTLY → IsPartlySettledFor handle.old.kept.value handle.new.kept.value (key_word key.now) place ran.new }
     ensures fault { 1 ≤ result → result ≤ 23 → ShowsFault (looked handle.old.kept.value (key_word key.now) place) result }
     ensures key { result ≡ NO_KEY → key_word key.now ≡ None }
     ensures kept { result ≢ OK → result ≢ PARTLY → handle.new.kept.value ≡ handle.old.kept.value }
@@ -94,7 +96,7 @@ pub extern "C" fn paris_settle_for_ids(
     ensures ids { (result ≡ OK) ⊎ (result ≡ PARTLY) → HasRanFor handle.old.kept.value (key_word key.now) place ran.new room.old room.new }
     ensures room { result ≢ OK → result ≢ PARTLY → room.new ≡ room.old }
     ensures settled { result ≡ OK → IsSettledFor handle.old.kept.value handle.new.kept.value (key_word key.now) place ran.new }
-    ensures partly { result ≡ PARTLY → IsPartlySettledFor handle.old.kept.value handle.new.kept.value ran.new }
+    ensures partly { result ≡ PARTLY → IsPartlySettledFor handle.old.kept.value handle.new.kept.value (key_word key.now) place ran.new }
     ensures fault { 1 ≤ result → result ≤ 23 → ShowsFault (looked handle.old.kept.value (key_word key.now) place) result }
     ensures key { result ≡ NO_KEY → key_word key.now ≡ None }
     ensures kept { result ≢ OK → result ≢ PARTLY → handle.new.kept.value ≡ handle.old.kept.value }

@@ -3,7 +3,7 @@
 ghost use Rattle.std.specs.Prelude.{◌≡◌, ◌≢◌, ◌⊎◌, ◌<◌, ◌≤◌, Some, None};
 ghost use Rattle.paris_text.specs.Words.{key_word};
 ghost use Rattle.paris_c.specs.Calls.{looked, ShowsFault};
-ghost use Rattle.paris_c.specs.TurnCalls.{origin_looked, HasRanFor, HasRanIds, HasRunOrders, HasRunAll, HasUnsettled, CountsUnsettled, HasTouched, CountsTouched, HasEdits, HasOrigin, HasOriginFault, IsSettledFor, IsPartlySettledFor};
+ghost use Rattle.paris_c.specs.TurnCalls.{origin_looked, HasRanFor, HasRanIds, HasRunOrders, HasRunAll, HasReady, HasUnsettled, CountsUnsettled, HasTouched, CountsTouched, HasEdits, HasOrigin, HasOriginFault, IsSettledFor, IsPartlySettledFor};
 ghost use Rattle.paris_c.specs.declared.statuses.TheConstants.{OK, NO_KEY, PARTLY};
 
 use crate::contents::Contents;
@@ -20,6 +20,7 @@ impl Contents {
         ensures most { ran.new ≤ most }
         ensures all { result ≡ OK → HasRunAll (Some self.new) most ran.new }
         ensures fewer { result ≡ PARTLY → ran.new < most }
+        ensures ready { result ≡ PARTLY → HasReady (Some self.new) }
         ensures status { (result ≡ OK) ⊎ (result ≡ PARTLY) }
     {
         match self.session.run_ids(most, room) {
@@ -88,7 +89,7 @@ impl Contents {
         ensures ids { (result ≡ OK) ⊎ (result ≡ PARTLY) → HasRanFor (Some self.old) (key_word key.now) place ran.new room.old room.new }
         ensures room { result ≢ OK → result ≢ PARTLY → room.new ≡ room.old }
         ensures settled { result ≡ OK → IsSettledFor (Some self.old) (Some self.new) (key_word key.now) place ran.new }
-        ensures partly { result ≡ PARTLY → IsPartlySettledFor (Some self.old) (Some self.new) ran.new }
+        ensures partly { result ≡ PARTLY → IsPartlySettledFor (Some self.old) (Some self.new) (key_word key.now) place ran.new }
         ensures fault { 1 ≤ result → result ≤ 23 → ShowsFault (looked (Some self.old) (key_word key.now) place) result }
         ensures key { result ≡ NO_KEY → key_word key.now ≡ None }
         ensures kept { result ≢ OK → result ≢ PARTLY → self.new ≡ self.old }

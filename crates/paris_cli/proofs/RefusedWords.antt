@@ -3,8 +3,8 @@ use Rattle.std.proofs.Common.{◌≡◌, ℕ, ◌<◌, ◌⊎◌, List, [], Opti
 use Rattle.std.proofs.KnownBytes.{Consumes-nil, Appends-nil}
 use Rattle.paris_session.specs.Transcript.{transcript}
 use Rattle.std.specs.Io.KnownBytes.{Appends, Keeps}
-use Rattle.paris_calls.specs.Calls.{Marks, no_marks}
-use Rattle.paris_calls.specs.Texts.{WritesFront}
+use Rattle.paris_session.specs.Calls.{Marks, no_marks}
+use Rattle.paris_session.specs.Texts.{WritesFront}
 use Rattle.paris_session.specs.declared.run.RunFault.TheVariants as run_fault
 use Rattle.paris_cli.specs.declared.words.WordsFault.{WordsFault}
 use Rattle.paris_cli.specs.declared.words.WordsFault.TheVariants.{Usage, Untold, NotText, NoMemory}
@@ -40,12 +40,13 @@ keeps_all (Some xs) = refl
 
 -- words that ask for a desk, and are refused
 pub tells_of_words : (words : List (List ℕ)) (reader writer errors_old errors_new : Option (List ℕ)) (run errors : Marks) (fault : WordsFault) (status : ℕ)
-    → run ≡ no_marks → (fault ≡ NoMemory) ⊎ (AreTaken words → ⊥) → status ≡ refusal_status fault
+    → run ≡ no_marks → (fault ≡ NoMemory) ⊎ (AreTaken words → ⊥) → (fault ≡ NotText → ⊥) → status ≡ refusal_status fault
     → WritesFront errors_old errors_new (refusal_line fault) → (errors.write_failed ≡ false → Appends errors_old errors_new (refusal_line fault))
     → TellsOfWords words reader reader writer writer errors_old errors_new run errors status
-tells_of_words words reader writer errors_old errors_new run errors fault status fresh untaken is said whole = record {
+tells_of_words words reader writer errors_old errors_new run errors fault status fresh untaken in_text is said whole = record {
   fault = fault;
   untaken = untaken;
+  in_text = in_text;
   status_is = is;
   unread = keeps_all reader;
   unwritten = keeps_all writer;

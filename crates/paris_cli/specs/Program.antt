@@ -2,8 +2,8 @@
 use Rattle.std.specs.Prelude.{◌≡◌, ◌⊎◌, ℕ, ◌==◌, List, Option, codes, false, if◌then◌else◌}
 use Rattle.std.specs.Io.KnownBytes.{Appends, Consumes, Keeps, IsAtEnd}
 use Rattle.paris_session.specs.Transcript.{transcript, sitting_after}
-use Rattle.paris_calls.specs.Calls.{Marks, no_marks}
-use Rattle.paris_calls.specs.Texts.{WritesFront}
+use Rattle.paris_session.specs.Calls.{Marks, no_marks}
+use Rattle.paris_session.specs.Texts.{WritesFront}
 use Rattle.paris_session.specs.Run.{StopsShort, HasCause, HasEnded, most_reads}
 use Rattle.paris_session.specs.declared.answers.Summary.{Summary}
 use Rattle.paris_names.specs.declared.faults.Fault.TheVariants.{NoEntry}
@@ -39,7 +39,7 @@ pub record Finishes (reader_old reader_new writer_old writer_new errors_old erro
   pub consumed : Consumes reader_old reader_new read
   pub at_end : IsAtEnd reader_new
   pub written : Appends writer_old writer_new (transcript read)
-  pub status_is : status ≡ exit_status (sitting_after read).refusals
+  pub status_is : status ≡ exit_status (sitting_after read).hand.refusals
   pub silent : Keeps errors_old errors_new
   pub ended : HasEnded run
 
@@ -73,8 +73,8 @@ desk_fault_status desk.Parts = 2
 desk_fault_status (desk.Desk fault) = 4
 
 -- all bytes were read, they were run at a desk with so many workers, what they come to was written, and the status says whether some
--- command was refused; no line names a fault
-pub record FinishesAtDesk (workers : ℕ) (reader_old reader_new writer_old writer_new errors_old errors_new : Option (List ℕ)) (status : ℕ) : Type 0 where
+-- command was refused; the reader has ended, no call has failed, and no line names a fault
+pub record FinishesAtDesk (workers : ℕ) (reader_old reader_new writer_old writer_new errors_old errors_new : Option (List ℕ)) (run : Marks) (status : ℕ) : Type 0 where
   pub read : List ℕ
   pub text : List ℕ
   pub summary : Summary
@@ -84,11 +84,12 @@ pub record FinishesAtDesk (workers : ℕ) (reader_old reader_new writer_old writ
   pub runs : ScriptRuns workers read text summary
   pub status_is : status ≡ exit_status summary.refusals
   pub silent : Keeps errors_old errors_new
+  pub ended : HasEnded run
 
 -- with as many workers as the words ask for
-abbrev pub Sits : List (List ℕ) → Option (List ℕ) → Option (List ℕ) → Option (List ℕ) → Option (List ℕ) → Option (List ℕ) → Option (List ℕ) → ℕ → Type 0
-Sits words reader_old reader_new writer_old writer_new errors_old errors_new status =
-    (workers : ℕ) × ((k : ℕ) → AskFor words k → workers ≡ k) × FinishesAtDesk workers reader_old reader_new writer_old writer_new errors_old errors_new status
+abbrev pub Sits : List (List ℕ) → Option (List ℕ) → Option (List ℕ) → Option (List ℕ) → Option (List ℕ) → Option (List ℕ) → Option (List ℕ) → Marks → ℕ → Type 0
+Sits words reader_old reader_new writer_old writer_new errors_old errors_new run status =
+    (workers : ℕ) × ((k : ℕ) → AskFor words k → workers ≡ k) × FinishesAtDesk workers reader_old reader_new writer_old writer_new errors_old errors_new run status
 
 -- a fault stopped a run at a desk with so many workers, it has its cause, and the status says which it is: nothing was written, unless the
 -- writer has failed, and then a front of what the script comes to. A front of the line that names the fault was written: all of the line,
@@ -102,11 +103,12 @@ pub record StopsAtDesk (workers : ℕ) (reader_old reader_new writer_old writer_
   pub named : WritesFront errors_old errors_new (desk_fault_line fault)
   pub whole : errors.write_failed ≡ false → Appends errors_old errors_new (desk_fault_line fault)
 
--- the words were refused, since they aren't taken or there is no memory, and the status says which: nothing was read and nothing was
--- written, and a front of what is said of them was: all of it, unless that writer has failed
+-- the words were refused, since they aren't taken or there is no memory, and the status says which; that they are no text isn't said. Nothing
+-- was read and nothing was written, and a front of what is said of them was: all of it, unless that writer has failed
 pub record TellsOfWords (words : List (List ℕ)) (reader_old reader_new writer_old writer_new errors_old errors_new : Option (List ℕ)) (run errors : Marks) (status : ℕ) : Type 0 where
   pub fault : WordsFault
   pub untaken : (fault ≡ words_fault.NoMemory) ⊎ (AreTaken words → ⊥)
+  pub in_text : fault ≡ words_fault.NotText → ⊥
   pub status_is : status ≡ refusal_status fault
   pub unread : Keeps reader_old reader_new
   pub unwritten : Keeps writer_old writer_new

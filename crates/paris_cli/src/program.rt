@@ -3,19 +3,19 @@
 ghost use Rattle.std.specs.Prelude.{◌≡◌, ◌≢◌, ℕ, ◌<◌, ◌≤◌, List, map, true, false};
 ghost use Rattle.std.specs.String.{string_bytes};
 ghost use Rattle.std.specs.Io.KnownBytes.{Appends};
-ghost use Rattle.paris_calls.specs.Calls.{no_marks};
-ghost use Rattle.paris_calls.specs.Texts.{WritesFront};
-ghost use Rattle.paris_cli.specs.Program.{Finishes, FinishesAtDesk, Halts, Refuses, Sits, Stops, StopsAtDesk, desk_fault_line, desk_fault_status, exit_status, run_fault_line, run_fault_status};
+ghost use Rattle.paris_session.specs.Calls.{no_marks};
+ghost use Rattle.paris_session.specs.Texts.{WritesFront};
+ghost use Rattle.paris_session.specs.Run.{HasEnded};
+ghost use Rattle.paris_cli.specs.Program.{Finishes, FinishesAtDesk, Halts, Refuses, Sits, Stops, StopsAtDesk, TellsOfWords, desk_fault_line, desk_fault_status, exit_status, run_fault_line, run_fault_status};
 ghost use Rattle.paris_cli.specs.Words.{AreTaken, AskForDesk, refusal_line, refusal_status};
 ghost use Rattle.paris_names.specs.declared.limits.TheConstants.{MAX_WORKERS};
 
 use crate::words::{Wanted, WordsFault, read_words};
 use crate::workers::Workers;
-use paris_calls::{Tally, write_out};
 use paris_exec::OpenGate;
 use paris_names::Fault;
 use paris_parts::{DeskRunFault, run_sessions};
-use paris_session::{RunFault, Summary, run_script};
+use paris_session::{RunFault, Summary, Tally, run_script, write_out};
 use std::io::{Read, Write};
 use std::sync::Wait;
 use std::thread::Threads;
@@ -135,6 +135,7 @@ fn run<H: Threads + Wait + Sync + AllocGlobal, R: Read, W: Write, E: Write>(
     ensures stops { 1 < result → Stops (R.remaining reader.old) (R.remaining reader.new) (W.contents writer.old) (W.contents writer.new)
         (E.contents errors.old) (E.contents errors.new) tallies.new.run tallies.new.errors result }
     ensures status { result ≢ 2 }
+    ensures untold { result ≤ 1 → tallies.new.errors ≡ tallies.old.errors }
 {
     let workers = Workers { rt, count: workers };
     match run_script(rt, &workers, rt.alloc(), reader, writer, &mut tallies.run) {
@@ -161,9 +162,10 @@ fn run_at_desk<H: Threads + Wait + Sync + AllocGlobal, R: Read, W: Write, E: Wri
     requires workers { (1 ≤ workers) × (workers ≤ MAX_WORKERS) }
     requires fresh { tallies.old.run ≡ no_marks }
     ensures finishes { result ≤ 1 → FinishesAtDesk workers (R.remaining reader.old) (R.remaining reader.new)
-        (W.contents writer.old) (W.contents writer.new) (E.contents errors.old) (E.contents errors.new) result }
+        (W.contents writer.old) (W.contents writer.new) (E.contents errors.old) (E.contents errors.new) tallies.new.run result }
     ensures stops { 1 < result → StopsAtDesk workers (R.remaining reader.old) (R.remaining reader.new) (W.contents writer.old) (W.contents writer.new)
         (E.contents errors.old) (E.contents errors.new) tallies.new.run tallies.new.errors result }
+    ensures untold { result ≤ 1 → tallies.new.errors ≡ tallies.old.errors }
 {
     let settler = Workers { rt, count: workers };
     let alloc = rt.alloc();
@@ -201,7 +203,7 @@ pub fn run_words<H: Threads + Wait + Sync + AllocGlobal, R: Read, W: Write, E: W
     ensures finishes { result ≤ 1 → AskForDesk (map string_bytes words.now) false → Finishes (R.remaining reader.old) (R.remaining reader.new)
         (W.contents writer.old) (W.contents writer.new) (E.contents errors.old) (E.contents errors.new) tallies.new.run result }
     ensures sits { result ≤ 1 → AskForDesk (map string_bytes words.now) true → Sits (map string_bytes words.now) (R.remaining reader.old)
-        (R.remaining reader.new) (W.contents writer.old) (W.contents writer.new) (E.contents errors.old) (E.contents errors.new) result }
+        (R.remaining reader.new) (W.contents writer.old) (W.contents writer.new) (E.contents errors.old) (E.contents errors.new) tallies.new.run result }
     ensures taken { result ≤ 1 → AreTaken (map string_bytes words.now) }
     ensures untaken { result ≡ 2 → AskForDesk (map string_bytes words.now) false → AreTaken (map string_bytes words.now) → ⊥ }
     ensures refuses { result ≡ 2 → AskForDesk (map string_bytes words.now) false → Refuses (R.remaining reader.old) (R.remaining reader.new)
@@ -210,6 +212,10 @@ pub fn run_words<H: Threads + Wait + Sync + AllocGlobal, R: Read, W: Write, E: W
         (W.contents writer.old) (W.contents writer.new) (E.contents errors.old) (E.contents errors.new) tallies.new.run tallies.new.errors result }
     ensures halts { 1 < result → AskForDesk (map string_bytes words.now) true → Halts (map string_bytes words.now) (R.remaining reader.old) (R.remaining reader.new)
         (W.contents writer.old) (W.contents writer.new) (E.contents errors.old) (E.contents errors.new) tallies.new.run tallies.new.errors result }
+    ensures refused { (AreTaken (map string_bytes words.now) → ⊥) → TellsOfWords (map string_bytes words.now) (R.remaining reader.old) (R.remaining reader.new)
+        (W.contents writer.old) (W.contents writer.new) (E.contents errors.old) (E.contents errors.new) tallies.new.run tallies.new.errors result }
+    ensures ended { result ≤ 1 → HasEnded tallies.new.run }
+    ensures untold { result ≤ 1 → tallies.new.errors ≡ tallies.old.errors }
 {
     let Wanted { workers, desk } = match read_words(rt.alloc(), words) {
         Ok(wanted) => wanted,

@@ -12,17 +12,22 @@ use clap::error::ErrorKind;
 use clap::{Arg, ArgAction, Command, value_parser};
 use paris_names::limits::MAX_WORKERS;
 use std::alloc::{AllocError, Global};
+use thiserror::Error;
 
 /// Why the words of a command line are refused.
-#[derive(Debug, Drop)]
+#[derive(Debug, Drop, Error)]
 pub enum WordsFault {
     /// They ask for nothing that the program does. The text says why, or is the help that they ask for.
+    #[error("{0}")]
     Usage(String),
     /// They ask for nothing that the program does, and there is no memory left to say why.
+    #[error("wrong words")]
     Untold,
     /// One of them is not in UTF-8.
+    #[error("a word is not in UTF-8")]
     NotText,
     /// There is no memory left.
+    #[error("no memory")]
     NoMemory,
 }
 
@@ -99,6 +104,7 @@ fn parse(alloc: Global, words: &[String]) -> Result<(u8, bool), clap::Error>
 fn fault_of(alloc: Global, error: clap::Error) -> WordsFault
     ensures memory { kind_of error ≡ OutOfMemory → result ≡ WordsCase.NoMemory }
     ensures refusal { result ≡ WordsCase.NoMemory → kind_of error ≡ OutOfMemory }
+    ensures in_text { result ≡ WordsCase.NotText → ⊥ }
 {
     if error.kind() == ErrorKind::OutOfMemory {
         return WordsFault::NoMemory;
@@ -126,6 +132,7 @@ pub fn read_words(alloc: Global, words: &[String]) -> Result<Wanted, WordsFault>
     ensures desk { IfOk result (λ wanted. (desk : Bool) → AskForDesk (map string_bytes words.now) desk → wanted.desk ≡ desk) }
     ensures taken { OnOk result (AreTaken (map string_bytes words.now)) }
     ensures untaken { IfErr result (λ fault. (fault ≡ WordsCase.NoMemory) ⊎ (AreTaken (map string_bytes words.now) → ⊥)) }
+    ensures in_text { IfErr result (λ fault. fault ≡ WordsCase.NotText → ⊥) }
 {
     match parse(alloc, words) {
         Ok((workers, desk)) => {

@@ -2,7 +2,7 @@
 
 ghost use Rattle.std.specs.Prelude.{Some};
 
-use paris_calls::{Given, Sent, Tally, read_once, write_once};
+use paris_session::{Given, Sent, Tally, read_once, write_once};
 use std::io;
 use std::io::{ErrorKind, Read, Write};
 use std::test::*;

@@ -2,9 +2,8 @@
 
 ghost use Rattle.std.specs.Prelude.{Some};
 
-use paris_calls::Tally;
 use paris_cli::{Tallies, read_words, run_words};
-use paris_session::{Alone, RunFault, Summary, run_script_bounded, transcript};
+use paris_session::{Alone, RunFault, Summary, Tally, run_script_bounded, transcript};
 use std::alloc::Global;
 use std::io;
 use std::io::{ErrorKind, Read, Write};

@@ -6,21 +6,21 @@ use Rattle.paris_names.specs.Faults.{number_of}
 use Rattle.paris_names.specs.declared.faults.Fault.{Fault}
 use Rattle.paris_names.specs.declared.faults.Fault.TheVariants.{NoField, NoRow}
 use Rattle.paris_names.specs.declared.profiles.Profile.{Profile}
-use Rattle.paris_events.specs.declared.edits.Edit.{Edit}
-use Rattle.paris_events.specs.declared.edits.EditReply.{EditReply}
-use Rattle.paris_machine.specs.State.{State}
-use Rattle.paris_machine.specs.Edits.{edit_fault, edit_reply, edit_reply_by}
-use Rattle.paris_machine.specs.declared.events.Event.{Event}
-use Rattle.paris_machine.specs.declared.events.Event.TheVariants as EventCase
-use Rattle.paris_machine.specs.declared.events.Reply.{Reply}
-use Rattle.paris_machine.specs.declared.events.Reply.TheVariants as ReplyCase
-use Rattle.paris_machine.specs.declared.events.Shown.{Shown}
-use Rattle.paris_machine.specs.Show.{show_reply, show_key, show_from}
+use Rattle.paris_edits.specs.declared.edits.Edit.{Edit}
+use Rattle.paris_edits.specs.declared.edits.EditReply.{EditReply}
+use Rattle.paris_events.specs.State.{State}
+use Rattle.paris_events.specs.Edits.{edit_fault, edit_reply, edit_reply_by}
+use Rattle.paris_events.specs.declared.events.Event.{Event}
+use Rattle.paris_events.specs.declared.events.Event.TheVariants as EventCase
+use Rattle.paris_events.specs.declared.events.Reply.{Reply}
+use Rattle.paris_events.specs.declared.events.Reply.TheVariants as ReplyCase
+use Rattle.paris_events.specs.declared.events.Shown.{Shown}
+use Rattle.paris_events.specs.Show.{show_reply, show_key, show_from}
 use Rattle.paris_names.specs.declared.keys.Key.{Key}
 use Rattle.paris_names.specs.declared.ids.Spot.{Spot}
 use Rattle.paris_names.specs.declared.names.KeyName.{KeyName}
 use Rattle.paris_board.specs.Board.{key_named}
-use Rattle.paris_machine.specs.State.{place_of_spot}
+use Rattle.paris_events.specs.State.{place_of_spot}
 use Rattle.paris_book.proofs.DueFaults.{edit_number}
 use Rattle.paris_records.specs.History.{state_of}
 use Rattle.paris_desk.specs.Seats.{SeatState}

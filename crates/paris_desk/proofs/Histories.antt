@@ -4,10 +4,10 @@ use Rattle.std.specs.Prelude.{nat_lt, ◌==◌}
 use mathlib.Core.List.{IsPrefix}
 use Rattle.std.proofs.lemmas.Bool.Decides.{nat_tests}
 use Rattle.paris_names.specs.declared.profiles.Profile.{Profile}
-use Rattle.paris_machine.specs.State.{State, empty_state_of}
-use Rattle.paris_machine.specs.Events.{after, after_all, reply_to}
-use Rattle.paris_machine.specs.declared.events.Event.{Event}
-use Rattle.paris_machine.specs.declared.events.Reply.{Reply}
+use Rattle.paris_events.specs.State.{State, empty_state_of}
+use Rattle.paris_events.specs.Events.{after, after_all, reply_to}
+use Rattle.paris_events.specs.declared.events.Event.{Event}
+use Rattle.paris_events.specs.declared.events.Reply.{Reply}
 use Rattle.paris_names.specs.declared.faults.Fault.TheVariants.{HistoryFull, StrangeSeat}
 use Rattle.paris_records.specs.declared.records.Entry.{Entry}
 use Rattle.paris_records.specs.declared.records.Receipt.{Receipt}

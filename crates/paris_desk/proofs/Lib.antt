@@ -1,4 +1,5 @@
 pub mod Adding
+pub mod Books
 pub mod Calling
 pub mod Gathering
 pub mod Histories

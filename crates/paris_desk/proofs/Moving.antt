@@ -3,14 +3,14 @@ use Rattle.std.proofs.Common.{◌≡◌, ◌+◌, ◌<◌, ℕ, List, [], ◌∷
 use Rattle.std.specs.List.{All}
 use Rattle.std.proofs.lemmas.List.Elements.{All-cons, All-head, All-nil, All-tail}
 use Rattle.paris_names.specs.declared.profiles.Profile.{Profile}
-use Rattle.paris_machine.specs.declared.events.Event.{Event}
-use Rattle.paris_machine.specs.declared.events.Reply.{Reply}
+use Rattle.paris_events.specs.declared.events.Event.{Event}
+use Rattle.paris_events.specs.declared.events.Reply.{Reply}
 use Rattle.paris_records.specs.declared.records.Entry.{Entry}
 use Rattle.paris_records.specs.declared.records.Receipt.{Receipt}
 use Rattle.paris_records.specs.History.{entry, receipt}
 use Rattle.paris_desk.specs.Calls.{Called}
 use Rattle.paris_desk.specs.Seats.{SeatState, called}
-use Rattle.paris_desk.specs.Work.{Gained, Moves}
+use Rattle.paris_desk.specs.Work.{EndsBy, Gained, KnowsTo, Moves, MovesBy}
 use Rattle.paris_desk.proofs.Prefixes.{prefix_self, prefix_snoc, prefix_trans}
 
 pub all_so : {A : Type 0} (P Q : A → Type 0) (xs : List A) → ((x : A) → P x → Q x) → All P xs → All Q xs
@@ -66,3 +66,38 @@ moves_call p s s' event r c =
       late = All-cons (Behind s.front) own [] (omega (arith, told, more)) (All-nil (Behind s.front));
     } in
     subst (λ (x : SeatState). Moves s x (own ∷ [])) (sym c.seat) moved
+
+knows_more : (s s1 s2 : SeatState) (rs more : List Receipt) (r : Receipt) → KnowsTo s1 s2 (r ∷ more) → KnowsTo s s2 (rs ++ r ∷ more)
+knows_more s s1 s2 [] [] r k = k
+knows_more s s1 s2 [] (q ∷ more) r k = knows_more s s1 s2 [] more q k
+knows_more s s1 s2 (a ∷ []) more r k = knows_more s s1 s2 [] more r k
+knows_more s s1 s2 (a ∷ b ∷ rs) more r k = knows_more s s1 s2 (b ∷ rs) more r k
+
+knows_same : (s s1 s2 : SeatState) (rs : List Receipt) → s1.number ≡ s2.number → KnowsTo s s1 rs → s2.past ≡ s1.past → s2.front ≡ s1.front → KnowsTo s s2 rs
+knows_same s s1 s2 [] same k past front = (past ∙ k.0, front ∙ k.1)
+knows_same s s1 s2 (r ∷ []) same (before, ends, at, told) past front =
+    (before, past ∙ ends ∙ ap (λ (n : ℕ). before ++ entry n r.event r.reply ∷ []) same, at ∙ sym (ap length past), front ∙ told)
+knows_same s s1 s2 (r ∷ q ∷ rs) same k past front = knows_same s s1 s2 (q ∷ rs) same k past front
+
+knows_on : (s s1 s2 : SeatState) (rs more : List Receipt) → s1.number ≡ s2.number → KnowsTo s s1 rs → KnowsTo s1 s2 more → KnowsTo s s2 (rs ++ more)
+knows_on s s1 s2 rs [] same k n = subst (λ (l : List Receipt). KnowsTo s s2 l) (sym (append-nil rs)) (knows_same s s1 s2 rs same k n.0 n.1)
+knows_on s s1 s2 rs (r ∷ more) same k n = knows_more s s1 s2 rs more r n
+
+-- what is known up to a last call hangs on what it was before no more
+pub knows_from : (s t s' : SeatState) (rs : List Receipt) (r : Receipt) → KnowsTo s s' (r ∷ rs) → KnowsTo t s' (r ∷ rs)
+knows_from s t s' [] r k = k
+knows_from s t s' (q ∷ rs) r k = knows_from s t s' rs q k
+
+pub by_none : (s : SeatState) → MovesBy s s []
+by_none s = (moves_none s, (refl, refl))
+
+-- some calls after others
+pub by_more : (s s1 s2 : SeatState) (rs more : List Receipt) → MovesBy s s1 rs → MovesBy s1 s2 more → MovesBy s s2 (rs ++ more)
+by_more s s1 s2 rs more m n = (moves_more s s1 s2 rs more m.0 n.0, knows_on s s1 s2 rs more (sym n.0.gained.0) m.1 n.1)
+
+-- a call was recorded, with which the past ends
+pub by_call : (p : Profile) (s s' : SeatState) (event : Event) (r : Reply) (c : Called p s s' event r) → MovesBy s s' (receipt_of p s s' event r c ∷ [])
+by_call p s s' event r c =
+    let h : List Entry = c.history ++ entry s.number event r ∷ [] in
+    let ends : EndsBy (receipt_of p s s' event r c) (called s h event r) = (c.history, refl, refl, refl) in
+    (moves_call p s s' event r c, subst (EndsBy (receipt_of p s s' event r c)) (sym c.seat) ends)

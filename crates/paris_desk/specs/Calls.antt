@@ -5,9 +5,9 @@ use Rattle.paris_names.specs.Faults.{number_of}
 use Rattle.paris_names.specs.declared.faults.Fault.{Fault}
 use Rattle.paris_names.specs.declared.faults.Fault.TheVariants.{HistoryFull, NoMemory, StrangeSeat}
 use Rattle.paris_names.specs.declared.profiles.Profile.{Profile}
-use Rattle.paris_machine.specs.Events.{reply_to}
-use Rattle.paris_machine.specs.declared.events.Event.{Event}
-use Rattle.paris_machine.specs.declared.events.Reply.{Reply}
+use Rattle.paris_events.specs.Events.{reply_to}
+use Rattle.paris_events.specs.declared.events.Event.{Event}
+use Rattle.paris_events.specs.declared.events.Reply.{Reply}
 use Rattle.paris_records.specs.declared.records.Entry.{Entry}
 use Rattle.paris_records.specs.History.{Legal, state_of, entry}
 use Rattle.paris_desk.specs.Seats.{SeatState, called}

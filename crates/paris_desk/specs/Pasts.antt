@@ -1,5 +1,5 @@
 -- What is published and who sees it, and what seats learn of the history without a call.
-use Rattle.std.specs.Prelude.{◌≡◌, ◌≤◌, ℕ, List, length, max}
+use Rattle.std.specs.Prelude.{◌≡◌, ◌⊎◌, ℕ, List, length, max}
 use mathlib.Core.List.{IsPrefix}
 use mathlib.Core.Option.{some}
 use lib.ListN.{get_elem?}
@@ -22,12 +22,14 @@ Holds p log x views = (x.log ≡ log) × IsSound p x × ((reader : ℕ) (v : Saw
 abbrev pub Sees : Profile → Book → Saw → Posted → Posted → Saw → Type 0
 Sees p log v x y w = (y.log ≡ log) × IsSound p y × IsPrefix v.past y.history × (w ≡ saw y.history)
 
--- a seat learns all that another one knows: its past begins with what both knew, and its front is no less than that is long
+-- a seat learns all that another one knows: its past is that of one of both and begins with both, and its front is the greater of what it
+-- was and how long that is
 pub record Learned (profile : Profile) (s other s' : SeatState) : Type 0 where
   pub own : IsPrefix s.past s'.past
   pub others : IsPrefix other.past s'.past
+  pub either : (s'.past ≡ s.past) ⊎ (s'.past ≡ other.past)
   pub legal : Legal profile s'.past
-  pub front : (s.front ≤ s'.front) × (length s'.past ≤ s'.front)
+  pub front : s'.front ≡ max s.front (length s'.past)
   pub same : (s'.number ≡ s.number) × (s'.receipts ≡ s.receipts)
 
 -- a seat is put together from a past and the rest of a seat

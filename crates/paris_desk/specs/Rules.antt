@@ -2,8 +2,8 @@
 use Rattle.std.specs.Prelude.{ℕ, ◌≡◌, ◌==◌, true, List, [], ◌∷◌, ◌++◌, length, MatchBool}
 use Rattle.logbook.specs.Pages.{Cell, Step, View, Book, Named}
 use Rattle.paris_names.specs.declared.profiles.Profile.{Profile}
-use Rattle.paris_machine.specs.State.{State}
-use Rattle.paris_machine.specs.Events.{reply_to}
+use Rattle.paris_events.specs.State.{State}
+use Rattle.paris_events.specs.Events.{reply_to}
 use Rattle.paris_records.specs.declared.records.Entry.{Entry}
 use Rattle.paris_records.specs.History.{Legal, state_of}
 

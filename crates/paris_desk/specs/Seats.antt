@@ -1,7 +1,7 @@
 -- Seats as clauses see them.
 use Rattle.std.specs.Prelude.{ℕ, zero, suc, List, [], ◌∷◌, ◌++◌, length}
-use Rattle.paris_machine.specs.declared.events.Event.{Event}
-use Rattle.paris_machine.specs.declared.events.Reply.{Reply}
+use Rattle.paris_events.specs.declared.events.Event.{Event}
+use Rattle.paris_events.specs.declared.events.Reply.{Reply}
 use Rattle.paris_records.specs.declared.records.Entry.{Entry}
 use Rattle.paris_records.specs.declared.records.Receipt.{Receipt}
 use Rattle.paris_records.specs.History.{receipt}

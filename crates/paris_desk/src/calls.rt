@@ -1,16 +1,16 @@
 //! The calls of a seat. Each is one event of the book's, in one hold of the desk's lock.
 
 ghost use Rattle.std.specs.Prelude.{◌≡◌, Ok, Err, IfOk, IfErr, OnOk, MatchBool};
-ghost use Rattle.paris_machine.specs.declared.events.Event.TheVariants as EventCase;
-ghost use Rattle.paris_machine.specs.declared.events.Reply.TheVariants as ReplyCase;
+ghost use Rattle.paris_events.specs.declared.events.Event.TheVariants as EventCase;
+ghost use Rattle.paris_events.specs.declared.events.Reply.TheVariants as ReplyCase;
 ghost use Rattle.paris_desk.specs.Calls.{Called, Unrecorded, is_unrecorded};
 
 use crate::desk::Desk;
 use crate::office::Office;
 use crate::seat::Seat;
-use paris_events::{Edit, EditReply, RowLook, Verdict};
+use paris_edits::{Edit, EditReply, RowLook, Verdict};
+use paris_events::{Event, Reply, Shown};
 use paris_exec::{Done, Order};
-use paris_machine::{Event, Reply, Shown};
 use paris_names::{Fault, Items, KeyName, Spot};
 use std::sync::Wait;
 

@@ -20,6 +20,7 @@ use paris_records::{Entry, Receipt};
 use std::alloc::Global;
 use std::sync::ledger::Share;
 use std::sync::{Arc, Mutex, Wait};
+use thiserror::Error;
 
 /// What is left of a closed desk: the book, the history that led to it, and the receipts of each seat, by its number.
 #[derive(Drop)]
@@ -30,18 +31,22 @@ pub struct Closed {
 }
 
 /// Why a desk is not closed.
-#[derive(Clone, Copy, PartialEq, Eq, Debug)]
+#[derive(Clone, Copy, PartialEq, Eq, Debug, Error)]
 pub enum Cause {
     /// The seat of this number is not handed in, and all seats of lesser numbers are.
+    #[error("seat {0} is not handed in")]
     Missing(u64),
     /// The seat of this number knows more than the history's entries, of which there are so many, and no seat of a lesser number
     /// does.
+    #[error("seat {0} knows more than the {1} entries of the history")]
     Ahead(u64, u64),
     /// Memory for the lists of receipts was refused.
+    #[error("there is no memory left")]
     NoMemory,
 }
 
-/// A desk that is not closed, with the seats that were handed in, and the cause.
+/// A desk that is not closed, with the seats that were handed in, and the cause, which is the error: a desk isn't dropped, and an error
+/// may be.
 pub struct CloseFault<L: Office> {
     pub desk: Desk<L>,
     pub seats: Vec<Seat<L>>,

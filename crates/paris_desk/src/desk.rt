@@ -16,7 +16,7 @@ use crate::published::DeskWriter;
 use crate::publishing::{end, opened};
 use crate::seat::Seat;
 use paris_book::Book;
-use paris_machine::{Event, Reply};
+use paris_events::{Event, Reply};
 use paris_names::{Fault, Profile};
 use std::alloc::{AllocError, Global};
 use std::marker::PhantomData;

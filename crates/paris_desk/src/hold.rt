@@ -14,7 +14,7 @@ use crate::published::{DeskWriter, Published};
 use crate::publishing::publish;
 use crate::seat::Seat;
 use paris_book::Book;
-use paris_machine::{Event, Reply};
+use paris_events::{Event, Reply};
 use paris_names::Fault;
 use paris_records::Entry;
 use std::alloc::Global;

@@ -6,6 +6,7 @@ mod calls;
 mod closing;
 mod desk;
 mod hold;
+pub mod laws;
 mod log;
 mod making;
 mod office;

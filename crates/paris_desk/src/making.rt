@@ -1,12 +1,12 @@
 //! What a hold does to the book: an event is made, and its reply is there three times.
 
 ghost use Rattle.std.specs.Prelude.{◌≡◌, IfOk, IfErr, OnOk, OnErr};
-ghost use Rattle.paris_machine.specs.Events.{reply_to, after};
-ghost use Rattle.paris_machine.specs.declared.events.Event.TheVariants as EventCase;
+ghost use Rattle.paris_events.specs.Events.{reply_to, after};
+ghost use Rattle.paris_events.specs.declared.events.Event.TheVariants as EventCase;
 
 use paris_book::Book;
-use paris_events::Edit;
-use paris_machine::{Event, Reply};
+use paris_edits::Edit;
+use paris_events::{Event, Reply};
 use paris_names::{KeyName, Spot};
 use paris_records::copy_of_reply;
 use std::alloc::AllocError;

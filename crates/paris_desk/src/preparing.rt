@@ -2,12 +2,12 @@
 
 ghost use Rattle.std.specs.Prelude.{◌≡◌, IfOk, IfErr};
 ghost use Rattle.std.specs.Arc.{arc_value};
-ghost use Rattle.paris_machine.specs.Events.{reply_to, after};
+ghost use Rattle.paris_events.specs.Events.{reply_to, after};
 ghost use Rattle.paris_records.specs.History.{entry, receipt};
 
 use crate::making::make;
 use paris_book::Book;
-use paris_machine::{Event, Reply};
+use paris_events::{Event, Reply};
 use paris_records::{Entry, Receipt, copy_of_event};
 use std::alloc::{AllocError, Global};
 use std::sync::Arc;

@@ -90,8 +90,8 @@ impl<L: Office> Seat<L> {
         self.front = self.front.max(front.0);
     }
 
-    /// Tells the seat of all that another one knows of the history. Its calls are recorded behind that, or not at all, and what it
-    /// looks at has it.
+    /// Tells the seat of all that another one knows of the history, and no more. Its calls are recorded behind that, or not at all, and
+    /// what it looks at has it.
     pub fn learn_from(&mut self, other: &Seat<L>)
         ensures { Learned L.profile self.old other.now self.new }
     {

@@ -3,7 +3,7 @@
 ghost use Rattle.std.specs.Prelude.{List, [], IfOk, IfErr};
 ghost use Rattle.paris_records.specs.declared.records.Receipt.{Receipt};
 ghost use Rattle.paris_desk.specs.Calls.{Excused};
-ghost use Rattle.paris_desk.specs.Work.{Left, Moves, Turn, Worked, Stopped};
+ghost use Rattle.paris_desk.specs.Work.{Left, MovesBy, Turn, Worked, Stopped};
 
 use crate::desk::Desk;
 use crate::office::Office;
@@ -23,7 +23,7 @@ fn run_one<L: Office, R: Wait, G: Gate>(
     gate: &G,
 ) -> Result<bool, Fault>
     ensures turn { IfOk result (λ ran. Turn ran seat.old seat.new) }
-    ensures stopped { IfErr result (λ fault. Excused L.limit seat.new.front fault × ((rs : List Receipt) × Left rs × Moves seat.old seat.new rs)) }
+    ensures stopped { IfErr result (λ fault. Excused L.limit seat.new.front fault × ((rs : List Receipt) × Left rs × MovesBy seat.old seat.new rs)) }
 {
     let Some(order) = desk.take(rt, seat)? else {
         return Ok(false);
@@ -38,7 +38,8 @@ fn run_one<L: Office, R: Wait, G: Gate>(
 }
 
 /// Takes an order, executes it inside a gate and brings the result, again and again, until no row is ready or so many orders were
-/// run. The answer is how many. At an error the calls that were recorded stand, and an order may be out, for `release`.
+/// run. The answer is how many. The seat's past ends with its last call then, whose number is its front. At an error the calls that
+/// were recorded stand, and an order may be out, for `release`.
 pub fn work<L: Office, R: Wait, G: Gate>(
     rt: &R,
     alloc: Global,

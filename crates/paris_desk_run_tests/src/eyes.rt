@@ -2,8 +2,8 @@
 
 use paris_book::Look;
 use paris_desk::{Desk, Entry, Office, Seat};
+use paris_events::{Event, Reply, Shown};
 use paris_field::SharedValue;
-use paris_machine::{Event, Reply, Shown};
 use paris_names::{KeyName, Spot};
 use paris_view::View;
 use std::alloc::{AllocError, Global};

@@ -3,7 +3,7 @@
 use crate::seats::{Player, Shape, TURNS, brings, edits_with, lists, shows_at, takes};
 use crate::spellings::{instr_of, key, name};
 use paris_desk::{Desk, Office, work};
-use paris_events::{Edit, EditReply};
+use paris_edits::{Edit, EditReply};
 use paris_exec::OpenGate;
 use paris_names::{Fault, Items, Spot};
 use std::alloc::{AllocError, Global};

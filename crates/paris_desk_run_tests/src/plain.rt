@@ -3,7 +3,7 @@
 ghost use Rattle.std.specs.Prelude.{◌≡◌, IfOk};
 
 use paris_board::Board;
-use paris_events::{Edit, EditReply};
+use paris_edits::{Edit, EditReply};
 use paris_geometry::Geometry;
 use paris_instr::{Plan, resolve};
 use paris_model::{Instr, Refusal};

@@ -2,10 +2,10 @@
 
 use crate::plain::Plain;
 use paris_desk::Entry;
-use paris_events::{EditReply, RowLook, Verdict};
+use paris_edits::{EditReply, RowLook, Verdict};
+use paris_events::{Event, Reply, Shown};
 use paris_exec::{Done, Order, Outcome};
 use paris_field::SharedValue;
-use paris_machine::{Event, Reply, Shown};
 use paris_names::{Fault, Key, KeyName, Spot};
 use std::alloc::{AllocError, Global};
 use std::process::Abort;

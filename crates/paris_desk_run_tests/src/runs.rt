@@ -12,7 +12,7 @@ use crate::seats::{Player, Shape, Shared, finishes, plays, width_of};
 use crate::spellings::{FIRST_FIELDS, name};
 use paris_audit::audit;
 use paris_desk::{CloseFault, Closed, Desk, Entry, Office, Opening, Seat, close};
-use paris_events::{Edit, EditReply};
+use paris_edits::{Edit, EditReply};
 use paris_names::{Fault, Items};
 use std::alloc::{AllocError, Global};
 use std::marker::Brand;

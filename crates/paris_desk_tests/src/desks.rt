@@ -11,7 +11,7 @@ use crate::steps::Change::{Delete, Field, FieldOf, Input, Set};
 use crate::steps::Step::*;
 use crate::steps::{Step, plays};
 use paris_desk::{Desk, Office, Opening, Seat};
-use paris_events::Verdict::{Kept, Stale};
+use paris_edits::Verdict::{Kept, Stale};
 use paris_names::Spot::{After, End};
 use paris_names::{Edition, Fault, Profile, RowId};
 use std::alloc::Global;

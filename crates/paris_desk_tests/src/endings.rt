@@ -2,7 +2,7 @@
 
 use paris_audit::{audit, audit_with};
 use paris_desk::{Cause, CloseFault, Closed, Desk, Office, Receipt, Seat, close};
-use paris_machine::{Event, Reply};
+use paris_events::{Event, Reply};
 use paris_names::{Fault, Profile};
 use std::alloc::Global;
 use std::process::Abort;

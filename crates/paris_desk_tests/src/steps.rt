@@ -2,9 +2,9 @@
 
 use crate::spellings::{Text, instr_of, key, name};
 use paris_desk::{Desk, Front, Office, Seat};
-use paris_events::{Edit, EditReply, RowLook, Verdict};
+use paris_edits::{Edit, EditReply, RowLook, Verdict};
+use paris_events::Shown;
 use paris_exec::{Done, Order, execute};
-use paris_machine::Shown;
 use paris_names::{Edition, Fault, Items, RowId, Spot};
 use std::alloc::{AllocError, Global};
 use std::process::Abort;

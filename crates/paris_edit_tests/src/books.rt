@@ -2,7 +2,7 @@
 
 use crate::spellings::*;
 use paris_book::Book;
-use paris_events::{Edit, EditReply};
+use paris_edits::{Edit, EditReply};
 use paris_exec::{Done, Order, execute};
 use paris_model::Instr;
 use paris_names::{Fault, Items, RowId, Spot};

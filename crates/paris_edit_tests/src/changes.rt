@@ -10,7 +10,7 @@ use crate::operations::{
 };
 use crate::work::cuts_off;
 use paris_book::Book;
-use paris_events::{Edit, Status};
+use paris_edits::{Edit, Status};
 use paris_names::{Fault, Items, RowId, Spot};
 use std::alloc::{AllocError, Global};
 use std::process::Abort;

@@ -4,7 +4,7 @@ use crate::books::declare_all;
 use crate::ledger::{Row, recipes};
 use crate::operations::{CONTEXT, Dice, KEYS};
 use paris_book::Book;
-use paris_events::Status;
+use paris_edits::Status;
 use paris_exec::Done;
 use std::alloc::{AllocError, Global};
 use std::process::Abort;

@@ -1,7 +1,7 @@
 //! The rows that a random game keeps beside its book, and what has to be true of them, the slow way.
 
 use crate::operations::{KEYS, Operation, reads, writes};
-use paris_events::Status;
+use paris_edits::Status;
 use paris_names::{RowId, Spot};
 use std::alloc::{AllocError, Global};
 

@@ -7,7 +7,7 @@ use crate::ledger::{Row, pending, spot_at};
 use crate::operations::{KEYS, key_name, spelled, throw};
 use crate::work::{is_present, plays_late, plays_release, plays_take, plays_twin, plays_work};
 use paris_book::Look;
-use paris_events::RowLook;
+use paris_edits::RowLook;
 use paris_names::{Edition, RowId, Spot};
 use std::alloc::{AllocError, Global};
 use std::process::Abort;

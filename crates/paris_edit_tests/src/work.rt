@@ -5,7 +5,7 @@ use crate::game::{Game, Met};
 use crate::ledger::{Row, first_ready, has_firm_origins};
 use crate::operations::{KEYS, key_name, reads, spelled, throw};
 use paris_book::{Book, Look};
-use paris_events::{Status, Verdict};
+use paris_edits::{Status, Verdict};
 use paris_exec::{Done, Order};
 use paris_field::FieldValue;
 use paris_names::{Edition, RowId, Spot};

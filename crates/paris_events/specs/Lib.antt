@@ -1,2 +1,10 @@
-pub mod Rows
-pub mod Verdicts
+pub mod CutOff
+pub mod Edits
+pub mod Events
+pub mod Lists
+pub mod Orders
+pub mod Plays
+pub mod Results
+pub mod Settling
+pub mod Show
+pub mod State

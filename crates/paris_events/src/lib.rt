@@ -1,10 +1,10 @@
-//! What is asked of a book and what it answers, in plain values: edits, the states of rows, and verdicts on results.
+//! The machine: what a book is, what each event does to it, and what it answers.
 #![tactic(auto)]
 
-mod edits;
-mod rows;
-mod verdicts;
+mod events;
+mod inputs;
+mod moves;
 
-pub use edits::{Edit, EditReply};
-pub use rows::{RowFault, RowLook, Status};
-pub use verdicts::Verdict;
+pub use events::{Event, Reply, Shown};
+pub use inputs::{FlagInputs, Input};
+pub use moves::{Move, MoveReply};

@@ -5,6 +5,8 @@ use Rattle.paris_names.specs.Keys.{has_key}
 use Rattle.paris_model.specs.Frame.{World}
 use Rattle.paris_model.specs.declared.actions.Refusal.{Refusal}
 use Rattle.paris_model.specs.Instructions.{reads, writes, one, given, refusal}
+use Rattle.paris_model.specs.Laws.{UnreadFit}
+use Rattle.paris_model.specs.Run.{direct_one}
 use Rattle.paris_exec.specs.Tasks.{Task, numbers_of, task_outcome}
 use Rattle.paris_exec.specs.declared.orders.Outcome.{Outcome}
 use Rattle.paris_exec.specs.declared.orders.Outcome.TheVariants.{Values, Refused}
@@ -13,6 +15,11 @@ use Rattle.paris_exec.specs.declared.orders.Outcome.TheVariants.{Values, Refused
 abbrev pub GivesInAnyWorld : Task → Type 0
 GivesInAnyWorld t = (w : World) → map w (reads t.plan) ≡ numbers_of t.inputs → (k : Key)
     → (has_key (writes t.plan) k ≡ true → one t.plan w k ≡ given t.plan (numbers_of t.inputs) k) × (has_key (writes t.plan) k ≡ false → one t.plan w k ≡ w k)
+
+-- so does its instruction, which sees the whole world and not only what it reads, where the numbers that it writes and doesn't read fit
+abbrev pub GivesDirectly : Task → Type 0
+GivesDirectly t = (w : World) → map w (reads t.plan) ≡ numbers_of t.inputs → UnreadFit t.plan w → (k : Key)
+    → (has_key (writes t.plan) k ≡ true → direct_one t.plan w k ≡ given t.plan (numbers_of t.inputs) k) × (has_key (writes t.plan) k ≡ false → direct_one t.plan w k ≡ w k)
 
 -- the cause for which an outcome says that the instruction is refused, if it does
 abbrev pub refusal_told : Outcome → Option Refusal

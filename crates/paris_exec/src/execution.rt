@@ -4,7 +4,7 @@ ghost use Rattle.std.specs.Prelude.{◌≡◌, IfOk, IfErr};
 ghost use Rattle.paris_model.specs.Instructions.{refusal};
 ghost use Rattle.paris_router.specs.Mail.{refusal_of};
 ghost use Rattle.paris_exec.specs.Tasks.{left_values, seen_at, task_outcome};
-ghost use Rattle.paris_exec.specs.Frames.{GivesInAnyWorld, RefusedInAnyWorld};
+ghost use Rattle.paris_exec.specs.Frames.{GivesDirectly, GivesInAnyWorld, RefusedInAnyWorld};
 
 use crate::contexts::unconditional_values;
 use crate::elementwise::conditional_values;
@@ -63,8 +63,11 @@ pub fn execute(alloc: Global, order: Order) -> Result<Done, (Order, AllocError)>
     ensures ok { IfOk result (λ done. done ≡ order) }
     ensures err { IfErr result (λ e. e.0 ≡ order) }
     ensures frame { GivesInAnyWorld order }
+    ensures direct { GivesDirectly order }
     ensures refused { RefusedInAnyWorld order }
 {
+    // Whoever asks a plan for its action knows that it is fit.
+    order.plan().action();
     match outcome_of(alloc, &order) {
         Ok(outcome) => Done::new(alloc, order, outcome),
         Err(error) => Err((order, error)),

@@ -64,7 +64,8 @@ begun_all p first ss left jobs none (gone, all, told) =
 told_in_time : (p : Profile) (first s s1 : SeatState) → IsNew s → Learned p s first s1 → IsInTime s1
 told_in_time p first s s1 new l =
     let none : s1.receipts ≡ [] = l.same.1 ∙ new.0 in
-    (l.front.1, subst (All (λ (r : Receipt). r.number ≤ length s1.past)) (sym none) (All-nil (λ (r : Receipt). r.number ≤ length s1.past)))
+    let front = l.front in
+    (omega (arith, front), subst (All (λ (r : Receipt). r.number ≤ length s1.past)) (sym none) (All-nil (λ (r : Receipt). r.number ≤ length s1.past)))
 
 abbrev BegunInTime : Result Doing Fault → Type 0
 BegunInTime job = IfOk job (λ begun. IsInTime begun.seat)

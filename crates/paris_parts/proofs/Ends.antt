@@ -3,10 +3,10 @@ use Rattle.std.proofs.Common.{◌≡◌, ℕ, ◌+◌, ◌<◌, ◌≤◌, true,
 use Rattle.std.specs.Prelude.{IfOk, Result}
 use Rattle.paris_names.specs.declared.faults.Fault.{Fault}
 use Rattle.paris_names.specs.declared.profiles.Profile.{Profile}
-use Rattle.paris_cuts.specs.declared.last.Transcript.{Transcript}
+use Rattle.paris_parts.specs.declared.last.Transcript.{Transcript}
 use mathlib.Core.List.{IsPrefix}
-use Rattle.paris_machine.specs.State.{State}
-use Rattle.paris_machine.specs.Settling.{all_settled}
+use Rattle.paris_events.specs.State.{State}
+use Rattle.paris_events.specs.Settling.{all_settled}
 use Rattle.paris_session.specs.Transcript.{start, with_book, replies, after_lines}
 use Rattle.paris_session.specs.declared.answers.Summary.{Summary}
 use Rattle.paris_records.specs.declared.records.Entry.{Entry}
@@ -24,7 +24,7 @@ use Rattle.paris_parts.specs.Run.{Concludes, LeftBy, PartsPlay, last_session}
 pub concludes : (p : Profile) (seats : ℕ) (sat : List SeatState) (last : List (List ℕ)) (text all closing told : List ℕ) (history : List Entry) (book left : State) (receipts : List (List Receipt)) (s s' rest : Summary)
     → left ≡ state_of p history → receipts ≡ by_number seats sat → Agree p history receipts → ((n : ℕ) → n < seats → IsPrefix (past_of n sat) history) → ((n : ℕ) → receipts_of_seat receipts n ≡ receipts_in n 0 history)
     → book ≡ left → closing ≡ closed_text (edits_in history) true → told ≡ replies (with_book start (all_settled book) []) last → all ≡ (text ++ closing) ++ told
-    → rest ≡ record { commands = (after_lines (with_book start (all_settled book) []) last).commands; refusals = (after_lines (with_book start (all_settled book) []) last).refusals }
+    → rest ≡ record { commands = (after_lines (with_book start (all_settled book) []) last).hand.commands; refusals = (after_lines (with_book start (all_settled book) []) last).hand.refusals }
     → s'.commands ≡ s.commands + rest.commands → s'.refusals ≡ s.refusals + rest.refusals
     → Concludes p seats sat last text all s s'
 concludes p seats sat last text all closing told history book left receipts s s' rest left_is are agreed begins each own closing_is told_is all_is counted commands refusals =
@@ -36,8 +36,8 @@ concludes p seats sat last text all closing told history book left receipts s s'
       written =
           all_is ∙ append_assoc text closing told ∙ (λ i. text ++ (closing_is i ++ told_is i))
           ∙ ap (λ (z : State). text ++ (closed_text (edits_in history) true ++ replies (with_book start (all_settled z) []) last)) same;
-      commands = commands ∙ ap (λ (x : Summary). s.commands + x.commands) counted ∙ ap (λ (z : State). s.commands + (after_lines (with_book start (all_settled z) []) last).commands) same;
-      refusals = refusals ∙ ap (λ (x : Summary). s.refusals + x.refusals) counted ∙ ap (λ (z : State). s.refusals + (after_lines (with_book start (all_settled z) []) last).refusals) same;
+      commands = commands ∙ ap (λ (x : Summary). s.commands + x.commands) counted ∙ ap (λ (z : State). s.commands + (after_lines (with_book start (all_settled z) []) last).hand.commands) same;
+      refusals = refusals ∙ ap (λ (x : Summary). s.refusals + x.refusals) counted ∙ ap (λ (z : State). s.refusals + (after_lines (with_book start (all_settled z) []) last).hand.refusals) same;
     }
 
 pub plays_done : (p : Profile) (seats : ℕ) (played : List (List (List ℕ))) (last : List (List ℕ)) (sat : List SeatState) (text text' : List ℕ) (s s' : Summary) → 1 ≤ length played → 1 ≤ seats
@@ -51,8 +51,8 @@ plays_done p seats played last sat text text' s s' some any (ds, done, (sat_is, 
       order = first_before_others p played seats ds end.history done some any begins each;
       agree = subst (λ (ss : List SeatState). Agree p end.history (by_number seats ss)) sat_is end.agree;
       written = end.written ∙ ap (λ (l : List ℕ). l ++ (closed_text (edits_in end.history) true ++ replies (last_session p end.history) last)) text_is;
-      commands = end.commands ∙ ap (λ (n : ℕ). n + (after_lines (last_session p end.history) last).commands) commands;
-      refusals = end.refusals ∙ ap (λ (n : ℕ). n + (after_lines (last_session p end.history) last).refusals) refusals;
+      commands = end.commands ∙ ap (λ (n : ℕ). n + (after_lines (last_session p end.history) last).hand.commands) commands;
+      refusals = end.refusals ∙ ap (λ (n : ℕ). n + (after_lines (last_session p end.history) last).hand.refusals) refusals;
     }
 
 -- the same of what a run came to

@@ -1,8 +1,14 @@
+pub mod ChosenProfiles
+pub mod Cuts
 pub mod Doings
 pub mod Ends
+pub mod LastBooks
+pub mod Lasts
 pub mod Orders
 pub mod Playing
+pub mod RefusedRows
 pub mod Runs
+pub mod Shorts
 pub mod Sights
 pub mod Steps
 pub mod Stops

@@ -22,10 +22,11 @@ use Rattle.paris_desk.specs.Work.{Moves, Worked}
 use Rattle.paris_desk.proofs.Lists.{by_number_at, by_number_past}
 use Rattle.paris_desk.proofs.Moving.{Behind, all_both, all_so}
 use Rattle.paris_desk.proofs.Prefixes.{prefix_length, prefix_none}
-use Rattle.paris_cuts.specs.Parts.{IsShort}
+use Rattle.paris_desk.proofs.Turns.{worked_knows}
+use Rattle.paris_parts.specs.Parts.{IsShort}
 use Rattle.paris_parts.specs.Hands.{HandPlays}
 use Rattle.paris_parts.specs.Jobs.{Doing, AreDone, JobHasRun, HasWorked, IsDone, IsNew, Played, RunsBehind, begun_at}
-use Rattle.paris_cuts.specs.Hands.{empty_hand}
+use Rattle.paris_session.specs.Hands.{empty_hand}
 use Rattle.paris_parts.specs.Beginning.{hand_at}
 use Rattle.paris_parts.specs.Seeing.{Glimpses, IsInTime, SeesWhenClosed}
 use Rattle.paris_parts.specs.Texts.{at_seat}
@@ -123,6 +124,7 @@ done_so p parts h n s1 d number none run so = subst (λ (k : ℕ). MatchOption (
       are_pairs = w.are_pairs;
       ends = w.ends;
       moved = moved (w.pairs ++ w.last) w.moved;
+      knows = worked_knows MAX_HISTORY ran s1 (sitting n [] 0 []) d.seat (omega arith) w;
     }
 
     by_part : (o : Option (List (List ℕ))) → MatchOption o (HasWorked s1 d.seat) (λ part. Played p (Glimpses s1.past d.seat) part s1 d × IsInTime d.seat)
@@ -131,8 +133,9 @@ done_so p parts h n s1 d number none run so = subst (λ (k : ℕ). MatchOption (
     by_part (Some part) ((rs, m, plays, few), time) = (
       rs,
       moved rs m,
-      subst (λ (k : ℕ). HandPlays p (SeesWhenClosed h n) [] (empty_hand (k == 0)) part rs d.hand d.text) number
-          (subst (λ (l : List Receipt). HandPlays p (SeesWhenClosed h n) l (hand_at s1) part rs d.hand d.text) none (plays_so p (Glimpses s1.past d.seat) (SeesWhenClosed h n) s1.receipts (hand_at s1) part rs d.hand d.text so plays)),
+      subst (λ (k : ℕ). HandPlays p (SeesWhenClosed h n) [] [] (empty_hand (k == 0)) part rs d.hand d.text) number
+          (subst (λ (l : List Receipt). HandPlays p (SeesWhenClosed h n) l [] (hand_at s1) part rs d.hand d.text) none
+          (plays_so p (Glimpses s1.past d.seat) (SeesWhenClosed h n) s1.receipts [] (hand_at s1) part rs d.hand d.text so plays)),
       few,
     )
 
@@ -188,7 +191,7 @@ others_behind p parts count ds (suc n) done other within =
     let known : ℕ = length (at_seat ds 0).seat.past in
     let (s1, learned, run) = begun p parts count ds (suc n) done within in
     let (rs, moved) = run_moves p parts s1 (at_seat ds (suc n)) run in
-    let told : known ≤ s1.front = (let long = prefix_length (at_seat ds 0).seat.past s1.past learned.others in let front = learned.front.1 in omega (arith, long, front)) in
+    let told : known ≤ s1.front = (let long = prefix_length (at_seat ds 0).seat.past s1.past learned.others in let front = learned.front in omega (arith, long, front)) in
     let are : (at_seat ds (suc n)).seat.receipts ≡ rs = moved.gained.1 ∙ ap (λ (l : List Receipt). l ++ rs) learned.same.1 in
     subst (All (Behind known)) (sym are) (all_so (Behind s1.front) (Behind known) rs (λ r late. omega (arith, late, told)) moved.late)
 

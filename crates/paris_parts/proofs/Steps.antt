@@ -3,8 +3,8 @@ use Rattle.std.proofs.Common.{◌≡◌, ◌≤◌, List, [], ◌∷◌, ◌++�
 use Rattle.std.specs.List.{All}
 use Rattle.std.proofs.lemmas.List.Elements.{All-cons, All-nil}
 use Rattle.paris_names.specs.declared.profiles.Profile.{Profile}
-use Rattle.paris_machine.specs.declared.events.Event.{Event}
-use Rattle.paris_machine.specs.declared.events.Reply.{Reply}
+use Rattle.paris_events.specs.declared.events.Event.{Event}
+use Rattle.paris_events.specs.declared.events.Reply.{Reply}
 use Rattle.paris_records.specs.declared.records.Entry.{Entry}
 use Rattle.paris_records.specs.declared.records.Receipt.{Receipt}
 use Rattle.paris_records.specs.History.{entry}
@@ -14,9 +14,24 @@ use Rattle.paris_desk.specs.Work.{Moves}
 use Rattle.paris_desk.proofs.Moving.{Behind, all_both, all_so, moves_call, moves_more, moves_none, receipt_of}
 use Rattle.paris_desk.proofs.Prefixes.{prefix_length, prefix_self, prefix_snoc, prefix_trans}
 use Rattle.paris_view.specs.Looks.{Looked}
-use Rattle.paris_parts.specs.Moving.{MovesInTime}
+use Rattle.paris_parts.specs.Moving.{MovesInTime, MovesSeeing}
 use Rattle.paris_parts.specs.Seeing.{Glimpses, IsInTime}
 use Rattle.paris_parts.proofs.Sights.{UpTo}
+
+-- where there was no look, the past of before was seen
+pub knew : (s s' : SeatState) (rs : List Receipt) → IsInTime s → MovesInTime s s' rs → MovesSeeing s s' rs s.past
+knew s s' rs time m =
+    let told = time.0 in (
+      m,
+      record {
+        begins = prefix_self s.past;
+        past = m.0.begins;
+        later = rs;
+        receipts = m.0.gained.1;
+        before = time.1;
+        behind = all_so (Behind s.front) (Behind (length s.past)) rs (λ r late. omega (arith, late, told)) m.0.late;
+      },
+    )
 
 -- no call was made, and no look
 pub stays : (s : SeatState) → IsInTime s → MovesInTime s s []
@@ -36,7 +51,7 @@ calls p s s' event reply c time =
     (own, (moves_call p s s' event reply c, subst IsInTime (sym c.seat) next), refl, refl)
 
 -- a look was made
-pub looks : (p : Profile) (s s' : SeatState) → Looked p s s' → IsInTime s → MovesInTime s s' [] × Glimpses s.past s' s.receipts s'.past
+pub looks : (p : Profile) (s s' : SeatState) → Looked p s s' → IsInTime s → MovesSeeing s s' [] s'.past
 looks p s s' l time =
     let longer : length s.past ≤ length s'.past = prefix_length s.past s'.past l.begins in
     let low : All (UpTo (length s'.past)) s.receipts = all_so (UpTo (length s.past)) (UpTo (length s'.past)) s.receipts (λ r few. omega (arith, few, longer)) time.1 in

@@ -9,7 +9,7 @@ use Rattle.paris_records.specs.declared.records.Receipt.{Receipt}
 use Rattle.paris_desk.specs.Pasts.{Learned}
 use Rattle.paris_desk.specs.Seats.{SeatState}
 use Rattle.paris_desk.specs.Work.{Moves, Worked}
-use Rattle.paris_cuts.specs.Hands.{Hand}
+use Rattle.paris_session.specs.Hands.{Hand}
 use Rattle.paris_parts.specs.Beginning.{hand_at}
 use Rattle.paris_parts.specs.Faults.{StopsRun, rank}
 use Rattle.paris_parts.specs.Hands.{HandPlays}
@@ -28,9 +28,9 @@ doing seat hand text = record { seat = seat; hand = hand; text = text }
 abbrev pub begun_at : SeatState → Doing
 begun_at seat = doing seat (hand_at seat) []
 
--- a part was played to its end in a profile, where a look sees such histories
+-- a part was played to its end in a profile, where such histories are seen, none before its first line
 abbrev pub Played : Profile → (List Receipt → List Entry → Type 0) → List (List ℕ) → SeatState → Doing → Type 0
-Played p Sees part s d = (rs : List Receipt) × Moves s d.seat rs × HandPlays p Sees s.receipts (hand_at s) part rs d.hand d.text × (d.hand.commands ≤ length part)
+Played p Sees part s d = (rs : List Receipt) × Moves s d.seat rs × HandPlays p Sees s.receipts [] (hand_at s) part rs d.hand d.text × (d.hand.commands ≤ length part)
 
 -- orders were run until no row was ready, or as many as a history may have entries
 abbrev pub HasWorked : SeatState → SeatState → Type 0

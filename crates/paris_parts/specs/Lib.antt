@@ -1,4 +1,5 @@
 pub mod Faults
+pub mod Parts
 pub mod Hands
 pub mod Seeing
 pub mod Beginning

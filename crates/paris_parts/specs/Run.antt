@@ -5,9 +5,9 @@ use Rattle.std.specs.Io.KnownBytes.{Consumes, IsAtEnd}
 use mathlib.Core.List.{IsPrefix}
 use Rattle.paris_names.specs.Faults.{is_no_memory}
 use Rattle.paris_names.specs.declared.profiles.Profile.{Profile}
-use Rattle.paris_machine.specs.Settling.{all_settled}
-use Rattle.paris_calls.specs.Calls.{Marks}
-use Rattle.paris_calls.specs.Texts.{WritesFront}
+use Rattle.paris_events.specs.Settling.{all_settled}
+use Rattle.paris_session.specs.Calls.{Marks}
+use Rattle.paris_session.specs.Texts.{WritesFront}
 use Rattle.paris_session.specs.Run.{HasCause, HasEnded, most_reads}
 use Rattle.paris_session.specs.declared.run.RunFault.TheVariants.{NoMemory}
 use Rattle.paris_parts.specs.declared.run.DeskRunFault.{DeskRunFault}
@@ -25,7 +25,7 @@ use Rattle.paris_desk.specs.Seats.{SeatState, sitting}
 use Rattle.paris_parts.specs.Beginning.{profile_of_run}
 use Rattle.paris_parts.specs.Faults.{StopsRun}
 use Rattle.paris_parts.specs.Jobs.{Doing, IsDone}
-use Rattle.paris_cuts.specs.Parts.{parts}
+use Rattle.paris_parts.specs.Parts.{parts}
 use Rattle.paris_parts.specs.Seeing.{SeesWhenClosed}
 use Rattle.paris_parts.specs.Texts.{at_seat, parts_text, commands_in, refusals_in, edits_in, closed_text}
 
@@ -46,11 +46,11 @@ pub record Concludes (profile : Profile) (seats : ℕ) (sat : List SeatState) (l
   pub begins : (n : ℕ) → n < seats → IsPrefix (past_of n sat) history
   pub each : (n : ℕ) → receipts_of_seat (by_number seats sat) n ≡ receipts_in n 0 history
   pub written : text' ≡ text ++ (closed_text (edits_in history) true ++ replies (last_session profile history) last)
-  pub commands : summary'.commands ≡ summary.commands + (after_lines (last_session profile history) last).commands
-  pub refusals : summary'.refusals ≡ summary.refusals + (after_lines (last_session profile history) last).refusals
+  pub commands : summary'.commands ≡ summary.commands + (after_lines (last_session profile history) last).hand.commands
+  pub refusals : summary'.refusals ≡ summary.refusals + (after_lines (last_session profile history) last).hand.refusals
 
--- what is done at each of so many seats: it has played the part of its number, with looks at beginnings of a history, and where there is
--- none it has worked
+-- what is done at each of so many seats: it has played the part of its number, with looks at beginnings of a history, each no shorter than
+-- the one before, and where there is none it has worked
 abbrev pub EachDone : Profile → List Entry → List (List (List ℕ)) → ℕ → List Doing → Type 0
 EachDone p history played seats done = (length done ≡ seats) × ((n : ℕ) → n < seats → IsDone p (SeesWhenClosed history n) played (sitting n [] 0 []) (at_seat done n))
 
@@ -69,8 +69,8 @@ pub record PartsPlay (profile : Profile) (seats : ℕ) (played : List (List (Lis
   pub order : FirstBeforeOthers history
   pub agree : Agree profile history (by_number seats (map (λ (d : Doing). d.seat) done))
   pub written : text ≡ parts_text done (length played) ++ (closed_text (edits_in history) true ++ replies (last_session profile history) last)
-  pub commands : summary.commands ≡ commands_in done (length played) + (after_lines (last_session profile history) last).commands
-  pub refusals : summary.refusals ≡ refusals_in done (length played) + (after_lines (last_session profile history) last).refusals
+  pub commands : summary.commands ≡ commands_in done (length played) + (after_lines (last_session profile history) last).hand.commands
+  pub refusals : summary.refusals ≡ refusals_in done (length played) + (after_lines (last_session profile history) last).hand.refusals
 
 -- whether there are parts enough, and seats enough for all but the last and for the workers
 abbrev pub HasSeats : ℕ → ℕ → Type 0

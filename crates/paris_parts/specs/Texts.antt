@@ -1,8 +1,8 @@
 -- What is written for parts that are played, and for a history that is closed.
 use Rattle.std.specs.Prelude.{ℕ, zero, suc, ◌+◌, Bool, true, false, List, [], ◌∷◌, ◌++◌, codes, slice_index_or, if◌then◌else◌}
 use Rattle.std.specs.Fmt.{decimal}
-use Rattle.paris_machine.specs.declared.events.Event.{Event}
-use Rattle.paris_machine.specs.declared.events.Event.TheVariants as event
+use Rattle.paris_events.specs.declared.events.Event.{Event}
+use Rattle.paris_events.specs.declared.events.Event.TheVariants as event
 use Rattle.paris_records.specs.declared.records.Entry.{Entry}
 use Rattle.paris_desk.specs.Seats.{sitting}
 use Rattle.paris_parts.specs.Jobs.{Doing, begun_at}

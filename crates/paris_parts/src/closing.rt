@@ -11,11 +11,12 @@ ghost use Rattle.paris_parts.specs.Faults.{StopsRun, closing_fault};
 ghost use Rattle.paris_parts.specs.Run.{Concludes};
 ghost use Rattle.paris_parts.specs.Texts.{closed_text, edits_in};
 
+use crate::last::{Transcript, play_last};
 use crate::outcome::Ended;
+use crate::parts::Part;
 use crate::texts::{closed_text, edits_in};
 use paris_audit::audit_with;
 use paris_book::Book;
-use paris_cuts::{Part, Transcript, play_last};
 use paris_desk::{Cause, CloseFault, Closed, Desk, Entry, Office, Receipt, Seat, close};
 use paris_names::{Fault, Profile};
 use paris_session::{Settler, Summary};

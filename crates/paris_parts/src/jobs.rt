@@ -5,17 +5,18 @@ ghost use Rattle.std.specs.List.{All};
 ghost use Rattle.paris_names.specs.declared.faults.Fault.{Fault};
 ghost use Rattle.paris_names.specs.declared.faults.Fault.TheVariants as FaultCase;
 ghost use Rattle.paris_desk.specs.Pasts.{Learned};
-ghost use Rattle.paris_cuts.specs.Parts.{IsShort};
+ghost use Rattle.paris_parts.specs.Parts.{IsShort};
 ghost use Rattle.paris_parts.specs.Beginning.{hand_at};
 ghost use Rattle.paris_parts.specs.Faults.{StopsRun, rank, worse};
 ghost use Rattle.paris_parts.specs.Jobs.{AreDone, AreTold, Doing, JobHasRun, HasRunIn, IsNew, IsWorst, begun_at};
 ghost use Rattle.paris_parts.specs.Seeing.{IsInTime};
 
+use crate::parts::Part;
 use crate::players::play;
-use paris_cuts::{Part, Player};
 use paris_desk::{Desk, MAX_HISTORY, Office, Seat, work};
 use paris_exec::Gate;
 use paris_names::Fault;
+use paris_session::Hand;
 use std::alloc::{AllocError, Global};
 use std::marker::Model;
 use std::sync::Wait;
@@ -26,7 +27,7 @@ use std::{mem, thread};
 #[derive(Drop)]
 pub(crate) struct Job<L: Office> {
     pub(crate) seat: Seat<L>,
-    pub(crate) player: Player,
+    pub(crate) hand: Hand,
     pub(crate) text: Vec<u8>,
 }
 
@@ -35,7 +36,7 @@ impl<L: Office> Model for Job<L> {
 
     ghost Value = { Doing };
 
-    ghost view = { λ j. doing j.seat j.player j.text.items };
+    ghost view = { λ j. doing j.seat j.hand.hand j.text.items };
 }
 
 /// The part of a number, if there is one.
@@ -47,21 +48,21 @@ fn part_of(parts: &[Part], number: u64) -> Option<&Part>
     parts.get(number as usize)
 }
 
-/// A player for a seat. The first command of that of the first seat is the first of all.
-fn player_at<L: Office>(alloc: Global, seat: &Seat<L>) -> Player
-    ensures { result ≡ hand_at seat.now }
+/// An empty hand for a seat. The first command at the first seat is the first of all.
+fn hand_at<L: Office>(alloc: Global, seat: &Seat<L>) -> Hand
+    ensures { result.hand ≡ hand_at seat.now }
 {
-    Player::new(alloc, seat.number() == 0)
+    Hand::new(alloc, seat.number() == 0)
 }
 
 impl<L: Office> Job<L> {
     fn new(alloc: Global, seat: Seat<L>) -> Job<L>
         ensures { result ≡ begun_at seat }
     {
-        let player = player_at(alloc, &seat);
+        let hand = hand_at(alloc, &seat);
         Job {
             seat,
-            player,
+            hand,
             text: Vec::new(alloc),
         }
     }
@@ -82,16 +83,16 @@ impl<L: Office> Job<L> {
     {
         let Job {
             mut seat,
-            player: _,
+            hand: _,
             text,
         } = self;
-        let mut player = player_at(alloc, &seat);
+        let mut hand = hand_at(alloc, &seat);
         let Some(part) = part_of(parts, seat.number()) else {
             work(rt, alloc, desk, &mut seat, gate, MAX_HISTORY)?;
-            return Ok(Job { seat, player, text });
+            return Ok(Job { seat, hand, text });
         };
-        let (seat, text) = play(&mut player, rt, alloc, desk, seat, part)?;
-        Ok(Job { seat, player, text })
+        let (seat, text) = play(&mut hand, rt, alloc, desk, seat, part)?;
+        Ok(Job { seat, hand, text })
     }
 }
 

@@ -2,7 +2,7 @@
 
 ghost use Rattle.std.specs.Prelude.{◌≡◌, ◌≤◌, ◌<◌, ◌^◌, ℕ, List, length, map, IfErr, IfOk};
 ghost use Rattle.std.specs.List.{All};
-ghost use Rattle.paris_cuts.specs.Parts.{IsShort};
+ghost use Rattle.paris_parts.specs.Parts.{IsShort};
 ghost use Rattle.paris_records.specs.declared.limits.TheConstants.{MAX_SEATS};
 ghost use Rattle.paris_desk.specs.Seats.{fresh};
 ghost use Rattle.paris_parts.specs.Faults.{StopsRun};
@@ -11,8 +11,8 @@ ghost use Rattle.paris_parts.specs.Run.{LeftBy};
 ghost use Rattle.paris_parts.specs.Texts.{at_seat, commands_in, refusals_in};
 
 use crate::jobs::{Job, run_all};
+use crate::parts::Part;
 use crate::texts::parts_text;
-use paris_cuts::Part;
 use paris_desk::{Desk, Office, Seat};
 use paris_exec::Gate;
 use paris_names::Fault;
@@ -42,8 +42,8 @@ fn counted<L: Office>(jobs: &[Job<L>], count: usize) -> Summary
     };
     for number in 0..count {
         let job = &jobs[number];
-        summary.commands += job.player.commands();
-        summary.refusals += job.player.refusals();
+        summary.commands += job.hand.commands();
+        summary.refusals += job.hand.refusals();
     }
     summary
 }

@@ -3,9 +3,9 @@
 ghost use Rattle.std.specs.Prelude.{◌≡◌, ◌⊎◌, ◌↔◌, ◌≤◌, ◌*◌, ℕ, List, true, length, IfOk, IfErr, OnErr, OnOk, if◌then◌else◌};
 ghost use Rattle.std.specs.List.{All};
 ghost use Rattle.std.specs.Io.KnownBytes.{Appends, Consumes, Keeps, IsAtEnd};
-ghost use Rattle.paris_calls.specs.Calls.{no_marks};
-ghost use Rattle.paris_calls.specs.Texts.{WritesFront};
-ghost use Rattle.paris_cuts.specs.Parts.{IsShort};
+ghost use Rattle.paris_session.specs.Calls.{no_marks};
+ghost use Rattle.paris_session.specs.Texts.{WritesFront};
+ghost use Rattle.paris_parts.specs.Parts.{IsShort};
 ghost use Rattle.paris_records.specs.declared.limits.TheConstants.{MAX_HISTORY, MAX_SEATS};
 ghost use Rattle.paris_names.specs.declared.limits.TheConstants.{MAX_WORKERS};
 ghost use Rattle.paris_session.specs.declared.run.RunFault.TheVariants as RunCase;
@@ -15,30 +15,36 @@ ghost use Rattle.paris_parts.specs.Beginning.{profile_of_run};
 ghost use Rattle.paris_parts.specs.Faults.{StopsRun};
 ghost use Rattle.paris_parts.specs.Run.{HasSeats, HasDeskCause, IsCutShort, PartsPlay, ScriptRuns, StoppedBy};
 
+use crate::choosing::profile_of;
 use crate::closing::conclude;
+use crate::last::Transcript;
 use crate::outcome::play_parts;
-use paris_calls::{Tally, write_out};
-use paris_cuts::{Part, Transcript, parts_of, profile_of, read_all};
+use crate::parts::{Part, parts_of};
+use crate::reading::read_all;
 use paris_desk::{Desk, MAX_HISTORY, MAX_SEATS, Office, Opening};
 use paris_exec::Gate;
 use paris_names::limits::MAX_READS;
 use paris_names::{Fault, Profile};
-use paris_session::{RunFault, Settler, Summary};
+use paris_session::{RunFault, Settler, Summary, Tally, write_out};
 use std::alloc::{AllocError, Global};
 use std::io::{Read, Write};
 use std::marker::Brand;
 use std::sync::Wait;
 use std::thread::Threads;
+use thiserror::Error;
 
 /// Why a run of a script in parts stops before its end.
-#[derive(Clone, Copy, Debug, PartialEq, Eq)]
+#[derive(Clone, Copy, Debug, PartialEq, Eq, Error)]
 pub enum DeskRunFault {
     /// The reader or the writer failed, or there is no memory left.
+    #[error("{0}")]
     Run(RunFault),
     /// There are fewer than three parts, or more sessions and workers than a desk has seats.
+    #[error("wrong parts")]
     Parts,
     /// A call was not recorded, since the history is full or a seat was told of a longer one, or a seat met no history that it could
     /// look at, or with which its desk is closed.
+    #[error("{0}")]
     Desk(Fault),
 }
 
@@ -169,6 +175,8 @@ fn write_text<W: Write>(
 ) -> Result<(), RunFault>
     requires ended { HasEnded tally.old }
     ensures ok { OnOk result (Appends (W.contents writer.old) (W.contents writer.new) text.now) }
+    ensures still { OnOk result (HasEnded tally.new) }
+    ensures reads { tally.new.reads ≡ tally.old.reads }
     ensures front { OnErr result (WritesFront (W.contents writer.old) (W.contents writer.new) text.now) }
     ensures fault { IfErr result (λ fault. fault ≡ RunCase.Write) }
     ensures cause { IfErr result (λ fault. HasCause fault tally.new most_reads) }
@@ -195,6 +203,8 @@ pub fn run_sessions<H: Threads + Wait + Sync, S: Settler, R: Read, W: Write, G: 
     requires workers { (1 ≤ workers) × (workers ≤ MAX_WORKERS) }
     requires settler { S.can_settle settler.now }
     requires fresh { tally.old ≡ no_marks }
+    ensures ended { OnOk result (HasEnded tally.new) }
+    ensures bounded { tally.new.reads ≤ most_reads }
     ensures ok { IfOk result (λ summary. (script : List ℕ) × (text : List ℕ) × Consumes (R.remaining reader.old) (R.remaining reader.new) script
         × IsAtEnd (R.remaining reader.new) × Appends (W.contents writer.old) (W.contents writer.new) text × ScriptRuns workers script text summary) }
     ensures cause { IfErr result (λ fault. HasDeskCause workers (R.remaining reader.old) (R.remaining reader.new) fault tally.new) }

@@ -1,11 +1,13 @@
 //! What is written for the parts of a script, and for a history that is closed.
 
 ghost use Rattle.std.specs.Prelude.{◌≡◌, ◌<◌, ◌≤◌, ◌*◌, ℕ, List, ◌++◌, length, IfOk, OnOk};
+ghost use Rattle.paris_session.specs.Hands.{faults_among};
 ghost use Rattle.paris_parts.specs.Texts.{closed_text, commands_in, edits_in, head_line, is_edit, parts_text, refusals_in};
 
 use crate::jobs::Job;
 use paris_desk::{Entry, Office};
-use paris_machine::Event;
+use paris_edits::{RowFault, RowLook};
+use paris_events::Event;
 use std::alloc::{AllocError, Global};
 
 /// The line before what a part writes: none for the first.
@@ -80,4 +82,17 @@ pub(crate) fn closed_text(alloc: Global, edits: usize, agree: bool) -> Result<Ve
         format!(in alloc; "close\nedits {edits}\naudit no\n")?
     };
     Ok(text.into_bytes())
+}
+
+/// The rows of a list that are refused, with the cause.
+pub(crate) fn faults_among(alloc: Global, looks: &[RowLook]) -> Result<Vec<RowFault>, AllocError>
+    ensures { IfOk result (λ faults. faults.items ≡ faults_among looks.now) }
+{
+    let mut faults = Vec::new(alloc);
+    for look in looks {
+        if let Some(cause) = look.cause {
+            faults.push(RowFault { id: look.id, cause })?;
+        }
+    }
+    Ok(faults)
 }

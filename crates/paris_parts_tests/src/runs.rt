@@ -1,12 +1,11 @@
 //! Tests of scripts in parts, by what is written for them.
 
 use crate::waiting::TwoAtOnce;
-use paris_calls::Tally;
 use paris_exec::{Gate, OpenGate};
 use paris_names::Fault;
 use paris_names::limits::MAX_LINE;
 use paris_parts::{DeskRunFault, run_parts, run_sessions};
-use paris_session::{Alone, Summary};
+use paris_session::{Alone, Summary, Tally};
 use std::alloc::{AllocError, Global};
 use std::process::Abort;
 use std::sync::Wait;

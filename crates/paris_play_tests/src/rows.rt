@@ -1,12 +1,10 @@
 //! Worked rows: a schedule with an order that is lost, and results of orders that were made by hand.
 
 use crate::texts::{Text, edit_of, key};
-use paris_book::{Book, Look};
-use paris_events::{EditReply, Verdict};
-use paris_exec::{Done, Order, execute};
-use paris_field::SharedValue;
-use paris_machine::{Event, Move, MoveReply, Reply};
-use paris_names::{Edition, RowId, Spot};
+use paris::{
+    Book, Done, EditReply, Edition, Event, Look, Move, MoveReply, Order, Reply, RowId, SharedValue,
+    Spot, Verdict, execute,
+};
 use std::alloc::{AllocError, Global};
 use std::process::Abort;
 

@@ -1,8 +1,6 @@
 //! Keys and edits by their texts, as tables have them.
 
-use paris_events::Edit;
-use paris_names::KeyName;
-use paris_text::{Command, key_of_word, read_command};
+use paris::{Command, Edit, KeyName, key_of_word, read_command};
 use std::alloc::Global;
 use std::process::Abort;
 

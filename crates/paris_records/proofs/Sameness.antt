@@ -12,13 +12,13 @@ use Rattle.paris_names.specs.contracts.keys.FlagNamePartialEq.TheImpl as FlagEq
 use Rattle.paris_names.specs.contracts.ids.RowIdPartialEq.TheImpl as RowIdEq
 use Rattle.paris_names.specs.contracts.ids.SpotPartialEq.TheImpl as SpotEq
 use Rattle.paris_board.proofs.NameTests.{name_eq}
-use Rattle.paris_events.specs.contracts.edits.EditPartialEq.TheImpl as EditEq
-use Rattle.paris_events.specs.declared.edits.Edit.{Edit}
-use Rattle.paris_events.specs.declared.edits.Edit.TheVariants.{AddSet, AddField, Input, Insert, Delete, Replace}
-use Rattle.paris_events.specs.contracts.rows.RowLookPartialEq.TheImpl as RowLookEq
-use Rattle.paris_events.specs.contracts.rows.StatusPartialEq.TheImpl as StatusEq
+use Rattle.paris_edits.specs.contracts.edits.EditPartialEq.TheImpl as EditEq
+use Rattle.paris_edits.specs.declared.edits.Edit.{Edit}
+use Rattle.paris_edits.specs.declared.edits.Edit.TheVariants.{AddSet, AddField, Input, Insert, Delete, Replace}
+use Rattle.paris_edits.specs.contracts.rows.RowLookPartialEq.TheImpl as RowLookEq
+use Rattle.paris_edits.specs.contracts.rows.StatusPartialEq.TheImpl as StatusEq
 use Rattle.paris_model.specs.contracts.actions.RefusalPartialEq.TheImpl as RefusalEq
-use Rattle.paris_events.specs.declared.rows.RowLook.{RowLook}
+use Rattle.paris_edits.specs.declared.rows.RowLook.{RowLook}
 use Rattle.paris_instr.specs.PlanEq.{instr_eq}
 use Rattle.paris_instr.proofs.SameActions.{IsStrict, IsReflexive, same_action, self_action}
 

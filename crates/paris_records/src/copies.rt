@@ -2,8 +2,8 @@
 
 ghost use Rattle.std.specs.Prelude.{◌≡◌, IfOk};
 
-use paris_events::Edit;
-use paris_machine::{Event, Reply, Shown};
+use paris_edits::Edit;
+use paris_events::{Event, Reply, Shown};
 use std::alloc::AllocError;
 
 /// A copy of an edit.

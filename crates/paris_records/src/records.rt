@@ -1,6 +1,6 @@
 //! What is kept of a call: the desk's entry and the seat's receipt.
 
-use paris_machine::{Event, Reply};
+use paris_events::{Event, Reply};
 
 /// A call in the history of a desk: who made it, what was asked, and what was answered.
 #[derive(Debug, Drop)]

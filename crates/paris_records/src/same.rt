@@ -2,9 +2,9 @@
 
 ghost use Rattle.std.specs.Prelude.{◌≡◌, ◌↔◌, IsTrue};
 
-use paris_events::{Edit, RowLook};
+use paris_edits::{Edit, RowLook};
+use paris_events::{Event, Reply, Shown};
 use paris_exec::{Done, Order};
-use paris_machine::{Event, Reply, Shown};
 use paris_names::{Fault, Items, KeyName, Spot};
 
 fn is_same_key(key: KeyName, other: KeyName) -> bool

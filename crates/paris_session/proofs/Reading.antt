@@ -1,13 +1,13 @@
 -- What a run has read and written so far.
-use Rattle.std.proofs.Common.{◌≡◌, ℕ, ◌+◌, List, [], ◌∷◌, ◌++◌, Option, refl, sym, ap, ◌∙◌, append_assoc, append-nil, true}
+use Rattle.std.proofs.Common.{◌≡◌, ℕ, ◌+◌, ◌<◌, ◌≤◌, arith, List, [], ◌∷◌, ◌++◌, Option, refl, sym, ap, ◌∙◌, append_assoc, append-nil, true}
 use Rattle.std.specs.Io.KnownBytes.{Appends, Consumes, Keeps, IsAtEnd}
 use Rattle.std.proofs.KnownBytes.{Consumes-nil, Appends-nil, Appends-trans, Consumes-trans, Consumes-kept}
 use Rattle.paris_session.specs.Transcript.{Sitting}
 use Rattle.paris_session.specs.declared.answers.Summary.{Summary}
 use Rattle.paris_session.specs.declared.run.RunFault.{RunFault}
 use Rattle.paris_session.specs.declared.run.RunFault.TheVariants as faults
-use Rattle.paris_calls.specs.Calls.{Marks, no_marks, SameReads}
-use Rattle.paris_calls.specs.Texts.{WritesFront}
+use Rattle.paris_session.specs.Calls.{Marks, no_marks, SameReads}
+use Rattle.paris_session.specs.Texts.{WritesFront}
 use Rattle.paris_session.specs.Transcript.{answer, start, transcript, sitting_after}
 use Rattle.paris_session.specs.Progress.{ended_lines, open_line, said, sitting_at}
 use Rattle.paris_session.specs.Run.{EndsWell, StopsShort, AnswersEnded, IsWriteFault, NoneFailed, HasEnded, HasCause}
@@ -88,7 +88,7 @@ stops_answering reader0 reader1 reader2 writer0 writer1 writer2 s line bytes fau
 -- the run ends
 pub ends_well : (reader0 reader1 reader2 writer0 writer1 writer2 : Option (List ℕ)) (s : Sitting) (line : List ℕ) (summary : Summary) → Reading reader0 reader1 writer0 writer1 s line
     → Keeps reader1 reader2 → IsAtEnd reader2 → Appends writer1 writer2 (answer s line).1
-    → summary ≡ record { commands = (answer s line).0.commands; refusals = (answer s line).0.refusals }
+    → summary ≡ record { commands = (answer s line).0.hand.commands; refusals = (answer s line).0.hand.refusals }
     → EndsWell reader0 reader2 writer0 writer2 summary
 ends_well reader0 reader1 reader2 writer0 writer1 writer2 s line summary old same end appended counted = record {
   read = old.read;
@@ -124,6 +124,18 @@ asked n = record no_marks { reads = n }
 -- a read that is marked and nothing else
 pub asked_again : (old new : Marks) (n : ℕ) → old ≡ asked n → new ≡ record old { reads = old.reads + 1 } → new ≡ asked (n + 1)
 asked_again old new n kept marked = marked ∙ ap (λ (m : Marks). record m { reads = m.reads + 1 }) kept
+
+-- one read more than so many is within a bound above them
+pub few_reads : (old new : Marks) (n bound : ℕ) → old ≡ asked n → n < bound → new.reads ≡ old.reads + 1 → new.reads ≤ bound
+few_reads old new n bound is lt more = let r : old.reads ≡ n = ap (λ (m : Marks). m.reads) is in omega (arith, r, lt, more)
+
+-- and so it is where no read comes behind them
+pub kept_reads : (before after bound : ℕ) → before ≤ bound → after ≡ before → after ≤ bound
+kept_reads before after bound few same = omega (arith, same, few)
+
+-- as many reads as the bound are within it
+pub all_reads : (marks : Marks) (n bound : ℕ) → marks ≡ asked n → n ≡ bound → marks.reads ≤ bound
+all_reads marks n bound is all = let r : marks.reads ≡ n = ap (λ (m : Marks). m.reads) is in omega (arith, r, all)
 
 -- a read that fails is the cause of a read fault
 pub read_cause : (old new : Marks) (n bound : ℕ) → old ≡ asked n → new ≡ record old { reads = old.reads + 1; read_failed = true } → HasCause faults.Read new bound

@@ -9,9 +9,10 @@ use Rattle.std.proofs.lemmas.List.Sums.{prefix_len_passes}
 use Rattle.std.specs.Io.KnownBytes.{Appends}
 use Rattle.std.proofs.KnownBytes.{Appends-trans}
 use Rattle.std.proofs.Common.{Option}
-use Rattle.paris_calls.specs.Texts.{WritesFront}
+use Rattle.paris_session.specs.Texts.{WritesFront}
 use Rattle.paris_session.specs.Transcript.{Sitting}
-use Rattle.paris_session.specs.Transcript.{after_lines, replies, answer, longest_line}
+use Rattle.paris_session.specs.Hands.{longest_line}
+use Rattle.paris_session.specs.Transcript.{after_lines, replies, answer}
 use Rattle.paris_session.specs.Progress.{with_byte, ended_lines, open_line, said, sitting_at}
 
 pub ended-append : (begun xs ys : List ℕ) → ended_lines begun (xs ++ ys) ≡ ended_lines begun xs ++ ended_lines (open_line begun xs) ys

@@ -35,7 +35,7 @@ line_done s new all i line text reply more out within is answered longer same =
     ∙ ap (λ (p : Sitting × List ℕ). (text ++ p.1) ++ replies p.0 (drop (i + 1) all)) answered
     ∙ line_said s all i line text out within is same
 
-pub line_counted : (s new : Sitting) (i : ℕ) (line reply : List ℕ) → (new, reply) ≡ answer s line → s.commands ≤ i → new.commands ≤ i + 1
+pub line_counted : (s new : Sitting) (i : ℕ) (line reply : List ℕ) → (new, reply) ≡ answer s line → s.hand.commands ≤ i → new.hand.commands ≤ i + 1
 line_counted s new i line reply answered few =
-    let same : new.commands ≡ (answer s line).0.commands = ap (λ (p : Sitting × List ℕ). p.0.commands) answered in
+    let same : new.hand.commands ≡ (answer s line).0.hand.commands = ap (λ (p : Sitting × List ℕ). p.0.hand.commands) answered in
     omega (arith, same, answer_count s line)

@@ -1,3 +1,7 @@
+pub mod Calls
+pub mod Texts
+pub mod Replies
+pub mod Hands
 pub mod Transcript
 pub mod Turns
 pub mod Progress

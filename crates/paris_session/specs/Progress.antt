@@ -1,10 +1,7 @@
 -- How far a script is read: the lines that ended, and the line that has begun.
-use Rattle.std.specs.Prelude.{ℕ, ◌<◌, ◌==◌, List, [], ◌∷◌, ◌++◌, length, if◌then◌else◌, nat_le}
-use Rattle.paris_session.specs.Transcript.{Sitting, after_lines, replies, longest_line}
-
--- the command that is being answered is counted: there are fewer refusals, and fewer orders, than commands
-abbrev pub IsCounted : Sitting → Type 0
-IsCounted s = (s.refusals < s.commands) × (length s.tray < s.commands)
+use Rattle.std.specs.Prelude.{ℕ, ◌==◌, List, [], ◌∷◌, ◌++◌, length, if◌then◌else◌, nat_le}
+use Rattle.paris_session.specs.Hands.{longest_line}
+use Rattle.paris_session.specs.Transcript.{Sitting, after_lines, replies}
 
 -- a line with one byte more; of a line that is too long, one byte too many is kept
 abbrev pub with_byte : List ℕ → ℕ → List ℕ

@@ -3,8 +3,8 @@ use Rattle.std.specs.Prelude.{◌≡◌, ℕ, List, Option, true, false}
 use Rattle.std.specs.Io.KnownBytes.{Appends, Consumes, IsAtEnd}
 use Rattle.paris_session.specs.Transcript.{transcript, transcript_of_ended, sitting_after}
 use Rattle.paris_names.specs.declared.limits.TheConstants.{MAX_READS}
-use Rattle.paris_calls.specs.Calls.{Marks}
-use Rattle.paris_calls.specs.Texts.{BeginsWith}
+use Rattle.paris_session.specs.Calls.{Marks}
+use Rattle.paris_session.specs.Texts.{BeginsWith}
 use Rattle.paris_session.specs.declared.answers.Summary.{Summary}
 use Rattle.paris_session.specs.declared.run.RunFault.{RunFault}
 use Rattle.paris_session.specs.declared.run.RunFault.TheVariants.{Read, Write, TooLong, NoMemory}
@@ -41,7 +41,7 @@ pub record EndsWell (reader_old reader_new writer_old writer_new : Option (List 
   pub consumed : Consumes reader_old reader_new read
   pub at_end : IsAtEnd reader_new
   pub written : Appends writer_old writer_new (transcript read)
-  pub counted : summary ≡ record { commands = (sitting_after read).commands; refusals = (sitting_after read).refusals }
+  pub counted : summary ≡ record { commands = (sitting_after read).hand.commands; refusals = (sitting_after read).hand.refusals }
 
 abbrev pub AnswersEnded : RunFault → List ℕ → List ℕ → Type 0
 AnswersEnded Read read text = text ≡ transcript_of_ended read

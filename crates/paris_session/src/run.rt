@@ -3,31 +3,38 @@
 ghost use Rattle.std.specs.Prelude.{◌≡◌, ℕ, ◌+◌, ◌^◌, ◌<◌, ◌≤◌, List, [], ◌∷◌, length, nat_eq, take, true, false, IfOk, IfErr, OnOk, OnErr};
 ghost use Rattle.std.specs.Io.KnownBytes.{Appends, Keeps};
 ghost use Rattle.std.specs.List.{position_or_len};
-ghost use Rattle.paris_calls.specs.Calls.{no_marks, SameReads};
-ghost use Rattle.paris_calls.specs.Texts.{WritesFront};
+ghost use Rattle.paris_session.specs.Calls.{no_marks, SameReads};
+ghost use Rattle.paris_session.specs.Texts.{WritesFront};
 ghost use Rattle.paris_session.specs.Transcript.{answer, start};
 ghost use Rattle.paris_session.specs.Progress.{ended_lines, open_line, said, sitting_at};
 ghost use Rattle.paris_session.specs.Run.{most_reads, IsWriteFault, HasCause, HasEnded, EndsWell, StopsShort};
 
 use crate::answers::{Session, Summary};
+use crate::calls::read_once;
 use crate::settlers::Settler;
+use crate::tally::{Given, Tally};
+use crate::texts::write_out;
 use crate::whole::is_line_feed;
-use paris_calls::{Given, Tally, read_once, write_out};
 use paris_names::limits::{MAX_LINE, MAX_READS};
 use std::alloc::Global;
 use std::io::{Read, Write};
 use std::sync::Wait;
+use thiserror::Error;
 
 /// Why a run stops before its script ends.
-#[derive(Clone, Copy, Debug, PartialEq, Eq)]
+#[derive(Clone, Copy, Debug, PartialEq, Eq, Error)]
 pub enum RunFault {
     /// The reader failed.
+    #[error("read fault")]
     Read,
     /// The writer failed.
+    #[error("write fault")]
     Write,
     /// The reader was asked as often as a run may ask it, and has not ended.
+    #[error("too long")]
     TooLong,
     /// There is no memory left.
+    #[error("no memory")]
     NoMemory,
 }
 
@@ -83,11 +90,11 @@ impl Script {
 
     /// Answers the line that has begun, and begins a new one.
     fn end_line<S: Settler>(&mut self, settler: &S) -> Result<Vec<u8>, RunFault>
-        requires room { self.old.session.commands < 2 ^ 62 }
+        requires room { self.old.session.hand.commands < 2 ^ 62 }
         requires settler { S.can_settle settler.now }
         ensures answer { IfOk result (λ text. (self.new.session, text.items) ≡ answer self.old.session self.old.line.items) }
         ensures line { OnOk result (self.new.line.items ≡ []) }
-        ensures count { OnOk result (self.new.session.commands ≤ self.old.session.commands + 1) }
+        ensures count { OnOk result (self.new.session.hand.commands ≤ self.old.session.hand.commands + 1) }
         ensures err { IfErr result (λ e. e ≡ RunFault.NoMemory) }
     {
         match self.session.answer(settler, self.line.as_slice()) {
@@ -124,7 +131,7 @@ impl Script {
         tally: &mut Tally,
         bytes: &[u8],
     ) -> Result<usize, RunFault>
-        requires room { self.old.session.commands < 2 ^ 62 }
+        requires room { self.old.session.hand.commands < 2 ^ 62 }
         requires settler { S.can_settle settler.now }
         requires some { 0 < length bytes.now }
         ensures some { IfOk result (λ n. (0 < n) × (n ≤ length bytes.now)) }
@@ -137,7 +144,7 @@ impl Script {
         ensures fault { IfErr result (λ e. IsWriteFault e tally.old tally.new) }
         ensures reads { SameReads tally.old tally.new }
         ensures kept { OnOk result (tally.new ≡ tally.old) }
-        ensures count { IfOk result (λ n. self.new.session.commands ≤ self.old.session.commands + n) }
+        ensures count { IfOk result (λ n. self.new.session.hand.commands ≤ self.old.session.hand.commands + n) }
     {
         if bytes[0] != b'\n' {
             let count = self.take_run(bytes)?;
@@ -157,7 +164,7 @@ impl Script {
         tally: &mut Tally,
         bytes: &[u8],
     ) -> Result<(), RunFault>
-        requires room { self.old.session.commands + length bytes.now < 2 ^ 62 }
+        requires room { self.old.session.hand.commands + length bytes.now < 2 ^ 62 }
         requires settler { S.can_settle settler.now }
         ensures session { OnOk result (self.new.session ≡ sitting_at self.old.session self.old.line.items bytes.now) }
         ensures line { OnOk result (self.new.line.items ≡ open_line self.old.line.items bytes.now) }
@@ -168,7 +175,7 @@ impl Script {
         ensures fault { IfErr result (λ e. IsWriteFault e tally.old tally.new) }
         ensures reads { SameReads tally.old tally.new }
         ensures kept { OnOk result (tally.new ≡ tally.old) }
-        ensures count { OnOk result (self.new.session.commands ≤ self.old.session.commands + length bytes.now) }
+        ensures count { OnOk result (self.new.session.hand.commands ≤ self.old.session.hand.commands + length bytes.now) }
     {
         let mut at = 0;
         while at < bytes.len() {
@@ -185,11 +192,11 @@ impl Script {
         writer: &mut W,
         tally: &mut Tally,
     ) -> Result<Summary, RunFault>
-        requires room { self.old.session.commands < 2 ^ 62 }
+        requires room { self.old.session.hand.commands < 2 ^ 62 }
         requires settler { S.can_settle settler.now }
         ensures ok { IfOk result (λ summary. let last = answer self.old.session self.old.line.items in
             Appends (W.contents writer.old) (W.contents writer.new) last.1
-            × (summary ≡ record { commands = last.0.commands; refusals = last.0.refusals })) }
+            × (summary ≡ record { commands = last.0.hand.commands; refusals = last.0.hand.refusals })) }
         ensures err { IfErr result (λ e. IsWriteFault e tally.old tally.new
             × WritesFront (W.contents writer.old) (W.contents writer.new) (answer self.old.session self.old.line.items).1) }
         ensures reads { SameReads tally.old tally.new }
@@ -223,6 +230,7 @@ pub fn run_script_bounded<H: Wait, S: Settler, R: Read, W: Write>(
     ensures short { IfErr result (λ fault. StopsShort (R.remaining reader.old) (R.remaining reader.new)
         (W.contents writer.old) (W.contents writer.new) fault) }
     ensures fault { IfErr result (λ fault. HasCause fault tally.new bound) }
+    ensures bounded { tally.new.reads ≤ bound }
 {
     let mut script = Script::new(alloc);
     let mut room = [0u8; ROOM];
@@ -254,6 +262,7 @@ pub fn run_script<H: Wait, S: Settler, R: Read, W: Write>(
     ensures short { IfErr result (λ fault. StopsShort (R.remaining reader.old) (R.remaining reader.new)
         (W.contents writer.old) (W.contents writer.new) fault) }
     ensures fault { IfErr result (λ fault. HasCause fault tally.new most_reads) }
+    ensures bounded { tally.new.reads ≤ most_reads }
 {
     run_script_bounded(rt, settler, alloc, reader, writer, MAX_READS, tally)
 }

@@ -1,8 +1,8 @@
 //! Who settles the book of a session.
 
-ghost use Rattle.std.specs.Prelude.{◌≡◌, ◌<◌, IfOk, IfErr, OnOk};
-ghost use Rattle.paris_machine.specs.Settling.{all_settled, due};
-ghost use Rattle.paris_session.specs.NoReplies.{IsSettledFurther};
+ghost use Rattle.std.specs.Prelude.{◌≡◌, IfOk, IfErr, OnOk};
+ghost use Rattle.paris_events.specs.Settling.{all_settled, due};
+ghost use Rattle.paris_book.specs.Stopped.{IsStopped};
 
 use paris_book::{Book, SettleFault};
 
@@ -12,14 +12,13 @@ pub trait Settler {
     ghost can_settle: { Self → Type 0 };
 
     /// Gives up the orders that are out, and settles every row. The answer is how many orders were run, one for each row that was due.
-    /// The error says that memory was refused: so many orders were run, at least so many rows more are settled, all else is as it was
-    /// but for orders that are out, and the book can be settled again.
+    /// The error says that memory was refused, and comes only where a row is left that must be run: so many orders were run, at least
+    /// so many rows more are settled, no order is out, all else is as it was, and the book can be settled again.
     fn settle(&self, book: &mut Book) -> Result<u64, SettleFault>
         requires { can_settle self.now }
         ensures count { IfOk result (λ ran. ran ≡ due book.old) }
         ensures settled { OnOk result (book.new ≡ all_settled book.old) }
-        ensures further { IfErr result (λ fault. IsSettledFurther fault.ran book.old book.new) }
-        ensures fewer { IfErr result (λ fault. fault.ran < due book.old) };
+        ensures stopped { IfErr result (λ fault. IsStopped fault.ran book.old book.new) };
 }
 
 /// One who runs one row after another, in the caller's thread.

@@ -1,6 +1,6 @@
 //! Commands that are read, and wrong lines.
 
-use paris_events::Edit;
+use paris_edits::Edit;
 use paris_model::{Action, Conditional};
 use paris_names::{Fault, FlagName, Profile, RowId, Spot};
 use paris_text::{Command, Setting, read_command, read_command_in};

@@ -5,7 +5,7 @@ use Rattle.paris_names.specs.declared.faults.Fault.{Fault}
 use Rattle.paris_names.specs.declared.faults.Fault.TheVariants.{NoMemory, Syntax}
 use Rattle.paris_names.specs.declared.ids.Spot.{Spot}
 use Rattle.paris_names.specs.declared.ids.Spot.TheVariants.{Start, After, End}
-use Rattle.paris_events.specs.declared.edits.Edit.TheVariants as edit
+use Rattle.paris_edits.specs.declared.edits.Edit.TheVariants as edit
 use Rattle.paris_text.specs.declared.verbs.Verb.{Verb}
 use Rattle.paris_text.specs.declared.verbs.Verb.TheVariants as verb
 use Rattle.paris_text.specs.declared.verbs.Setting.{Setting}

@@ -2,8 +2,8 @@
 use Rattle.std.specs.Prelude.{◌≡◌, ◌≢◌, true, ℕ, List, [], ◌∷◌, ◌++◌, map, codes}
 use Rattle.std.specs.List.{join_with_byte, AllByRecursion}
 use Rattle.std.specs.Fmt.{decimal}
-use Rattle.paris_events.specs.declared.edits.Edit.{Edit}
-use Rattle.paris_events.specs.declared.edits.Edit.TheVariants as edit
+use Rattle.paris_edits.specs.declared.edits.Edit.{Edit}
+use Rattle.paris_edits.specs.declared.edits.Edit.TheVariants as edit
 use Rattle.paris_text.specs.declared.verbs.Verb.{Verb}
 use Rattle.paris_text.specs.declared.verbs.Verb.TheVariants as verb
 use Rattle.paris_text.specs.declared.verbs.Setting.{Setting}

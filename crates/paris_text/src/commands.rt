@@ -10,7 +10,7 @@ use crate::reader::{
     next_values, next_verb,
 };
 use crate::verbs::{Setting, Verb};
-use paris_events::Edit;
+use paris_edits::Edit;
 use paris_names::{Fault, KeyName, Profile, RowId, Spot};
 use std::alloc::Global;
 

@@ -6,8 +6,8 @@ use Rattle.paris_names.specs.declared.faults.Fault.TheVariants.{StrangeSeat, NoE
 use Rattle.paris_names.specs.declared.ids.Spot.{Spot}
 use Rattle.paris_names.specs.declared.names.KeyName.{KeyName}
 use Rattle.paris_names.specs.declared.profiles.Profile.{Profile}
-use Rattle.paris_machine.specs.Show.{show_reply}
-use Rattle.paris_machine.specs.declared.events.Shown.{Shown}
+use Rattle.paris_events.specs.Show.{show_reply}
+use Rattle.paris_events.specs.declared.events.Shown.{Shown}
 use Rattle.paris_records.specs.History.{Legal, state_of}
 use Rattle.paris_desk.specs.Seats.{SeatState}
 

@@ -1,7 +1,7 @@
 //! A seat that is reading what a desk published.
 
 ghost use Rattle.std.specs.Prelude.{◌≡◌, length, Err, IsOk, MatchOption, MatchResult};
-ghost use Rattle.paris_machine.specs.Show.{show_reply};
+ghost use Rattle.paris_events.specs.Show.{show_reply};
 ghost use Rattle.paris_records.specs.History.{state_of};
 ghost use Rattle.paris_desk.specs.Seats.{SeatState, sitting};
 ghost use Rattle.paris_view.specs.Entering.{IsUnmet};

@@ -1,8 +1,9 @@
 //! Looks.
 
 ghost use Rattle.std.specs.Prelude.{◌≡◌, Ok, Err, IsOk, IfOk, IfErr, MatchOption};
-ghost use Rattle.paris_machine.specs.Show.{show_reply};
+ghost use Rattle.paris_events.specs.Show.{show_reply};
 ghost use Rattle.paris_book.specs.Among.{look_shown};
+ghost use Rattle.paris_book.specs.Laws.{NowIsDirect};
 ghost use Rattle.paris_records.specs.History.{state_of};
 ghost use Rattle.paris_view.specs.Entering.{fault_of};
 ghost use Rattle.paris_view.specs.Looks.{Held as HeldSeat, Looked, Missed};
@@ -29,7 +30,7 @@ pub struct Held<'a, L: Office> {
 
 impl<'a, L: Office> Model for Held<'a, L> {
     ghost use Rattle.std.specs.Prelude.{◌≡◌, IsOk};
-    ghost use Rattle.paris_machine.specs.Show.{show_reply};
+    ghost use Rattle.paris_events.specs.Show.{show_reply};
     ghost use Rattle.paris_records.specs.History.{state_of};
     ghost use Rattle.paris_view.specs.Looks.{Held as HeldSeat};
 
@@ -96,6 +97,14 @@ impl<'a, L: Office> Held<'a, L> {
             Ok(look) => look,
             Err(_) => unreachable!(),
         }
+    }
+
+    /// The run of the program that is looked at is the one in which each instruction sees the whole world, at each place. It changes
+    /// nothing: what it ensures is the law.
+    pub fn now_is_direct(&self)
+        ensures { NowIsDirect (state_of L.profile self.now.seat.past) }
+    {
+        self.entered.book().now_is_direct();
     }
 
     /// Ends the look.

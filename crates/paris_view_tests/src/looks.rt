@@ -7,7 +7,7 @@ use crate::spellings::{Text, instr_of, key, name};
 use paris_audit::audit_with;
 use paris_book::Look;
 use paris_desk::{CloseFault, Closed, Desk, Front, Office, Opening, Seat, close};
-use paris_events::{Edit, Verdict};
+use paris_edits::{Edit, Verdict};
 use paris_exec::execute;
 use paris_names::Spot::{After, End};
 use paris_names::{Fault, Items, KeyName, Profile, RowId, Spot};

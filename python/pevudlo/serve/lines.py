@@ -101,18 +101,19 @@ class Lines:
         kept = self._put(change.id, f"#? {name[:MOST_NAMED]}: {change.text}", who)
         return [kept], Clash(change.id, present, change.text)
 
-    def repeat(self, done: Done, who: int) -> None:
-        """Does again what was done once to the same lines, or to be undone. A line comes back under its id."""
+    def repeat(self, done: Done, who: int) -> Done:
+        """Does again what was done once to the same lines, or to be undone. A line comes back under its id.
+
+        Gives what was done, as others are told it: a line that comes back may stand behind another one than it did.
+        """
         at = self.at(done.id)
         if done.op is Op.INSERT:
-            self._put(done.after, done.text, who, done.id)
-        elif at is not None:
-            self._change(at, Change(done.op, done.id, text=done.text), who)
+            return self._put(done.after, done.text, who, done.id)
+        return done if at is None else self._change(at, Change(done.op, done.id, text=done.text), who)
 
-    def repeat_all(self, all_done: Iterable[Done], who: int) -> None:
-        """Does again what was done, one after the other."""
-        for done in all_done:
-            self.repeat(done, who)
+    def repeat_all(self, all_done: Iterable[Done], who: int) -> list[Done]:
+        """Does again what was done, one after the other. Gives what was done."""
+        return [self.repeat(done, who) for done in all_done]
 
     def take_all(self, changes: Sequence[Change], who: int, name: str) -> tuple[list[Done], list[Clash], list[int]]:
         """Does several changes of one edit. What was done, where another one was first, and the ids of new lines."""

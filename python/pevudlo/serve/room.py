@@ -199,8 +199,7 @@ class Room:
         entry = own[-1]
         for done in entry.done:
             self._check_own(done, entry, name_of)
-        inverse = [inverse_of(done) for done in reversed(entry.done)]
-        self.lines.repeat_all(inverse, who)
+        inverse = self.lines.repeat_all([inverse_of(done) for done in reversed(entry.done)], who)
         self.size = size_of(self.lines.texts)
         self._did(Entry(self.number + 1, time.time(), who, inverse, is_undo=True))
         return Edit(self.number, inverse, [], [])

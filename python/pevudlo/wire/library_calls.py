@@ -25,7 +25,9 @@ class Outcome(IntEnum):
     """What becomes of a call of the library. 1 to 23 are the faults' numbers."""
 
     OK = 0
+    FULL = 18
     NO_MEMORY = 19
+    NO_ENTRY = 23
     CLOSED = 101
     NO_KEY = 102
     PENDING = 103
@@ -37,6 +39,8 @@ class Outcome(IntEnum):
     NOTHING = 109
     NOT_RUN = 110
     UNLIKE = 111
+    NO_EVENT = 112
+    STRANGE = 113
 
 
 class Handle(ctypes.Structure):

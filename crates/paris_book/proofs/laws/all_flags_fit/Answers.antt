@@ -2,7 +2,7 @@ use Rattle.std.proofs.Common.{All, arith, subst}
 use Rattle.std.proofs.lemmas.List.{take_all}
 use Rattle.std.proofs.lemmas.List.Elements.{All-more}
 use Rattle.paris_book.specs.Laws.{FlagsFit}
-use Rattle.paris_machine.specs.declared.inputs.FlagInputs.{FlagInputs}
+use Rattle.paris_events.specs.declared.inputs.FlagInputs.{FlagInputs}
 use Rattle.paris_book.proofs.laws.all_flags_fit.Goals as goal
 
 pub loop-flags-preserved : goal.loop-flags-preserved

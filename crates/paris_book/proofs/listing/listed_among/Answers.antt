@@ -1,7 +1,7 @@
 use Rattle.std.proofs.Common.{◌≡◌, List, [], ◌∷◌, ◌++◌, sym, ap, ◌∙◌, arith, length, take}
 use Rattle.std.proofs.Math.Seq.{take-length}
 use Rattle.paris_book.specs.Among.{looks_kept}
-use Rattle.paris_events.specs.declared.rows.RowLook.{RowLook}
+use Rattle.paris_edits.specs.declared.rows.RowLook.{RowLook}
 use Rattle.paris_book.specs.Entries.{Entry}
 use Rattle.paris_book.proofs.Listed.{looks_more}
 use Rattle.paris_book.proofs.listing.listed_among.Goals as goal

@@ -1,7 +1,7 @@
 use Rattle.std.proofs.Common.{◌≡◌, ◌+◌, ◌<◌, ◌++◌, ◌∙◌, ap, sym, refl, arith, map, length, take, drop, set, slice_get}
 use Rattle.std.specs.Prelude.{ℕ, Some, Option}
 use Rattle.std.proofs.lemmas.List.{length-set}
-use Rattle.paris_machine.specs.State.{Row}
+use Rattle.paris_events.specs.State.{Row}
 use Rattle.paris_book.specs.Entries.{machine_row}
 use Rattle.paris_book.specs.Unsettled.{filled, unsettled_ids}
 use Rattle.paris_book.proofs.Finds.{row_at}

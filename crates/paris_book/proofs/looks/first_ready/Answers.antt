@@ -5,7 +5,7 @@ use Rattle.std.specs.List.{find, enumerate_from}
 use Rattle.paris_book.specs.Entries.{Entry, machine_row}
 use Rattle.paris_book.proofs.Among.{ready_among, next_among}
 use Rattle.paris_book.proofs.Finds.{row_at}
-use Rattle.paris_machine.proofs.Finds.{find_here, find_more}
+use Rattle.paris_events.proofs.Finds.{find_here, find_more}
 use Rattle.paris_book.proofs.Pending.{none_pending, none_ready_before, none_ready_at_all, pending_past, ready_is}
 use Rattle.paris_book.proofs.Searches.{next_row, no_next_row}
 use Rattle.paris_book.proofs.looks.first_ready.Goals as goal

@@ -1,7 +1,7 @@
 use Rattle.std.proofs.Common.{ap, ◌∙◌, sym}
 use Rattle.std.specs.Option.{option_map}
-use Rattle.paris_events.specs.Rows.{is_settled}
-use Rattle.paris_machine.specs.Orders.{is_firm as is_firm_origin}
+use Rattle.paris_edits.specs.Rows.{is_settled}
+use Rattle.paris_events.specs.Orders.{is_firm as is_firm_origin}
 use Rattle.paris_book.specs.Entries.{machine_row}
 use Rattle.paris_book.proofs.Entering.{origin_none, origin_row, origin_there}
 use Rattle.paris_book.proofs.looks.is_firm.Goals as goal

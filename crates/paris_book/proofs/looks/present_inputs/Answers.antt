@@ -4,7 +4,7 @@ use Rattle.std.specs.List.{list_all}
 use Rattle.paris_names.specs.Keys.{has_key}
 use Rattle.paris_model.specs.Instructions.{reads}
 use Rattle.paris_book.specs.Among.{inputs_of, shared_shown, LookFits}
-use Rattle.paris_machine.specs.Orders.{inputs_now}
+use Rattle.paris_events.specs.Orders.{inputs_now}
 use Rattle.paris_exec.specs.Tasks.{field_of}
 use Rattle.paris_book.specs.Kept.{present}
 use Rattle.paris_book.specs.Entries.{seen}

@@ -8,8 +8,8 @@ use Rattle.paris_model.specs.Frame.{World}
 use Rattle.paris_model.specs.Instructions.{reads}
 use Rattle.paris_field.specs.Fields.{FieldNumbers, field_eq}
 use Rattle.paris_exec.specs.Tasks.{field_of}
-use Rattle.paris_machine.specs.Show.{now, origin_at}
-use Rattle.paris_machine.specs.Orders.{is_firm as is_firm_origin}
+use Rattle.paris_events.specs.Show.{now, origin_at}
+use Rattle.paris_events.specs.Orders.{is_firm as is_firm_origin}
 use Rattle.paris_book.specs.Among.{inputs_of, shared_shown, LookFits}
 use Rattle.paris_book.specs.Entries.{seen, rows_seen}
 use Rattle.paris_book.specs.Whole.{shape_in}

@@ -5,8 +5,8 @@ use Rattle.std.specs.List.{list_all}
 use Rattle.std.specs.Cmp.Lexicographic.{pointwise}
 use Rattle.paris_field.specs.Fields.{field_eq}
 use Rattle.paris_exec.specs.Tasks.{field_of}
-use Rattle.paris_machine.specs.Show.{now, origin_at}
-use Rattle.paris_machine.specs.Orders.{is_firm, inputs_now}
+use Rattle.paris_events.specs.Show.{now, origin_at}
+use Rattle.paris_events.specs.Orders.{is_firm, inputs_now}
 use Rattle.paris_book.specs.Among.{inputs_of}
 use Rattle.paris_book.specs.Entries.{seen, rows_seen}
 use Rattle.paris_book.specs.Sources.{AreSources}

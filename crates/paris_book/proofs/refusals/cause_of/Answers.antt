@@ -1,5 +1,5 @@
 use Rattle.std.proofs.Common.{Some, None, sym, ap, ◌∙◌}
-use Rattle.paris_events.specs.Rows.{is_settled}
+use Rattle.paris_edits.specs.Rows.{is_settled}
 use Rattle.paris_exec.specs.Tasks.{numbers_of}
 use Rattle.paris_book.proofs.RefusedRows.{refused_told, values_told, kept_cause}
 use Rattle.paris_book.proofs.refusals.cause_of.Goals as goal

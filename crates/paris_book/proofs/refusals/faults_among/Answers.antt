@@ -1,7 +1,7 @@
 use Rattle.std.proofs.Common.{◌≡◌, List, [], ◌∷◌, ◌++◌, Some, None, sym, ap, ◌∙◌, arith, length, take}
 use Rattle.std.proofs.Math.Seq.{take-length}
 use Rattle.std.proofs.lemmas.List.{append-nil}
-use Rattle.paris_events.specs.declared.rows.RowFault.{RowFault}
+use Rattle.paris_edits.specs.declared.rows.RowFault.{RowFault}
 use Rattle.paris_book.specs.Entries.{Entry, id_of}
 use Rattle.paris_book.specs.Among.{faults_kept}
 use Rattle.paris_book.proofs.RefusedRows.{faults_more}

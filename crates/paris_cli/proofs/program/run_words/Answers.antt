@@ -7,7 +7,7 @@ pub returns-in-Err-clause-stops : goal.returns-in-Err-clause-stops
 returns-in-Err-clause-stops g c = λ past asks. stops_at_words _ _ _ _ _ _ c.in-Err.fault _ c.requires.fresh c.refuse_words.ensures.status c.refuse_words.ensures.line c.refuse_words.ensures.whole past
 
 pub returns-in-Err-clause-halts : goal.returns-in-Err-clause-halts
-returns-in-Err-clause-halts g c = λ past asks. inr (tells_of_words _ _ _ _ _ _ _ c.in-Err.fault _ c.requires.fresh c.in-Err.ensures.untaken c.refuse_words.ensures.status c.refuse_words.ensures.line c.refuse_words.ensures.whole)
+returns-in-Err-clause-halts g c = λ past asks. inr (tells_of_words _ _ _ _ _ _ _ c.in-Err.fault _ c.requires.fresh c.in-Err.ensures.untaken c.in-Err.ensures.in_text c.refuse_words.ensures.status c.refuse_words.ensures.line c.refuse_words.ensures.whole)
 
 pub returns-then-desk-clause-halts : goal.returns-then-desk-clause-halts
 returns-then-desk-clause-halts g c = λ past asks. inl (c.in-Ok.wanted.workers, c.in-Ok.ensures.number, c.run_at_desk.ensures.stops past)
@@ -29,3 +29,6 @@ returns-clause-sits g c = λ few asks. absurd (not_both c.in-Ok.wanted.desk (c.i
 
 pub returns-clause-halts : goal.returns-clause-halts
 returns-clause-halts g c = λ past asks. absurd (not_both c.in-Ok.wanted.desk (c.in-Ok.ensures.desk true asks) c.if-desk.false)
+
+pub returns-in-Err-clause-refused : goal.returns-in-Err-clause-refused
+returns-in-Err-clause-refused g c = λ untaken. tells_of_words _ _ _ _ _ _ _ c.in-Err.fault _ c.requires.fresh c.in-Err.ensures.untaken c.in-Err.ensures.in_text c.refuse_words.ensures.status c.refuse_words.ensures.line c.refuse_words.ensures.whole

@@ -1,7 +1,7 @@
 use Rattle.std.proofs.Common.{◌≡◌, Result, Ok, Err, ap, ◌∙◌}
 use Rattle.std.specs.Prelude.{IfOk}
-use Rattle.paris_machine.specs.declared.events.Reply.{Reply}
-use Rattle.paris_machine.specs.declared.events.Reply.TheVariants as ReplyCase
+use Rattle.paris_events.specs.declared.events.Reply.{Reply}
+use Rattle.paris_events.specs.declared.events.Reply.TheVariants as ReplyCase
 use Rattle.paris_desk.specs.declared.making.Replies.{Replies}
 use Rattle.paris_desk.proofs.making.make_list.Goals as goal
 

@@ -1,5 +1,5 @@
 use Rattle.std.proofs.Common.{ap, ◌∙◌}
-use Rattle.paris_machine.specs.Events.{reply_to}
+use Rattle.paris_events.specs.Events.{reply_to}
 use Rattle.paris_desk.proofs.preparing.prepare.Goals as goal
 
 pub returns-clause-given : goal.returns-clause-given

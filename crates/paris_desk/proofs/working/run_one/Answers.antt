@@ -1,6 +1,6 @@
 use Rattle.std.proofs.Common.{ap}
 use Rattle.std.proofs.lemmas.Result.{err_from_is_err_and}
-use Rattle.paris_machine.specs.declared.events.Reply.TheVariants as ReplyCase
+use Rattle.paris_events.specs.declared.events.Reply.TheVariants as ReplyCase
 use Rattle.paris_desk.proofs.Calling.{told_as}
 use Rattle.paris_desk.proofs.Turns.{turn_run, order_kept, order_left, order_refused}
 use Rattle.paris_desk.proofs.working.run_one.Goals as goal

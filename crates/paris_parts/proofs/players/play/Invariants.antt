@@ -5,4 +5,4 @@ use Rattle.paris_parts.proofs.players.play.Given as goal
 
 abbrev pub invariant-loop-line : goal.invariant-loop-line
 invariant-loop-line g l =
-    HasPlayed g.L.Office.profile l.fn.seat l.seat (map (λ line. line.items) (take l.line-index l.lines)) l.player l.text.items × (l.player.commands ≤ l.line-index) × IsInTime l.seat
+    HasPlayed g.L.Office.profile l.fn.seat l.seat (map (λ line. line.items) (take l.line-index l.lines)) l.hand.hand l.text.items × (l.hand.hand.commands ≤ l.line-index) × IsInTime l.seat

@@ -1,7 +1,7 @@
 use Rattle.std.proofs.Common.{◌∙◌, sym, subst}
 use Rattle.std.specs.List.{All}
-use Rattle.paris_cuts.specs.Parts.{IsShort}
-use Rattle.paris_cuts.proofs.Shorts.{script_short, short_played}
+use Rattle.paris_parts.specs.Parts.{IsShort}
+use Rattle.paris_parts.proofs.Shorts.{script_short, short_played}
 use Rattle.paris_parts.proofs.run.run_parts.Goals as goal
 
 pub play_all-requires-clause-parts : goal.play_all-requires-clause-parts

@@ -1,5 +1,5 @@
 use Rattle.std.proofs.Common.{ℕ, List, subst, inr}
-use Rattle.paris_calls.specs.Texts.{WritesFront}
+use Rattle.paris_session.specs.Texts.{WritesFront}
 use Rattle.paris_parts.specs.Run.{ScriptRuns}
 use Rattle.paris_parts.proofs.run.run_sessions.Goals as goal
 

@@ -1,15 +1,16 @@
 use Rattle.std.proofs.Common.{◌≡◌, ◌+◌, rules, arith, ap, ◌∙◌, refl, length, take, ◌≤◌}
 use Rattle.std.proofs.lemmas.Grind.{common_steps}
 use Rattle.std.proofs.lemmas.Result.{err_from_is_err_and, IfOk-weaker, IfErr-weaker, on_ok_weaker}
+use Rattle.paris_session.specs.Calls.{Marks}
 use Rattle.paris_session.specs.Transcript.{Sitting}
 use Rattle.paris_session.proofs.LineLemmas.{ended_said}
-use Rattle.paris_session.proofs.Reading.{reading_nothing, reading_kept, reading_more, stops_reading, stops_answering, stops_at_last, ends_well, answers_nothing, asked, asked_again, read_cause, long_cause, answer_cause, none_failed, ended_is, ended_still}
+use Rattle.paris_session.proofs.Reading.{reading_nothing, reading_kept, reading_more, stops_reading, stops_answering, stops_at_last, ends_well, answers_nothing, all_reads, asked, asked_again, few_reads, kept_reads, read_cause, long_cause, answer_cause, none_failed, ended_is, ended_still}
 use Rattle.paris_session.proofs.run.run_script_bounded.Goals as goal
 use Rattle.paris_session.proofs.run.run_script_bounded.Goals.{in-Bytes+in_ok-take_bytes-in-Bytes, in-Interrupted}
 
 pub loop-init : goal.loop-init
 loop-init g c =
-    let none : c.new-script.result.session.commands ≡ 0 = ap (λ (s : Sitting). s.commands) c.new-script.ensures.session in
+    let none : c.new-script.result.session.hand.commands ≡ 0 = ap (λ (s : Sitting). s.hand.commands) c.new-script.ensures.session in
     record {
       reading = reading_nothing _ _ c.new-script.result.session c.new-script.result.line.items c.new-script.ensures.session c.new-script.ensures.line;
       marks = c.requires.fresh;
@@ -96,3 +97,20 @@ returns-in-End-clause-fault g c =
 
 pub returns-clause-fault : goal.returns-clause-fault
 returns-clause-fault g c = long_cause _ _ _ c.loop.invariant.marks (search rules)
+
+pub returns-in-Failed-clause-bounded : goal.returns-in-Failed-clause-bounded
+returns-in-Failed-clause-bounded g c =
+    few_reads c.loop.tally c.read_once.new.tally c.loop.counter c.args.bound c.loop.invariant.marks (search rules) (ap (λ (m : Marks). m.reads) c.in-Failed.ensures.marks)
+
+pub returns-in_err-take_bytes-in-Bytes-clause-bounded : goal.returns-in_err-take_bytes-in-Bytes-clause-bounded
+returns-in_err-take_bytes-in-Bytes-clause-bounded g c =
+    let few = few_reads c.loop.tally c.read_once.new.tally c.loop.counter c.args.bound c.loop.invariant.marks (search rules) (ap (λ (m : Marks). m.reads) c.in-Bytes.ensures.marks) in
+    kept_reads _ _ _ few c.in_err-take_bytes-in-Bytes.ensures.reads.0
+
+pub returns-in-End-clause-bounded : goal.returns-in-End-clause-bounded
+returns-in-End-clause-bounded g c =
+    let few = few_reads c.loop.tally c.read_once.new.tally c.loop.counter c.args.bound c.loop.invariant.marks (search rules) (ap (λ (m : Marks). m.reads) c.in-End.ensures.marks) in
+    kept_reads _ _ _ few c.finish.ensures.reads.0
+
+pub returns-clause-bounded : goal.returns-clause-bounded
+returns-clause-bounded g c = all_reads _ _ _ c.loop.invariant.marks (search rules)

@@ -8,4 +8,4 @@ invariant-loop-line l =
     (goal.iterator-loop-line).can_next l.line-iterator
     × (goal.iterator-loop-line).is_finite l.line-iterator
     × (l.text.items ++ replies l.session (drop (length l.yielded) (lines l.script)) ≡ replies start (lines l.script))
-    × (l.session.commands ≤ length l.yielded)
+    × (l.session.hand.commands ≤ length l.yielded)

@@ -1,6 +1,6 @@
 use Rattle.std.proofs.Common.{sym, subst}
-use Rattle.paris_machine.specs.CutOff.{IsAtRest}
-use Rattle.paris_machine.proofs.Rests.{bring_stays}
+use Rattle.paris_events.specs.CutOff.{IsAtRest}
+use Rattle.paris_events.proofs.Rests.{bring_stays}
 use Rattle.paris_book.proofs.book.Book.bring.Goals as goal
 
 pub invariant_of-self : goal.invariant_of-self

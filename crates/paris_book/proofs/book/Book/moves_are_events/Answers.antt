@@ -1,4 +1,4 @@
-use Rattle.paris_machine.specs.Plays.{start_of}
+use Rattle.paris_events.specs.Plays.{start_of}
 use Rattle.paris_book.proofs.Playing.{moves_are_events}
 use Rattle.paris_book.proofs.book.Book.moves_are_events.Goals as goal
 

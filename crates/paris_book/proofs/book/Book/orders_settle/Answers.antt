@@ -1,8 +1,8 @@
 use Rattle.std.proofs.Common.{subst}
-use Rattle.paris_machine.specs.State.{State, IdsApart, row_ids}
-use Rattle.paris_machine.specs.CutOff.{IsAtRest}
-use Rattle.paris_machine.proofs.Ends.{ran_ends, order_left}
-use Rattle.paris_machine.proofs.Rests.{at_rest}
+use Rattle.paris_events.specs.State.{State, IdsApart, row_ids}
+use Rattle.paris_events.specs.CutOff.{IsAtRest}
+use Rattle.paris_events.proofs.Ends.{ran_ends, order_left}
+use Rattle.paris_events.proofs.Rests.{at_rest}
 use Rattle.paris_book.proofs.book.Book.orders_settle.Goals as goal
 
 pub returns-clause-settled : goal.returns-clause-settled

@@ -1,7 +1,7 @@
 use Rattle.std.proofs.Common.{◌≡◌, ◌≤◌, length, take, drop}
 use Rattle.std.specs.Prelude.{vec_capacity}
 use Rattle.std.specs.Vec.Iter.{into_iter_items}
-use Rattle.paris_machine.specs.Plays.{play_of, start_of, replies_to_moves, after_moves}
+use Rattle.paris_events.specs.Plays.{play_of, start_of, replies_to_moves, after_moves}
 use Rattle.paris_book.proofs.book.Book.play.Given as goal
 
 abbrev pub invariant-loop-next : goal.invariant-loop-next

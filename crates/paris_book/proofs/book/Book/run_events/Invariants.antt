@@ -1,7 +1,7 @@
 use Rattle.std.proofs.Common.{◌≡◌, ◌≤◌, length, take, drop}
 use Rattle.std.specs.Prelude.{vec_capacity}
 use Rattle.std.specs.Vec.Iter.{into_iter_items}
-use Rattle.paris_machine.specs.Events.{replies_to, after_all}
+use Rattle.paris_events.specs.Events.{replies_to, after_all}
 use Rattle.paris_book.proofs.book.Book.run_events.Given as goal
 
 abbrev pub invariant-loop-event : goal.invariant-loop-event

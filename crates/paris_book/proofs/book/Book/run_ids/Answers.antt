@@ -1,7 +1,7 @@
 use Rattle.std.proofs.Common.{◌∙◌, ap}
 use Rattle.std.specs.Option.{option_map}
 use Rattle.paris_exec.specs.Tasks.{Task}
-use Rattle.paris_machine.specs.Orders.{take_reply}
+use Rattle.paris_events.specs.Orders.{take_reply}
 use Rattle.paris_book.proofs.RanIds.{ran_one}
 use Rattle.paris_book.proofs.book.Book.run_ids.Goals as goal
 

@@ -1,6 +1,6 @@
 -- So many orders were run, and the room has the ids of their rows.
 use Rattle.std.proofs.Common.{◌≡◌, length}
-use Rattle.paris_machine.specs.Settling.{ran_orders}
+use Rattle.paris_events.specs.Settling.{ran_orders}
 use Rattle.paris_book.specs.RanIds.{ran_ids}
 use Rattle.paris_book.specs.Unsettled.{filled}
 use Rattle.paris_book.proofs.book.Book.run_ids.Given as goal

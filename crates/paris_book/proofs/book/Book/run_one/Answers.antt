@@ -1,6 +1,6 @@
 use Rattle.std.proofs.Common.{sym, subst}
 use Rattle.std.specs.Prelude.{Result, Ok, Err, OnOk, OnErr}
-use Rattle.paris_machine.specs.CutOff.{IsAtRest}
+use Rattle.paris_events.specs.CutOff.{IsAtRest}
 use Rattle.paris_book.proofs.ReadyRuns.{run_stays}
 use Rattle.paris_book.proofs.book.Book.run_one.Goals as goal
 

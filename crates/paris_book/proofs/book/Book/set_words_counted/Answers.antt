@@ -1,9 +1,9 @@
 use Rattle.std.proofs.Common.{sym, subst}
 use Rattle.std.specs.Prelude.{Result, Ok, Err, OnOk, IfErr}
-use Rattle.paris_events.specs.declared.edits.Edit.TheVariants.{Input}
-use Rattle.paris_machine.specs.CutOff.{IsAtRest}
-use Rattle.paris_machine.specs.Edits.{edited_by}
-use Rattle.paris_machine.proofs.Rests.{off_off}
+use Rattle.paris_edits.specs.declared.edits.Edit.TheVariants.{Input}
+use Rattle.paris_events.specs.CutOff.{IsAtRest}
+use Rattle.paris_events.specs.Edits.{edited_by}
+use Rattle.paris_events.proofs.Rests.{off_off}
 use Rattle.paris_book.proofs.book.Book.set_words_counted.Goals as goal
 
 either_way : {T E : Type 0} (r : Result T E) (P : Type 0) (Q : E → Type 0) (R : Type 0) → (P → R) → ((e : E) → Q e → R) → OnOk r P → IfErr r Q → R

@@ -1,10 +1,10 @@
-use Rattle.std.proofs.Common.{arith, inl, sym, ap, ◌∙◌, subst}
-use Rattle.paris_machine.specs.Orders.{IsIdle, after_release}
-use Rattle.paris_machine.specs.State.{State}
-use Rattle.paris_machine.specs.CutOff.{IsAtRest}
-use Rattle.paris_machine.specs.Settling.{due}
-use Rattle.paris_machine.proofs.Ends.{idle_recalled}
-use Rattle.paris_book.proofs.Endings.{all_rest, all_count, all_are_settled, all_ran, end_rests, end_due, end_rows, end_same, end_stay, end_ran}
+use Rattle.std.proofs.Common.{arith, sym, ap, ◌∙◌, subst}
+use Rattle.paris_events.specs.Orders.{IsIdle, after_release}
+use Rattle.paris_events.specs.State.{State}
+use Rattle.paris_events.specs.CutOff.{IsAtRest}
+use Rattle.paris_events.specs.Settling.{due}
+use Rattle.paris_events.proofs.Ends.{idle_recalled}
+use Rattle.paris_book.proofs.Endings.{all_rest, all_count, all_are_settled, all_ran, end_rests, end_ran, end_stopped}
 use Rattle.paris_book.proofs.Settled.{released}
 use Rattle.paris_book.proofs.book.Book.settle.Goals as goal
 
@@ -26,23 +26,11 @@ returns-in-Ok-clause-settled c = all_are_settled c.args.self.now c.release.new.s
 pub returns-in-Ok-clause-ran : goal.returns-in-Ok-clause-ran
 returns-in-Ok-clause-ran c = all_ran c.args.self.now c.release.new.self c.run_in_order.new.self c.in-Ok.ran (subst IsAtRest c.self.view_is c.self.invariant) (c.release.ensures ∙ ap after_release c.self.view_is) c.in-Ok.ensures.advances c.in-Ok.ensures.settled c.in-Ok.ensures.state
 
-pub returns-in-Err-clause-stopped : goal.returns-in-Err-clause-stopped
-returns-in-Err-clause-stopped c = inl (end_ran c.args.self.now c.release.new.self c.run_in_order.new.self c.in-Err.fault.ran (subst IsAtRest c.self.view_is c.self.invariant) (c.release.ensures ∙ ap after_release c.self.view_is) c.in-Err.ensures.advances c.cut_off.new.self c.cut_off.ensures c.in-Err.ensures.state)
+pub returns-in-Err-clause-ran : goal.returns-in-Err-clause-ran
+returns-in-Err-clause-ran c = end_ran c.args.self.now c.release.new.self c.run_in_order.new.self c.in-Err.fault.ran (subst IsAtRest c.self.view_is c.self.invariant) (c.release.ensures ∙ ap after_release c.self.view_is) c.in-Err.ensures.advances c.cut_off.new.self c.cut_off.ensures c.in-Err.ensures.state
 
-pub returns-in-Err-clause-fewer : goal.returns-in-Err-clause-fewer
-returns-in-Err-clause-fewer c =
+pub returns-in-Err-clause-stopped : goal.returns-in-Err-clause-stopped
+returns-in-Err-clause-stopped c =
     let fewer = c.in-Err.ensures.fewer in
     let same = ap due c.release.ensures ∙ (released c.self.inside.loose c.self.invariant).due ∙ ap due c.self.view_is in
-    omega (arith, fewer, same)
-
-pub returns-in-Err-clause-left : goal.returns-in-Err-clause-left
-returns-in-Err-clause-left c = end_due c.args.self.now c.release.new.self c.run_in_order.new.self c.in-Err.fault.ran (subst IsAtRest c.self.view_is c.self.invariant) (c.release.ensures ∙ ap after_release c.self.view_is) c.in-Err.ensures.advances c.cut_off.new.self c.cut_off.ensures
-
-pub returns-in-Err-clause-rows : goal.returns-in-Err-clause-rows
-returns-in-Err-clause-rows c = end_rows c.args.self.now c.release.new.self c.run_in_order.new.self c.in-Err.fault.ran (subst IsAtRest c.self.view_is c.self.invariant) (c.release.ensures ∙ ap after_release c.self.view_is) c.in-Err.ensures.advances c.cut_off.new.self c.cut_off.ensures
-
-pub returns-in-Err-clause-same : goal.returns-in-Err-clause-same
-returns-in-Err-clause-same c = end_same c.args.self.now c.release.new.self c.run_in_order.new.self c.in-Err.fault.ran (subst IsAtRest c.self.view_is c.self.invariant) (c.release.ensures ∙ ap after_release c.self.view_is) c.in-Err.ensures.advances c.cut_off.new.self c.cut_off.ensures
-
-pub returns-in-Err-clause-stay : goal.returns-in-Err-clause-stay
-returns-in-Err-clause-stay c = end_stay c.args.self.now c.release.new.self c.run_in_order.new.self c.in-Err.fault.ran (subst IsAtRest c.self.view_is c.self.invariant) (c.release.ensures ∙ ap after_release c.self.view_is) c.in-Err.ensures.advances c.cut_off.new.self c.cut_off.ensures
+    end_stopped c.args.self.now c.release.new.self c.run_in_order.new.self c.in-Err.fault.ran (subst IsAtRest c.self.view_is c.self.invariant) (c.release.ensures ∙ ap after_release c.self.view_is) c.in-Err.ensures.advances c.cut_off.new.self c.cut_off.ensures (omega (arith, fewer, same))

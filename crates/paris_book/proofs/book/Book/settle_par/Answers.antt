@@ -1,9 +1,9 @@
 use Rattle.std.proofs.Common.{sym, ap, ◌∙◌, subst}
-use Rattle.paris_machine.specs.Orders.{IsIdle, after_release}
-use Rattle.paris_machine.specs.State.{State}
-use Rattle.paris_machine.specs.CutOff.{IsAtRest}
-use Rattle.paris_machine.proofs.Ends.{idle_recalled}
-use Rattle.paris_book.proofs.Endings.{all_rest, all_count, all_are_settled, end_rests, end_due, end_due_none, end_rows, end_same, end_stay, end_fewer, end_runs, end_out}
+use Rattle.paris_events.specs.Orders.{IsIdle, after_release}
+use Rattle.paris_events.specs.State.{State}
+use Rattle.paris_events.specs.CutOff.{IsAtRest}
+use Rattle.paris_events.proofs.Ends.{idle_recalled}
+use Rattle.paris_book.proofs.Endings.{all_rest, all_count, all_are_settled, end_rests, end_due_none, end_fewer, end_stopped}
 use Rattle.paris_book.proofs.book.Book.settle_par.Goals as goal
 
 pub run_all-requires-clause-idle : goal.run_all-requires-clause-idle
@@ -30,23 +30,9 @@ returns-in-Ok-clause-count g c = all_count c.args.self.now c.release.new.self c.
 pub returns-in-Ok-clause-settled : goal.returns-in-Ok-clause-settled
 returns-in-Ok-clause-settled g c = all_are_settled c.args.self.now c.release.new.self c.run_all.new.self c.in-Ok.ran (subst IsAtRest c.self.view_is c.self.invariant) (c.release.ensures ∙ ap after_release c.self.view_is) c.in-Ok.ensures.advances c.in-Ok.ensures.ok
 
-pub returns-else-unsettled_count-eq0-clause-same : goal.returns-else-unsettled_count-eq0-clause-same
-returns-else-unsettled_count-eq0-clause-same g c = end_same c.args.self.now c.release.new.self c.run_all.new.self c.in-Err.fault.ran (subst IsAtRest c.self.view_is c.self.invariant) (c.release.ensures ∙ ap after_release c.self.view_is) c.in-Err.ensures.advances c.cut_off.new.self c.cut_off.ensures
-
-pub returns-else-unsettled_count-eq0-clause-stay : goal.returns-else-unsettled_count-eq0-clause-stay
-returns-else-unsettled_count-eq0-clause-stay g c = end_stay c.args.self.now c.release.new.self c.run_all.new.self c.in-Err.fault.ran (subst IsAtRest c.self.view_is c.self.invariant) (c.release.ensures ∙ ap after_release c.self.view_is) c.in-Err.ensures.advances c.cut_off.new.self c.cut_off.ensures
-
-pub returns-else-unsettled_count-eq0-clause-left : goal.returns-else-unsettled_count-eq0-clause-left
-returns-else-unsettled_count-eq0-clause-left g c = end_due c.args.self.now c.release.new.self c.run_all.new.self c.in-Err.fault.ran (subst IsAtRest c.self.view_is c.self.invariant) (c.release.ensures ∙ ap after_release c.self.view_is) c.in-Err.ensures.advances c.cut_off.new.self c.cut_off.ensures
-
-pub returns-else-unsettled_count-eq0-clause-rows : goal.returns-else-unsettled_count-eq0-clause-rows
-returns-else-unsettled_count-eq0-clause-rows g c = end_rows c.args.self.now c.release.new.self c.run_all.new.self c.in-Err.fault.ran (subst IsAtRest c.self.view_is c.self.invariant) (c.release.ensures ∙ ap after_release c.self.view_is) c.in-Err.ensures.advances c.cut_off.new.self c.cut_off.ensures
-
-pub returns-else-unsettled_count-eq0-clause-fewer : goal.returns-else-unsettled_count-eq0-clause-fewer
-returns-else-unsettled_count-eq0-clause-fewer g c = end_fewer c.args.self.now c.release.new.self c.run_all.new.self c.in-Err.fault.ran (subst IsAtRest c.self.view_is c.self.invariant) (c.release.ensures ∙ ap after_release c.self.view_is) c.in-Err.ensures.advances c.cut_off.new.self c.cut_off.ensures (λ none. c.if-unsettled_count-eq0.false (c.unsettled_count.ensures ∙ none))
-
-pub returns-else-unsettled_count-eq0-clause-runs : goal.returns-else-unsettled_count-eq0-clause-runs
-returns-else-unsettled_count-eq0-clause-runs g c = end_runs c.args.self.now c.release.new.self c.run_all.new.self c.in-Err.fault.ran (subst IsAtRest c.self.view_is c.self.invariant) (c.release.ensures ∙ ap after_release c.self.view_is) c.in-Err.ensures.advances c.cut_off.new.self c.cut_off.ensures
-
-pub returns-else-unsettled_count-eq0-clause-out : goal.returns-else-unsettled_count-eq0-clause-out
-returns-else-unsettled_count-eq0-clause-out g c = end_out c.args.self.now c.release.new.self c.run_all.new.self c.in-Err.fault.ran (subst IsAtRest c.self.view_is c.self.invariant) (c.release.ensures ∙ ap after_release c.self.view_is) c.in-Err.ensures.advances c.cut_off.new.self c.cut_off.ensures
+pub returns-else-unsettled_count-eq0-clause-stopped : goal.returns-else-unsettled_count-eq0-clause-stopped
+returns-else-unsettled_count-eq0-clause-stopped g c =
+    let rests = subst IsAtRest c.self.view_is c.self.invariant in
+    let release = c.release.ensures ∙ ap after_release c.self.view_is in
+    let fewer = end_fewer c.args.self.now c.release.new.self c.run_all.new.self c.in-Err.fault.ran rests release c.in-Err.ensures.advances c.cut_off.new.self c.cut_off.ensures (λ none. c.if-unsettled_count-eq0.false (c.unsettled_count.ensures ∙ none)) in
+    end_stopped c.args.self.now c.release.new.self c.run_all.new.self c.in-Err.fault.ran rests release c.in-Err.ensures.advances c.cut_off.new.self c.cut_off.ensures fewer

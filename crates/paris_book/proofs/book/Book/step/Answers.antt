@@ -1,6 +1,6 @@
 use Rattle.std.proofs.Common.{ap, refl, sym, ◌∙◌}
-use Rattle.paris_machine.specs.Events.{reply_to}
-use Rattle.paris_machine.specs.declared.events.Reply.TheVariants.{Bring}
+use Rattle.paris_events.specs.Events.{reply_to}
+use Rattle.paris_events.specs.declared.events.Reply.TheVariants.{Bring}
 use Rattle.paris_book.proofs.book.Book.step.Goals as goal
 
 pub returns-in-Bring-clause-reply : goal.returns-in-Bring-clause-reply

@@ -1,5 +1,5 @@
 use Rattle.std.proofs.Common.{sym, ap, ◌∙◌}
-use Rattle.paris_machine.specs.Edits.{edit_fault, after_edit_by}
+use Rattle.paris_events.specs.Edits.{edit_fault, after_edit_by}
 use Rattle.paris_book.proofs.DueFaults.{no_fault_due, fault_due}
 use Rattle.paris_book.proofs.book.Book.step_edit.Goals as goal
 

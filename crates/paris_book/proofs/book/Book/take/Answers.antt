@@ -1,7 +1,7 @@
 use Rattle.std.proofs.Common.{sym, subst}
 use Rattle.std.specs.Prelude.{Result, Ok, Err, OnOk, OnErr}
-use Rattle.paris_machine.specs.CutOff.{IsAtRest}
-use Rattle.paris_machine.proofs.Rests.{take_stays}
+use Rattle.paris_events.specs.CutOff.{IsAtRest}
+use Rattle.paris_events.proofs.Rests.{take_stays}
 use Rattle.paris_book.proofs.book.Book.take.Goals as goal
 
 either_way : {T E : Type 0} (r : Result T E) (P Q R : Type 0) → (P → R) → (Q → R) → OnOk r P → OnErr r Q → R

@@ -3,10 +3,10 @@ use Rattle.std.proofs.Math.Path.{ap₂}
 use Rattle.std.specs.Option.{unwrap_or}
 use Rattle.paris_geometry.specs.Geometry.{processor_count}
 use Rattle.paris_board.specs.Board.{Board, axes_of, with_field}
-use Rattle.paris_machine.specs.State.{State, declared_input}
-use Rattle.paris_machine.specs.CutOff.{IsAtRest}
-use Rattle.paris_machine.specs.Edits.{field_added}
-use Rattle.paris_machine.specs.declared.inputs.Input.{Input}
+use Rattle.paris_events.specs.State.{State, declared_input}
+use Rattle.paris_events.specs.CutOff.{IsAtRest}
+use Rattle.paris_events.specs.Edits.{field_added}
+use Rattle.paris_events.specs.declared.inputs.Input.{Input}
 use Rattle.paris_book.specs.Among.{inputs_of}
 use Rattle.paris_names.specs.declared.faults.Fault.TheVariants.{NoSet}
 use Rattle.paris_board.specs.Board.{set_named, field_fault}

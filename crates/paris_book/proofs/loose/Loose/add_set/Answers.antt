@@ -3,10 +3,10 @@ use Rattle.std.proofs.Math.Path.{ap₂}
 use Rattle.std.specs.Option.{option_or}
 use Rattle.paris_geometry.specs.Geometry.{processor_count}
 use Rattle.paris_board.specs.Board.{Board, with_set}
-use Rattle.paris_machine.specs.State.{State, declared_flags}
-use Rattle.paris_machine.specs.CutOff.{IsAtRest}
-use Rattle.paris_machine.specs.Edits.{set_added}
-use Rattle.paris_machine.specs.declared.inputs.FlagInputs.{FlagInputs}
+use Rattle.paris_events.specs.State.{State, declared_flags}
+use Rattle.paris_events.specs.CutOff.{IsAtRest}
+use Rattle.paris_events.specs.Edits.{set_added}
+use Rattle.paris_events.specs.declared.inputs.FlagInputs.{FlagInputs}
 use Rattle.paris_book.specs.Among.{inputs_of}
 use Rattle.paris_names.specs.declared.faults.Fault.TheVariants.{BadAxes}
 use Rattle.paris_board.specs.Board.{set_fault}
@@ -14,7 +14,7 @@ use Rattle.paris_geometry.specs.Geometry.{is_geometry}
 use Rattle.paris_book.proofs.Inserts.{state_of}
 use Rattle.paris_book.proofs.Declares.{set_whole, set_view, set_enough}
 use Rattle.paris_book.proofs.Calls.{few_edits}
-use Rattle.paris_machine.specs.declared.inputs.FlagInputs.{FlagInputs}
+use Rattle.paris_events.specs.declared.inputs.FlagInputs.{FlagInputs}
 use Rattle.paris_book.proofs.loose.Loose.add_set.Goals as goal
 
 pub invariant_of-self-2 : goal.invariant_of-self-2

@@ -4,8 +4,8 @@ use Rattle.std.specs.Prelude.{not}
 use Rattle.paris_names.specs.declared.ids.RowId.{RowId}
 use Rattle.paris_exec.specs.Tasks.{Task}
 use Rattle.paris_book.specs.Entries.{Entry}
-use Rattle.paris_events.specs.declared.verdicts.Verdict.TheVariants.{Kept}
-use Rattle.paris_machine.specs.CutOff.{cut_off}
+use Rattle.paris_edits.specs.declared.verdicts.Verdict.TheVariants.{Kept}
+use Rattle.paris_events.specs.CutOff.{cut_off}
 use Rattle.paris_book.specs.Among.{inputs_of}
 use Rattle.paris_book.proofs.Inserts.{state_of}
 use Rattle.paris_book.proofs.Settling.{bring_whole}

@@ -1,5 +1,5 @@
 use Rattle.std.proofs.Common.{sym, ◌∙◌}
-use Rattle.paris_machine.specs.State.{find_row}
+use Rattle.paris_events.specs.State.{find_row}
 use Rattle.paris_book.specs.Among.{inputs_of}
 use Rattle.paris_book.proofs.TouchedEdits.{found_is, one_found, one_none}
 use Rattle.paris_book.proofs.loose.Loose.cut_row.Goals as goal

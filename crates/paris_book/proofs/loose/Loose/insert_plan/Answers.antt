@@ -4,8 +4,8 @@ use Rattle.paris_depends.proofs.FewKeys.{writes-few}
 use Rattle.paris_depends.specs.Sweeps.{touched}
 use Rattle.paris_model.specs.Instructions.{writes}
 use Rattle.paris_instr.specs.Resolve.{IsFittedTo}
-use Rattle.paris_machine.specs.State.{State}
-use Rattle.paris_machine.specs.CutOff.{IsAtRest}
+use Rattle.paris_events.specs.State.{State}
+use Rattle.paris_events.specs.CutOff.{IsAtRest}
 use Rattle.paris_names.specs.declared.ids.RowId.{RowId}
 use Rattle.paris_program.specs.Program.{AreOwn}
 use Rattle.paris_book.specs.Entries.{Entry, machine_row}

@@ -1,7 +1,7 @@
 use Rattle.std.proofs.Common.{◌≡◌, List, Some, ap, sym, ◌∙◌, slice_get}
 use Rattle.std.specs.Prelude.{false, not}
-use Rattle.paris_events.specs.Rows.{is_settled}
-use Rattle.paris_machine.specs.State.{State}
+use Rattle.paris_edits.specs.Rows.{is_settled}
+use Rattle.paris_events.specs.State.{State}
 use Rattle.paris_book.specs.Steps.{settled_on}
 use Rattle.paris_book.proofs.Finds.{row_at}
 use Rattle.std.proofs.Math.Path.{ap₂}

@@ -3,8 +3,8 @@ use Rattle.std.specs.Prelude.{ℕ, Ok, Some, None, Option}
 use Rattle.std.specs.Option.{option_map}
 use Rattle.paris_names.specs.declared.ids.RowId.{RowId}
 use Rattle.paris_board.specs.Board.{key_named}
-use Rattle.paris_machine.specs.State.{State}
-use Rattle.paris_machine.specs.Show.{origin_at}
+use Rattle.paris_events.specs.State.{State}
+use Rattle.paris_events.specs.Show.{origin_at}
 use Rattle.paris_book.proofs.Among.{origin_among}
 use Rattle.paris_book.specs.Entries.{Entry, machine_row}
 use Rattle.paris_book.specs.Origins.{origin_key, origin_from}

@@ -1,7 +1,7 @@
 use Rattle.std.proofs.Common.{rules, refl, subst}
 use Rattle.std.specs.Prelude.{IsSome}
 use Rattle.std.proofs.lemmas.Option.{slice_get_within}
-use Rattle.paris_machine.specs.Orders.{take_reply}
+use Rattle.paris_events.specs.Orders.{take_reply}
 use Rattle.paris_book.specs.Among.{inputs_of}
 use Rattle.paris_book.proofs.Takes.{next_found, ready_own, none_order, take_order}
 use Rattle.paris_book.proofs.loose.Loose.peek.Goals as goal

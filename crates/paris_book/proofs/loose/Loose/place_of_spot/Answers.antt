@@ -2,7 +2,7 @@ use Rattle.std.proofs.Common.{◌≡◌, Some, sym, subst}
 use Rattle.std.specs.Prelude.{IfOk}
 use Rattle.paris_program.specs.Program.{place_of}
 use Rattle.paris_book.specs.Among.{inputs_of}
-use Rattle.paris_machine.specs.State.{place_of_spot}
+use Rattle.paris_events.specs.State.{place_of_spot}
 use Rattle.paris_book.proofs.Calls.{spot_is, spot_none}
 use Rattle.paris_book.proofs.loose.Loose.place_of_spot.Goals as goal
 

@@ -3,10 +3,10 @@ use Rattle.std.proofs.Math.Path.{ap₂}
 use Rattle.std.specs.List.{IsDistinct}
 use Rattle.std.specs.Option.{IfSome, IsSome}
 use Rattle.paris_names.specs.Keys.{has_key}
-use Rattle.paris_machine.specs.State.{Inputs, State, input_of, start_world, with_input}
-use Rattle.paris_machine.specs.CutOff.{IsAtRest}
-use Rattle.paris_machine.specs.Edits.{input_changed, input_set}
-use Rattle.paris_machine.specs.declared.inputs.Input.{Input}
+use Rattle.paris_events.specs.State.{Inputs, State, input_of, start_world, with_input}
+use Rattle.paris_events.specs.CutOff.{IsAtRest}
+use Rattle.paris_events.specs.Edits.{input_changed, input_set}
+use Rattle.paris_events.specs.declared.inputs.Input.{Input}
 use Rattle.paris_names.specs.declared.ids.RowId.{RowId}
 use Rattle.paris_program.specs.Program.{AreOwn, ids_of}
 use Rattle.paris_book.specs.Entries.{Entry, machine_row}

@@ -1,5 +1,5 @@
 use Rattle.std.proofs.Common.{◌≡◌, ◌∙◌, ap, length}
-use Rattle.paris_machine.specs.CutOff.{cut_off}
+use Rattle.paris_events.specs.CutOff.{cut_off}
 use Rattle.paris_book.specs.Marks.{ids_in}
 use Rattle.paris_book.specs.Touched.{cut_listed}
 use Rattle.paris_book.proofs.MostRead.{reads_rise, touched_behind}

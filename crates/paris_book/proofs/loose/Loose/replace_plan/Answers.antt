@@ -6,9 +6,9 @@ use Rattle.paris_names.specs.declared.ids.RowId.{RowId}
 use Rattle.paris_program.specs.Program.{AreOwn, place_in, place_of, with_row}
 use Rattle.paris_book.specs.Entries.{Entry, machine_row}
 use Rattle.paris_book.specs.TouchedIds.{touched_ids}
-use Rattle.paris_machine.specs.State.{State, find_row}
-use Rattle.paris_machine.specs.CutOff.{IsAtRest}
-use Rattle.paris_machine.specs.Edits.{replaced_from}
+use Rattle.paris_events.specs.State.{State, find_row}
+use Rattle.paris_events.specs.CutOff.{IsAtRest}
+use Rattle.paris_events.specs.Edits.{replaced_from}
 use Rattle.paris_book.specs.Among.{inputs_of}
 use Rattle.paris_book.specs.Marks.{is_among, data_plan, replaced_data, writes_either, unsettled_by_ids, ids_in}
 use Rattle.paris_book.proofs.Swept.{swept_entries}

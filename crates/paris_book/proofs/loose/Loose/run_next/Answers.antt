@@ -1,9 +1,9 @@
 use Rattle.std.proofs.Common.{◌≡◌, ◌∙◌, cond, false, true, ap, sym, subst}
 use Rattle.std.specs.Prelude.{is_some, slice_get}
-use Rattle.paris_machine.specs.State.{State}
+use Rattle.paris_events.specs.State.{State}
 use Rattle.paris_book.proofs.Finds.{row_at}
 use Rattle.paris_book.proofs.Takes.{next_found, ready_unsettled}
-use Rattle.paris_machine.specs.CutOff.{cut_off}
+use Rattle.paris_events.specs.CutOff.{cut_off}
 use Rattle.paris_book.specs.Among.{inputs_of}
 use Rattle.paris_book.specs.Steps.{WasSettled, run_at, settled_on}
 use Rattle.paris_book.proofs.ReadyRuns.{gives_own, gives_some, own_settles, own_run, none_runs, ready_at, none_ready_at}

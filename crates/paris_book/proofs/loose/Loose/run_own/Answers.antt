@@ -3,8 +3,8 @@ use Rattle.std.proofs.Math.Path.{ap₂}
 use Rattle.std.specs.Prelude.{is_some, not, Option, IfSome}
 use Rattle.paris_model.specs.Instructions.{reads}
 use Rattle.paris_exec.specs.Tasks.{Task}
-use Rattle.paris_events.specs.Rows.{is_settled}
-use Rattle.paris_machine.specs.State.{State}
+use Rattle.paris_edits.specs.Rows.{is_settled}
+use Rattle.paris_events.specs.State.{State}
 use Rattle.paris_book.specs.Among.{inputs_of}
 use Rattle.paris_book.specs.Entries.{Entry, machine_row}
 use Rattle.paris_book.specs.Sources.{AreSources}

@@ -1,7 +1,7 @@
 use Rattle.std.proofs.Common.{List, ap, rules, refl, ◌∙◌, subst}
 use Rattle.std.proofs.Math.Path.{ap₂}
 use Rattle.std.specs.Prelude.{not, IsSome}
-use Rattle.paris_machine.specs.Orders.{take_reply}
+use Rattle.paris_events.specs.Orders.{take_reply}
 use Rattle.paris_book.specs.Entries.{Entry}
 use Rattle.paris_book.specs.Among.{inputs_of}
 use Rattle.std.proofs.lemmas.Option.{slice_get_within}

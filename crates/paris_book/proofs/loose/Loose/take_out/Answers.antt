@@ -3,9 +3,9 @@ use Rattle.paris_names.specs.Keys.{has_key}
 use Rattle.paris_model.specs.Instructions.{writes}
 use Rattle.paris_depends.proofs.FewKeys.{writes-few}
 use Rattle.paris_depends.specs.Sweeps.{touched}
-use Rattle.paris_machine.specs.State.{State, find_row}
-use Rattle.paris_machine.specs.CutOff.{IsAtRest}
-use Rattle.paris_machine.specs.Edits.{delete_fault, deleted_from}
+use Rattle.paris_events.specs.State.{State, find_row}
+use Rattle.paris_events.specs.CutOff.{IsAtRest}
+use Rattle.paris_events.specs.Edits.{delete_fault, deleted_from}
 use Rattle.paris_names.specs.declared.ids.RowId.{RowId}
 use Rattle.paris_program.specs.Program.{AreOwn, place_in}
 use Rattle.paris_book.specs.Entries.{Entry, machine_row}

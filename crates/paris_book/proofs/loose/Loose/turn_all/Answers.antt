@@ -5,6 +5,7 @@ use Rattle.paris_book.specs.RanIds.{id_ordered, turned_ids}
 use Rattle.paris_book.specs.Steps.{turn_order}
 use Rattle.paris_book.proofs.RanIds.{ids_last, turn_told}
 use Rattle.paris_book.proofs.Advancing.{turn_advances, advances_more}
+use Rattle.paris_book.proofs.Stopping.{one_turned, stops_at}
 use Rattle.paris_book.proofs.Wanting.{turned_last}
 use Rattle.paris_book.proofs.loose.Loose.turn_all.Goals as goal
 
@@ -31,4 +32,9 @@ loop-place-preserved c =
       filled = told.0;
       left = told.1;
       some = told.2;
+      turned = one_turned c.args.places.items c.loop-place.left.items c.pop.new.self.items c.in-Some.place c.args.self.now c.loop-place.self ids.turned c.in-Some.ensures.items c.turn_at.new.self c.in-Ok.ensures.state;
     }
+
+pub returns-in_default-turn_at-clause-stopped : goal.returns-in_default-turn_at-clause-stopped
+returns-in_default-turn_at-clause-stopped c =
+    stops_at c.args.places.items c.loop-place.left.items c.pop.new.self.items c.in-Some.place c.args.self.now c.loop-place.self c.loop-place.invariant.turned c.in-Some.ensures.items c.turn_at.new.self c.in_default-turn_at.ensures.err c.in_default-turn_at.ensures.left

@@ -8,7 +8,7 @@ use Rattle.paris_depends.specs.Index.{Footprint, footprint}
 use Rattle.paris_book.specs.Entries.{Entry}
 use Rattle.paris_book.specs.Marks.{data_plan}
 use Rattle.paris_book.specs.Rows.{RowData}
-use Rattle.paris_events.specs.declared.rows.Status.{Status}
+use Rattle.paris_edits.specs.declared.rows.Status.{Status}
 use Rattle.paris_book.specs.SharedIndexes.{CanAddIn, indexed_in}
 use Rattle.paris_book.proofs.Indexing.{put_others, put_plan, standing_put}
 use Rattle.paris_book.specs.Indexed.{IsHeld, is_unsettled_entry}

@@ -1,6 +1,6 @@
 use Rattle.std.proofs.Common.{ap, sym, ◌∙◌}
 use Rattle.std.specs.Prelude.{not}
-use Rattle.paris_events.specs.Rows.{is_settled}
+use Rattle.paris_edits.specs.Rows.{is_settled}
 use Rattle.paris_program.specs.Program.{id_at}
 use Rattle.paris_book.specs.Indexed.{is_unsettled_entry}
 use Rattle.paris_book.specs.Rows.{RowData}

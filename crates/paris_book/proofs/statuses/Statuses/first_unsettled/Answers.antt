@@ -1,5 +1,5 @@
 use Rattle.std.proofs.Common.{sym, ap, ◌∙◌, List}
-use Rattle.paris_events.specs.declared.rows.Status.{Status}
+use Rattle.paris_edits.specs.declared.rows.Status.{Status}
 use Rattle.paris_book.specs.Statuses.{first_unsettled}
 use Rattle.paris_book.proofs.Spans.{none_counted, none_past, skipped}
 use Rattle.paris_book.proofs.statuses.Statuses.first_unsettled.Goals as goal

@@ -1,6 +1,6 @@
 use Rattle.std.proofs.Common.{ap, ◌∙◌, []}
 use Rattle.paris_session.specs.Transcript.{start, with_book}
-use Rattle.paris_machine.specs.State.{State}
+use Rattle.paris_events.specs.State.{State}
 use Rattle.paris_session.proofs.answers.Session.with_profile.Goals as goal
 
 pub returns : goal.returns

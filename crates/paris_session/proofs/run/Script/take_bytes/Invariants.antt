@@ -13,7 +13,7 @@ invariant-loop-at g l =
       line : l.self.line.items ≡ open_line before.line.items done;
       written : Appends (g.W.Write.contents l.fn.writer) (g.W.Write.contents l.writer) (said before.session before.line.items done);
       kept : l.tally ≡ l.fn.tally;
-      count : l.self.session.commands ≤ before.session.commands + l.at;
+      count : l.self.session.hand.commands ≤ before.session.hand.commands + l.at;
     }
 
 abbrev pub decreases-loop-at : goal.decreases-loop-at

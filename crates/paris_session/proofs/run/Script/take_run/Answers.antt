@@ -1,5 +1,5 @@
 use Rattle.std.proofs.Common.{◌≡◌, ℕ, ◌+◌, ◌-◌, List, ◌++◌, length, min, take, ap, sym, ◌∙◌, arith}
-use Rattle.paris_session.specs.Transcript.{longest_line}
+use Rattle.paris_session.specs.Hands.{longest_line}
 use Rattle.paris_session.proofs.ScriptLemmas.{EndsNone, goes_on, none_ends, run_ends_none, take_least}
 use Rattle.paris_session.proofs.run.Script.take_run.Goals as goal
 

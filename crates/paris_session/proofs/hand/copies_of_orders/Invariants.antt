@@ -1,0 +1,6 @@
+-- The orders so far are copied.
+use Rattle.std.proofs.Common.{◌≡◌, take}
+use Rattle.paris_session.proofs.hand.copies_of_orders.Given as goal
+
+abbrev pub invariant-loop-order : goal.invariant-loop-order
+invariant-loop-order l = l.copies.items ≡ take l.order-index l.orders

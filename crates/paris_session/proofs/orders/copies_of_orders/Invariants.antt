@@ -1,6 +1,0 @@
--- The orders so far are copied.
-use Rattle.std.proofs.Common.{◌≡◌, take}
-use Rattle.paris_session.proofs.orders.copies_of_orders.Given as goal
-
-abbrev pub invariant-loop-order : goal.invariant-loop-order
-invariant-loop-order l = l.copies.items ≡ take l.order-index l.orders
