@@ -278,12 +278,19 @@ uint32_t paris_desk_sit(paris_desk *desk, paris_seat *seat, uint64_t *number);
 /* Answers a line of a seat, without its line feed: `set`, `field`, `input`, `insert`, `delete`, `replace`, `release`, `show` or `list`. At
    PARIS_OK it is the history's next entry, whose number is *entry, the seat keeps the reply until its next such call, and *reply is how many
    bytes that has. That a command is refused stands in the reply, and it is an entry too. A line that isn't in the grammar is answered by
-   `refused 20`, and is no entry: *entry is 0. Any other line, as `take`, `settle` or a comment, is PARIS_NO_EVENT. At a status other than
-   PARIS_OK the desk and the seat are as they were, here and in the next three calls. */
+   `refused 20`, and is no entry: *entry is 0. Any other line, as `take`, `settle` or a comment, is PARIS_NO_EVENT. An empty line and a comment
+   need no memory. At a status other than PARIS_OK the desk and the seat are as they were, here and in the next five calls. */
 uint32_t paris_desk_answer(paris_desk *desk, paris_seat *seat, const uint8_t *line, size_t len, size_t *reply, uint64_t *entry);
 
+/* Gives a key numbers from a processor on, as the line `input` of a seat does, with no text of the numbers. It is the history's next entry, and
+   its reply is kept and counted as that of a line: `ok`, or `refused` with the fault. */
+uint32_t paris_desk_set(paris_desk *desk, paris_seat *seat, const uint8_t *key, size_t key_len, uint64_t from, const uint64_t *numbers, size_t len, size_t *reply, uint64_t *entry);
+
+/* The same with numbers of two words each. */
+uint32_t paris_desk_set_wide(paris_desk *desk, paris_seat *seat, const uint8_t *key, size_t key_len, uint64_t from, const paris_wide *numbers, size_t len, size_t *reply, uint64_t *entry);
+
 /* Closes the order, and then has a seat take one for the first row that is ready, as paris_take does. It is the history's next entry. Where no
-   row is ready the call is PARIS_NOTHING, and no entry. At each status but PARIS_OK the order stays closed. */
+   row is ready the call is PARIS_NOTHING, and no entry, and needs no memory. At each status but PARIS_OK the order stays closed. */
 uint32_t paris_desk_take(paris_desk *desk, paris_seat *seat, paris_order *order, uint64_t *entry);
 
 /* Has a seat bring the result of an order, as paris_bring does, whoever took it. It is the history's next entry. */
@@ -301,9 +308,13 @@ uint32_t paris_seat_get(paris_seat *seat, const uint8_t *key, size_t key_len, ui
 
 /* Closes the order, and then opens one for the first row that is ready of those that the value of a key at a place stands on, in the book that a
    seat looks at. It is a look, and no entry: the row waits as before, may be taken too, and is settled by the first result that is brought
-   while it is as it was. At PARIS_NOTHING none of these rows is ready, as where the value is shown, or where `show` refuses. At each
-   status but PARIS_OK the order stays closed. */
+   while it is as it was. At PARIS_NOTHING none of these rows is ready, as where the value is shown. Where `show` refuses, so does this call. At
+   each status but PARIS_OK the order stays closed. */
 uint32_t paris_seat_order_for(paris_seat *seat, const uint8_t *key, size_t key_len, uint64_t place, paris_order *order);
+
+/* Closes `into`, and opens there a session with the book that a seat looks at, and with no order that a line took and no reply. So all that
+   tells of a session tells of what a seat looks at. The two share values. */
+uint32_t paris_seat_snapshot(paris_seat *seat, paris_handle *into);
 
 /* *front is the number of the last entry that a seat knows: that of its last call or, where it looked since, of the last entry then. A new
    chapter leaves it. */

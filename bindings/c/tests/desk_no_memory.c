@@ -64,7 +64,7 @@ static void look_at(state *told) {
 }
 
 /* What a step is: a line of a seat, or another call. */
-enum { LINE, OPEN, SIT, TAKE, EXECUTE, BRING, LOOK, GET, ENTRY, AUDIT, SNAPSHOT };
+enum { LINE, OPEN, SIT, SET, SET_WIDE, TAKE, EXECUTE, BRING, LOOK, GET, ORDER_FOR, ENTRY, AUDIT, SNAPSHOT, SEAT_SNAPSHOT };
 
 typedef struct step {
   int what;
@@ -81,9 +81,13 @@ static const step steps[] = {
     {LINE, 1, "field b s 8"},
     {LINE, 1, "field a s 8"},
     {LINE, 0, "input a 0 1 2 3 4"},
+    {SET, 0, ""},
+    {SET_WIDE, 1, ""},
     {LINE, 1, "insert end u-max-3-1L b a a 8"},
     {LINE, 0, "insert end"},
     {LINE, 0, "show b end"},
+    {LOOK, 1, ""},
+    {ORDER_FOR, 1, ""},
     {TAKE, 1, ""},
     {LINE, 0, "release"},
     {EXECUTE, 0, ""},
@@ -96,6 +100,7 @@ static const step steps[] = {
     {LINE, 0, "delete 1"},
     {AUDIT, 0, ""},
     {SNAPSHOT, 0, ""},
+    {SEAT_SNAPSHOT, 0, ""},
 };
 
 enum { STEP_COUNT = sizeof steps / sizeof *steps };
@@ -105,6 +110,20 @@ static uint32_t get(paris_seat *seat) {
   uint32_t status = paris_seat_get(seat, bytes("b"), 1, PARIS_END, numbers, 4, &told);
   if (status == PARIS_OK) WANT(numbers[3], 4);
   return status;
+}
+
+static uint32_t set(paris_seat *seat) {
+  const uint64_t numbers[] = {2, 3};
+  size_t len = 0;
+  uint64_t number = 0;
+  return paris_desk_set(&desk, seat, bytes("a"), 1, 1, numbers, 2, &len, &number);
+}
+
+static uint32_t set_wide(paris_seat *seat) {
+  const paris_wide numbers[] = {{4, 0}};
+  size_t len = 0;
+  uint64_t number = 0;
+  return paris_desk_set_wide(&desk, seat, bytes("a"), 1, 3, numbers, 1, &len, &number);
 }
 
 static uint32_t audit(void) {
@@ -124,14 +143,18 @@ static uint32_t do_step(const step *at) {
   case LINE: return paris_desk_answer(&desk, seat, bytes(at->line), strlen(at->line), &len, &number);
   case OPEN: return paris_desk_open(&desk, &from, 1, ENTRIES);
   case SIT: return paris_desk_sit(&desk, seat, &number);
+  case SET: return set(seat);
+  case SET_WIDE: return set_wide(seat);
   case TAKE: return paris_desk_take(&desk, seat, &order, &number);
   case EXECUTE: return paris_execute(&order);
   case BRING: return paris_desk_bring(&desk, seat, &order, &verdict, &edition, &number);
   case LOOK: return paris_desk_look(&desk, seat);
   case GET: return get(seat);
+  case ORDER_FOR: return paris_seat_order_for(seat, bytes("b"), 1, PARIS_END, &order);
   case ENTRY: return paris_desk_entry(&desk, 5, &number, &verdict, text, TEXT, &len);
   case AUDIT: return audit();
-  default: return paris_desk_snapshot(&desk, &copy);
+  case SNAPSHOT: return paris_desk_snapshot(&desk, &copy);
+  default: return paris_seat_snapshot(seat, &copy);
   }
 }
 
@@ -144,8 +167,8 @@ static void want_unchanged(const step *at) {
   WANT(memcmp(&before, &after, sizeof before), 0);
   if (at->what == OPEN) WANT(desk.is_open, false);
   if (at->what == SIT) WANT(seats[at->seat].is_open, false);
-  if (at->what == TAKE) WANT(order.is_open, false);
-  if (at->what == SNAPSHOT) WANT(copy.is_open, false);
+  if (at->what == TAKE || at->what == ORDER_FOR) WANT(order.is_open, false);
+  if (at->what == SNAPSHOT || at->what == SEAT_SNAPSHOT) WANT(copy.is_open, false);
 }
 
 /* Makes all steps, and answers whether memory was refused. */
@@ -173,7 +196,7 @@ static bool play(void) {
 
 int main(void) {
   play();
-  WANT(expected.count, 13);
+  WANT(expected.count, 15);
   for (int way = 0; way < 2; way++) {
     all_from_there = way == 1;
     for (refused_from = 1; play(); refused_from++) {

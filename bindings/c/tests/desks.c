@@ -112,7 +112,8 @@ static void order_for(paris_seat *seat) {
   }
   WANT(paris_seat_order_for(seat, bytes("c"), 1, PARIS_START, &order), PARIS_NOTHING);
   WANT(order.is_open, false);
-  WANT(paris_seat_order_for(seat, bytes("d"), 1, PARIS_END, &order), PARIS_NOTHING);
+  WANT(paris_seat_order_for(seat, bytes("d"), 1, PARIS_END, &order), 7);
+  WANT(order.is_open, false);
   WANT(paris_seat_order_for(seat, bytes("!"), 1, PARIS_END, &order), PARIS_NO_KEY);
 }
 
@@ -132,12 +133,65 @@ static void look(paris_desk *desk, paris_seat *ann, paris_seat *bob) {
   WANT(get(ann, numbers, &told), PARIS_PENDING);
   WANT(front_of(ann), 12);
   order_for(ann);
+  snapshot(ann);
   /* (the other seat looks at the book as it was when it sat down, with no field yet) */
   WANT(get(bob, numbers, &told), 7);
   WANT(paris_seat_get(ann, bytes("a"), 1, PARIS_END, numbers, 3, &told), PARIS_WRONG_ROOM);
   WANT(told, 4);
   WANT(paris_seat_get(ann, bytes("d"), 1, PARIS_END, numbers, 4, &told), 7);
   WANT(paris_seat_get(ann, bytes("!"), 1, PARIS_END, numbers, 4, &told), PARIS_NO_KEY);
+}
+
+/* A session shows what a seat looks at, and goes on by itself. */
+static void snapshot(paris_seat *seat) {
+  paris_handle copy = {0};
+  paris_seat stood = {0};
+  uint64_t rows[1] = {0}, numbers[4] = {0}, told = 0, ran = 0;
+  size_t count = 0;
+  WANT(paris_seat_snapshot(seat, &copy), PARIS_OK);
+  WANT(paris_rows(&copy, rows, 1, &count), PARIS_OK);
+  WANT(rows[0], 1);
+  WANT(paris_unsettled(&copy, rows, 1, &count), PARIS_OK);
+  WANT(count, 1);
+  WANT(paris_part(&copy, bytes("a"), 1, PARIS_END, 1, numbers, 2, &told), PARIS_OK);
+  WANT(numbers[0], 2);
+  WANT(numbers[1], 3);
+  WANT(paris_settle(&copy, &ran), PARIS_OK);
+  WANT(ran, 1);
+  WANT(paris_get(&copy, bytes("c"), 1, PARIS_END, numbers, 4, &told), PARIS_OK);
+  want_numbers(numbers, 15, 22, 33, 44);
+  WANT(get(seat, numbers, &told), PARIS_PENDING);
+  WANT(paris_seat_snapshot(&stood, &copy), PARIS_CLOSED);
+  WANT(copy.is_open, false);
+}
+
+/* Numbers are given as by the line that gives them: accepted, refused by the machine, or to no key. */
+static void set(paris_desk *desk, paris_seat *seat) {
+  const uint64_t numbers[] = {7, 8}, big[] = {256};
+  const paris_wide wide[] = {{9, 0}}, bigger[] = {{0, 1}};
+  size_t len = 0;
+  uint64_t entry = 0;
+  uint8_t room[16] = {0};
+  WANT(paris_desk_set(desk, seat, bytes("b"), 1, 1, numbers, 2, &len, &entry), PARIS_OK);
+  WANT(entry, 2);
+  WANT(len, 3);
+  WANT(front_of(seat), 2);
+  WANT(paris_desk_set(desk, seat, bytes("b"), 1, 1, big, 1, &len, &entry), PARIS_OK);
+  WANT(entry, 3);
+  WANT(paris_seat_reply(seat, room, sizeof room - 1), PARIS_OK);
+  WANT(strcmp((const char *)room, "refused 9 1\n"), 0);
+  WANT(paris_desk_set_wide(desk, seat, bytes("b"), 1, 3, wide, 1, &len, &entry), PARIS_OK);
+  WANT(entry, 4);
+  WANT(paris_desk_set_wide(desk, seat, bytes("b"), 1, 3, bigger, 1, &len, &entry), PARIS_OK);
+  WANT(paris_desk_set_wide(desk, seat, bytes("d"), 1, 3, wide, 1, &len, &entry), PARIS_OK);
+  TELLS(desk, 2, 0, PARIS_EDIT, "ok\n");
+  TELLS(desk, 4, 0, PARIS_EDIT, "ok\n");
+  TELLS(desk, 5, 0, PARIS_EDIT, "refused 9 3\n");
+  TELLS(desk, 6, 0, PARIS_EDIT, "refused 7\n");
+  SAYS(desk, seat, "show b end", "values 10 7 8 9\n", 7);
+  WANT(paris_desk_set(desk, seat, bytes("!"), 1, 1, numbers, 2, &len, &entry), PARIS_NO_KEY);
+  WANT(paris_desk_set_wide(desk, seat, bytes("!"), 1, 1, wide, 1, &len, &entry), PARIS_NO_KEY);
+  WANT(front_of(seat), 7);
 }
 
 static void want_entries(paris_desk *desk) {
@@ -185,6 +239,7 @@ static void fill(paris_desk *desk, paris_seat *ann, paris_order *order) {
   WANT(paris_get(&copy, bytes("c"), 1, PARIS_END, numbers, 4, &told), PARIS_OK);
   want_numbers(numbers, 15, 22, 33, 44);
   WANT(paris_close(&copy), PARIS_OK);
+  set(desk, ann);
   WANT(paris_desk_audit(desk, &agrees), PARIS_OK);
 }
 
@@ -199,12 +254,15 @@ static void refuse(paris_desk *desk, paris_handle *from, paris_seat *ann, paris_
   bool agrees = false;
   WANT(paris_desk_open(&other, from, 8, 1), PARIS_OK);
   WANT(answer(&other, ann, "list"), PARIS_STRANGE);
+  WANT(paris_desk_set(&other, ann, bytes("b"), 1, 0, &number, 1, &len, &entry), PARIS_STRANGE);
   WANT(paris_desk_look(&other, ann), PARIS_STRANGE);
   WANT(paris_desk_bring(&other, ann, order, &verdict, &edition, &entry), PARIS_STRANGE);
   WANT(paris_desk_take(&other, ann, order, &entry), PARIS_STRANGE);
   WANT(order->is_open, false);
   WANT(answer(desk, &stood, "list"), PARIS_CLOSED);
   WANT(answer(&closed, ann, "list"), PARIS_CLOSED);
+  WANT(paris_desk_set(desk, &stood, bytes("b"), 1, 0, &number, 1, &len, &entry), PARIS_CLOSED);
+  WANT(paris_desk_set_wide(&closed, ann, bytes("b"), 1, 0, NULL, 0, &len, &entry), PARIS_CLOSED);
   WANT(paris_desk_take(&closed, ann, order, &entry), PARIS_CLOSED);
   WANT(paris_desk_bring(desk, ann, order, &verdict, &edition, &entry), PARIS_CLOSED);
   WANT(paris_desk_look(&closed, ann), PARIS_CLOSED);

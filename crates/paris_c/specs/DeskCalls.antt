@@ -1,8 +1,9 @@
 -- What a call does to a desk and to a seat, which are none where their handles are closed.
-use Rattle.std.specs.Prelude.{◌≡◌, ◌≢◌, ◌≤◌, ◌+◌, ◌-◌, ◌^◌, ℕ, false, List, [], length, Option, Some, None, Result}
+use Rattle.std.specs.Prelude.{◌≡◌, ◌≢◌, ◌≤◌, ◌+◌, ◌-◌, ◌^◌, ℕ, false, List, [], length, Option, Some, None, IsSome, Result, Ok}
 use Rattle.std.specs.Arc.{arc_value}
 use Rattle.paris_names.specs.declared.faults.Fault.{Fault}
 use Rattle.paris_names.specs.declared.names.KeyName.{KeyName}
+use Rattle.paris_edits.specs.declared.edits.Edit.TheVariants.{Input}
 use Rattle.paris_exec.specs.Tasks.{Task}
 use Rattle.paris_events.specs.State.{State}
 use Rattle.paris_events.specs.Events.{reply_to}
@@ -84,6 +85,12 @@ abbrev pub IsDeskAnswered : Option DeskContents → Option DeskContents → Opti
 IsDeskAnswered (Some desk) (Some new) (Some seat) (Some told) line number = IsLineAnswered desk new seat told (line_asks line) number
 IsDeskAnswered _ _ _ _ line number = ⊥
 
+-- a seat gave a key numbers: it answered the line that gives them
+abbrev pub IsDeskSet : Option DeskContents → Option DeskContents → Option SeatContents → Option SeatContents → Option KeyName → ℕ → List ℕ → ℕ → Type 0
+IsDeskSet (Some desk) (Some new) (Some seat) (Some told) (Some key) from numbers number =
+    IsLineAnswered desk new seat told (Call (event.Edit (Input key from numbers))) number
+IsDeskSet _ _ _ _ _ from numbers number = ⊥
+
 -- so many bytes has the reply that a seat keeps
 abbrev pub CountsSeatReply : Option SeatContents → ℕ → Type 0
 CountsSeatReply None count = ⊥
@@ -102,6 +109,11 @@ IsTakenAt _ _ _ _ _ number = ⊥
 abbrev pub HasNoneReadyAt : Option DeskContents → Type 0
 HasNoneReadyAt None = ⊥
 HasNoneReadyAt (Some desk) = take_reply (present desk.ledger) ≡ None
+
+-- a row is ready
+abbrev pub HasReadyAt : Option DeskContents → Type 0
+HasReadyAt None = ⊥
+HasReadyAt (Some desk) = IsSome (take_reply (present desk.ledger))
 
 -- a seat brought the result of a task
 abbrev pub IsBroughtAt : Option DeskContents → Option DeskContents → Option SeatContents → Option SeatContents → Option Task → ℕ → Type 0
@@ -136,6 +148,11 @@ state_looked s (Some key) place = Some (show_reply s key (spot_of place))
 abbrev pub seat_looked : Option SeatContents → Option KeyName → ℕ → Option (Result Shown Fault)
 seat_looked None key place = None
 seat_looked (Some seat) key place = state_looked (arc_value seat.still) key place
+
+-- a look is answered by no fault
+abbrev pub IsNoRefusal : Option (Result Shown Fault) → Type 0
+IsNoRefusal (Some (Ok shown)) = Unit {0}
+IsNoRefusal _ = ⊥
 
 -- the order for the first ready row of those that a value stands on in a state, where the word is a key
 abbrev pub state_order_for : State → Option KeyName → ℕ → Option Task
@@ -197,3 +214,8 @@ IsCut _ _ entries = ⊥
 abbrev pub IsDeskSnapshot : Option DeskContents → Option Contents → Type 0
 IsDeskSnapshot (Some desk) (Some new) = (new.session ≡ with_book start (present desk.ledger) []) × (new.reply.items ≡ [])
 IsDeskSnapshot _ _ = ⊥
+
+-- a session was opened with the book that a seat looks at, and with no order and no reply
+abbrev pub IsSeatSnapshot : Option SeatContents → Option Contents → Type 0
+IsSeatSnapshot (Some seat) (Some new) = (new.session ≡ with_book start (arc_value seat.still) []) × (new.reply.items ≡ [])
+IsSeatSnapshot _ _ = ⊥

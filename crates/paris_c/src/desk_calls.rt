@@ -1,11 +1,14 @@
 //! The calls from C of a desk: a session's book with the history of its seats. The caller orders the calls of a desk, as by a mutex.
 
-ghost use Rattle.std.specs.Prelude.{◌≡◌, ◌≢◌, ◌⊎◌, None, true};
-ghost use Rattle.paris_c.specs.DeskCalls.{CountsSeatReply, HasEditionAt, HasEntry, HasNoEntry, HasNoneReadyAt, HasVerdictAt, IsBroughtAt, IsCut, IsDeskAnswered, IsDeskSnapshot, IsHistoryFull, IsLooked, IsOpened, IsSeated, IsSpent, IsStrange, IsTakenAt};
+ghost use Rattle.std.specs.Prelude.{◌≡◌, ◌≢◌, ◌⊎◌, None, false, true};
+ghost use Rattle.paris_session.specs.Hands.{is_skipped};
+ghost use Rattle.paris_text.specs.Words.{key_word};
+ghost use Rattle.paris_c.specs.Calls.{wide_numbers};
+ghost use Rattle.paris_c.specs.DeskCalls.{CountsSeatReply, HasEditionAt, HasEntry, HasNoEntry, HasNoneReadyAt, HasReadyAt, HasVerdictAt, IsBroughtAt, IsCut, IsDeskAnswered, IsDeskSet, IsDeskSnapshot, IsHistoryFull, IsLooked, IsOpened, IsSeated, IsSpent, IsStrange, IsTakenAt};
 ghost use Rattle.paris_c.specs.DeskLines.{line_asks};
 ghost use Rattle.paris_c.specs.OrderCalls.{result_in};
 ghost use Rattle.paris_c.specs.declared.desk_lines.LineAsks.TheVariants as LineCase;
-ghost use Rattle.paris_c.specs.declared.statuses.TheConstants.{OK, NO_MEMORY, CLOSED, FULL, NO_ENTRY, TOO_MANY, NOTHING, NOT_RUN, NO_EVENT, STRANGE};
+ghost use Rattle.paris_c.specs.declared.statuses.TheConstants.{OK, NO_MEMORY, CLOSED, FULL, NO_ENTRY, TOO_MANY, NOTHING, NOT_RUN, NO_EVENT, NO_KEY, STRANGE};
 
 use crate::desk_handle::DeskHandle;
 use crate::handle::Handle;
@@ -14,6 +17,7 @@ use crate::order_state::OrderState;
 use crate::seat_handle::SeatHandle;
 use crate::seating::DeskContents;
 use crate::statuses::{CLOSED, NO_MEMORY, OK};
+use crate::wide::Wide;
 use std::alloc::Global;
 
 /// Drops what a desk's handle holds, and opens a desk in it whose history begins, empty, at the state of a session.
@@ -95,6 +99,7 @@ pub extern "C" fn paris_desk_answer(
     ensures strange { result ≡ STRANGE → IsStrange desk.old.kept.value seat.old.kept.value }
     ensures no_event { result ≡ NO_EVENT → line_asks line.now ≡ LineCase.NoEvent }
     ensures full { result ≡ FULL → IsHistoryFull desk.old.kept.value }
+    ensures memory { result ≡ NO_MEMORY → is_skipped line.now ≡ false }
     ensures closed { (desk.old.kept.value ≡ None) ⊎ (seat.old.kept.value ≡ None) → result ≡ CLOSED }
     ensures was_closed { result ≡ CLOSED → (desk.old.kept.value ≡ None) ⊎ (seat.old.kept.value ≡ None) }
     ensures status { (result ≡ OK) ⊎ ((result ≡ CLOSED) ⊎ ((result ≡ NO_MEMORY) ⊎ ((result ≡ FULL) ⊎ ((result ≡ NO_EVENT) ⊎ (result ≡ STRANGE))))) }
@@ -113,6 +118,80 @@ pub extern "C" fn paris_desk_answer(
     status
 }
 
+/// Gives the key that a word names numbers from a processor on, a word a number, which a seat does. It answers the line that gives them.
+#[unsafe(no_mangle)]
+pub extern "C" fn paris_desk_set(
+    alloc: Global,
+    desk: &mut DeskHandle,
+    seat: &mut SeatHandle,
+    key: &[u8],
+    from: u64,
+    words: &[u64],
+    reply: &mut usize,
+    entry: &mut u64,
+) -> u32
+    ensures set { result ≡ OK → IsDeskSet desk.old.kept.value desk.new.kept.value seat.old.kept.value seat.new.kept.value (key_word key.now) from words.now entry.new }
+    ensures len { result ≡ OK → CountsSeatReply seat.new.kept.value reply.new }
+    ensures kept { result ≢ OK → (desk.new.kept.value ≡ desk.old.kept.value) × (seat.new.kept.value ≡ seat.old.kept.value) }
+    ensures strange { result ≡ STRANGE → IsStrange desk.old.kept.value seat.old.kept.value }
+    ensures key { result ≡ NO_KEY → key_word key.now ≡ None }
+    ensures full { result ≡ FULL → IsHistoryFull desk.old.kept.value }
+    ensures memory { result ≡ NO_MEMORY → key_word key.now ≢ None }
+    ensures closed { (desk.old.kept.value ≡ None) ⊎ (seat.old.kept.value ≡ None) → result ≡ CLOSED }
+    ensures was_closed { result ≡ CLOSED → (desk.old.kept.value ≡ None) ⊎ (seat.old.kept.value ≡ None) }
+    ensures status { (result ≡ OK) ⊎ ((result ≡ CLOSED) ⊎ ((result ≡ NO_MEMORY) ⊎ ((result ≡ FULL) ⊎ ((result ≡ NO_KEY) ⊎ (result ≡ STRANGE))))) }
+{
+    let Some(mut sitting) = seat.take(alloc) else {
+        return CLOSED;
+    };
+    let Some(mut at) = desk.take(alloc) else {
+        seat.put(sitting);
+        return CLOSED;
+    };
+    let status = at.set(alloc, &mut sitting, key, from, words, entry);
+    *reply = sitting.reply.len();
+    desk.put(at);
+    seat.put(sitting);
+    status
+}
+
+/// Gives the key that a word names numbers from a processor on, two words a number, which a seat does. It answers the line that gives them.
+#[unsafe(no_mangle)]
+pub extern "C" fn paris_desk_set_wide(
+    alloc: Global,
+    desk: &mut DeskHandle,
+    seat: &mut SeatHandle,
+    key: &[u8],
+    from: u64,
+    given: &[Wide],
+    reply: &mut usize,
+    entry: &mut u64,
+) -> u32
+    ensures set { result ≡ OK → IsDeskSet desk.old.kept.value desk.new.kept.value seat.old.kept.value seat.new.kept.value (key_word key.now) from (wide_numbers given.now) entry.new }
+    ensures len { result ≡ OK → CountsSeatReply seat.new.kept.value reply.new }
+    ensures kept { result ≢ OK → (desk.new.kept.value ≡ desk.old.kept.value) × (seat.new.kept.value ≡ seat.old.kept.value) }
+    ensures strange { result ≡ STRANGE → IsStrange desk.old.kept.value seat.old.kept.value }
+    ensures key { result ≡ NO_KEY → key_word key.now ≡ None }
+    ensures full { result ≡ FULL → IsHistoryFull desk.old.kept.value }
+    ensures memory { result ≡ NO_MEMORY → key_word key.now ≢ None }
+    ensures closed { (desk.old.kept.value ≡ None) ⊎ (seat.old.kept.value ≡ None) → result ≡ CLOSED }
+    ensures was_closed { result ≡ CLOSED → (desk.old.kept.value ≡ None) ⊎ (seat.old.kept.value ≡ None) }
+    ensures status { (result ≡ OK) ⊎ ((result ≡ CLOSED) ⊎ ((result ≡ NO_MEMORY) ⊎ ((result ≡ FULL) ⊎ ((result ≡ NO_KEY) ⊎ (result ≡ STRANGE))))) }
+{
+    let Some(mut sitting) = seat.take(alloc) else {
+        return CLOSED;
+    };
+    let Some(mut at) = desk.take(alloc) else {
+        seat.put(sitting);
+        return CLOSED;
+    };
+    let status = at.set_wide(alloc, &mut sitting, key, from, given, entry);
+    *reply = sitting.reply.len();
+    desk.put(at);
+    seat.put(sitting);
+    status
+}
+
 /// Drops what an order's handle holds, and puts an order for the first ready row into it, which a seat takes.
 #[unsafe(no_mangle)]
 pub extern "C" fn paris_desk_take(
@@ -124,6 +203,7 @@ pub extern "C" fn paris_desk_take(
 ) -> u32
     ensures taken { result ≡ OK → IsTakenAt desk.old.kept.value desk.new.kept.value seat.old.kept.value seat.new.kept.value order.new.kept.value entry.new }
     ensures nothing { result ≡ NOTHING → HasNoneReadyAt desk.old.kept.value }
+    ensures memory { result ≡ NO_MEMORY → HasReadyAt desk.old.kept.value }
     ensures kept { result ≢ OK → (desk.new.kept.value ≡ desk.old.kept.value) × (seat.new.kept.value ≡ seat.old.kept.value) }
     ensures dropped { result ≢ OK → order.new.kept.value ≡ None }
     ensures strange { result ≡ STRANGE → IsStrange desk.old.kept.value seat.old.kept.value }
@@ -142,9 +222,10 @@ pub extern "C" fn paris_desk_take(
     };
     // The box comes first, so that no order is lost for want of one.
     let Ok(mut state) = Box::new(alloc, OrderState::Nothing) else {
+        let status = at.without_box(&sitting);
         desk.put(at);
         seat.put(sitting);
-        return NO_MEMORY;
+        return status;
     };
     let status = at.take(&mut sitting, &mut state, entry);
     desk.put(at);
@@ -172,6 +253,7 @@ pub extern "C" fn paris_desk_bring(
     ensures order { order.new.kept.value ≡ order.old.kept.value }
     ensures kept { result ≢ OK → (desk.new.kept.value ≡ desk.old.kept.value) × (seat.new.kept.value ≡ seat.old.kept.value) }
     ensures not_run { result ≡ NOT_RUN → result_in order.old.kept.value ≡ None }
+    ensures memory { result ≡ NO_MEMORY → result_in order.old.kept.value ≢ None }
     ensures strange { result ≡ STRANGE → IsStrange desk.old.kept.value seat.old.kept.value }
     ensures full { result ≡ FULL → IsHistoryFull desk.old.kept.value }
     ensures closed { (order.old.kept.value ≡ None) ⊎ ((desk.old.kept.value ≡ None) ⊎ (seat.old.kept.value ≡ None)) → result ≡ CLOSED }
@@ -239,6 +321,7 @@ pub extern "C" fn paris_desk_entry(
 ) -> u32
     ensures told { result ≡ OK → HasEntry desk.old.kept.value entry seat.new kind.new room.old room.new reply.new }
     ensures no_entry { result ≡ NO_ENTRY → HasNoEntry desk.old.kept.value entry }
+    ensures memory { result ≡ NO_MEMORY → HasNoEntry desk.old.kept.value entry → ⊥ }
     ensures room { result ≢ OK → room.new ≡ room.old }
     ensures kept { desk.new.kept.value ≡ desk.old.kept.value }
     ensures closed { desk.old.kept.value ≡ None → result ≡ CLOSED }

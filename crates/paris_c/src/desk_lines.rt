@@ -1,9 +1,9 @@
 //! What a line is at a desk, and the texts of replies there.
 
-ghost use Rattle.std.specs.Prelude.{◌≡◌, false, true, IfOk};
+ghost use Rattle.std.specs.Prelude.{◌≡◌, false, true, IfOk, OnErr};
 ghost use Rattle.paris_events.specs.Events.{reply_to};
 ghost use Rattle.paris_events.specs.declared.events.Event.TheVariants as EventCase;
-ghost use Rattle.paris_session.specs.Hands.{empty_hand, is_look, HasPlace};
+ghost use Rattle.paris_session.specs.Hands.{empty_hand, is_look, is_skipped, HasPlace};
 ghost use Rattle.paris_c.specs.DeskLines.{asks_of, event_asks, fault_asks, line_asks, reply_text};
 
 use paris_book::Book;
@@ -56,9 +56,10 @@ fn asks_of(asked: Asked) -> LineAsks
     }
 }
 
-/// What a line is at a desk. The error says that memory was refused.
+/// What a line is at a desk. The error says that memory was refused, which an empty line and a comment don't need.
 pub(crate) fn line_asks(alloc: Global, line: &[u8]) -> Result<LineAsks, AllocError>
-    ensures { IfOk result (λ asks. asks ≡ line_asks line.now) }
+    ensures ok { IfOk result (λ asks. asks ≡ line_asks line.now) }
+    ensures needed { OnErr result (is_skipped line.now ≡ false) }
 {
     let hand = Hand::new(alloc, false);
     match hand.asked(false, line)? {

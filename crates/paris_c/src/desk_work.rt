@@ -1,26 +1,35 @@
 //! What a call does with a desk and a seat, once their handles are open.
 
-ghost use Rattle.std.specs.Prelude.{◌≡◌, ◌≢◌, ◌⊎◌, Some, None, false, IfOk, IfErr};
-ghost use Rattle.paris_c.specs.DeskCalls.{kind_number, HasEditionAt, HasEntry, HasNoEntry, HasNoneReadyAt, HasVerdictAt, IsBroughtAt, IsCut, IsDeskAnswered, IsDeskSnapshot, IsHistoryFull, IsLineAnswered, IsLineRefused, IsLooked, IsOpened, IsSeated, IsSpent, IsStrange, IsTakenAt};
+ghost use Rattle.std.specs.Prelude.{◌≡◌, ◌≢◌, ◌⊎◌, [], Some, None, false, IfOk, IfErr, OnOk};
+ghost use Rattle.paris_session.specs.Hands.{is_skipped};
+ghost use Rattle.paris_session.specs.Transcript.{start, with_book};
+ghost use Rattle.paris_text.specs.Words.{key_word};
+ghost use Rattle.paris_c.specs.Calls.{wide_numbers};
+ghost use Rattle.paris_c.specs.DeskCalls.{kind_number, HasEditionAt, HasEntry, HasNoEntry, HasNoneReadyAt, HasReadyAt, HasVerdictAt, IsBroughtAt, IsCut, IsDeskAnswered, IsDeskSet, IsDeskSnapshot, IsHistoryFull, IsLineAnswered, IsLineRefused, IsLooked, IsOpened, IsSeated, IsSpent, IsStrange, IsTakenAt};
 ghost use Rattle.paris_c.specs.DeskLines.{line_asks};
 ghost use Rattle.paris_c.specs.OrderCalls.{is_spent, result_in};
 ghost use Rattle.paris_c.specs.declared.desk_lines.LineAsks.TheVariants as LineCase;
-ghost use Rattle.paris_c.specs.declared.statuses.TheConstants.{OK, NO_MEMORY, FULL, NO_ENTRY, TOO_MANY, NOTHING, NOT_RUN, NO_EVENT, STRANGE};
+ghost use Rattle.paris_c.specs.declared.statuses.TheConstants.{OK, NO_MEMORY, FULL, NO_ENTRY, TOO_MANY, NOTHING, NOT_RUN, NO_EVENT, NO_KEY, STRANGE};
 
 use crate::contents::Contents;
 use crate::desk_lines::{LineAsks, line_asks, look_text, text_of, told_text};
+use crate::inputs::list_of;
 use crate::order_state::OrderState;
 use crate::rooms::fill;
 use crate::running::tell_verdict;
 use crate::seating::{DeskContents, SeatContents};
 use crate::statuses::{
-    BRING, EDIT, FULL, LIST, NO_ENTRY, NO_EVENT, NO_MEMORY, NOT_RUN, NOTHING, OK, RELEASE, SHOW,
-    STRANGE, TAKE, TOO_MANY,
+    BRING, EDIT, FULL, LIST, NO_ENTRY, NO_EVENT, NO_KEY, NO_MEMORY, NOT_RUN, NOTHING, OK, RELEASE,
+    SHOW, STRANGE, TAKE, TOO_MANY,
 };
+use crate::wide::{self, Wide};
+use paris_book::Book;
+use paris_edits::Edit;
 use paris_events::{Event, Reply};
 use paris_ledger::Ledger;
-use paris_names::Fault;
+use paris_names::{Fault, Items, KeyName};
 use paris_session::{Hand, Session};
+use paris_text::key_of_word;
 use std::alloc::{AllocError, Global};
 
 /// An event by the number of its kind.
@@ -34,6 +43,19 @@ fn kind_of(event: &Event) -> u32
         Event::Release => RELEASE,
         Event::Show(_, _) => SHOW,
         Event::List => LIST,
+    }
+}
+
+/// A session with a book, in a box, with no order and no reply.
+pub(crate) fn session_of(alloc: Global, book: &Book) -> Result<Box<Contents>, AllocError>
+    ensures { IfOk result (λ copy. (copy.value.session ≡ with_book start book.now []) × (copy.value.reply.items ≡ [])) }
+{
+    let copy = book.snapshot()?;
+    let session = Session::of_book(alloc, copy);
+    let reply = Vec::new(alloc);
+    match Box::new(alloc, Contents { session, reply }) {
+        Ok(contents) => Ok(contents),
+        Err(_) => Err(AllocError),
     }
 }
 
@@ -153,6 +175,7 @@ impl DeskContents {
         ensures strange { result ≡ STRANGE → IsStrange (Some self.old) (Some seat.old) }
         ensures no_event { result ≡ NO_EVENT → line_asks line.now ≡ LineCase.NoEvent }
         ensures full { result ≡ FULL → IsHistoryFull (Some self.old) }
+        ensures memory { result ≡ NO_MEMORY → is_skipped line.now ≡ false }
         ensures status { (result ≡ OK) ⊎ ((result ≡ NO_MEMORY) ⊎ ((result ≡ FULL) ⊎ ((result ≡ NO_EVENT) ⊎ (result ≡ STRANGE)))) }
     {
         if seat.desk != self.name {
@@ -166,6 +189,107 @@ impl DeskContents {
         }
     }
 
+    /// The key of a word, for a seat of this desk, or the status that says why there is none.
+    fn key_for(&self, seat: &SeatContents, key: &[u8]) -> Result<KeyName, u32>
+        ensures key { IfOk result (λ name. key_word key.now ≡ Some name) }
+        ensures own { OnOk result (seat.now.desk ≡ self.now.name) }
+        ensures strange { IfErr result (λ status. status ≡ STRANGE → IsStrange (Some self.now) (Some seat.now)) }
+        ensures no_key { IfErr result (λ status. status ≡ NO_KEY → key_word key.now ≡ None) }
+        ensures status { IfErr result (λ status. (status ≡ STRANGE) ⊎ (status ≡ NO_KEY)) }
+    {
+        if seat.desk != self.name {
+            return Err(STRANGE);
+        }
+        match key_of_word(key) {
+            Some(name) => Ok(name),
+            None => Err(NO_KEY),
+        }
+    }
+
+    /// Gives a seat's key numbers from a processor on, a word a number.
+    pub(crate) fn set(
+        &mut self,
+        alloc: Global,
+        seat: &mut SeatContents,
+        key: &[u8],
+        from: u64,
+        words: &[u64],
+        entry: &mut u64,
+    ) -> u32
+        ensures set { result ≡ OK → IsDeskSet (Some self.old) (Some self.new) (Some seat.old) (Some seat.new) (key_word key.now) from words.now entry.new }
+        ensures kept { result ≢ OK → (self.new ≡ self.old) × (seat.new ≡ seat.old) }
+        ensures strange { result ≡ STRANGE → IsStrange (Some self.old) (Some seat.old) }
+        ensures key { result ≡ NO_KEY → key_word key.now ≡ None }
+        ensures full { result ≡ FULL → IsHistoryFull (Some self.old) }
+        ensures memory { result ≡ NO_MEMORY → key_word key.now ≢ None }
+        ensures status { (result ≡ OK) ⊎ ((result ≡ NO_MEMORY) ⊎ ((result ≡ FULL) ⊎ ((result ≡ NO_KEY) ⊎ (result ≡ STRANGE)))) }
+    {
+        let key = match self.key_for(seat, key) {
+            Ok(key) => key,
+            Err(status) => return status,
+        };
+        let Ok(numbers) = list_of(alloc, words) else {
+            return NO_MEMORY;
+        };
+        let values = Items::new(numbers);
+        self.answer_call(
+            alloc,
+            seat,
+            Event::Edit(Edit::Input { key, from, values }),
+            entry,
+        )
+    }
+
+    /// Gives a seat's key numbers from a processor on, two words a number.
+    pub(crate) fn set_wide(
+        &mut self,
+        alloc: Global,
+        seat: &mut SeatContents,
+        key: &[u8],
+        from: u64,
+        given: &[Wide],
+        entry: &mut u64,
+    ) -> u32
+        ensures set { result ≡ OK → IsDeskSet (Some self.old) (Some self.new) (Some seat.old) (Some seat.new) (key_word key.now) from (wide_numbers given.now) entry.new }
+        ensures kept { result ≢ OK → (self.new ≡ self.old) × (seat.new ≡ seat.old) }
+        ensures strange { result ≡ STRANGE → IsStrange (Some self.old) (Some seat.old) }
+        ensures key { result ≡ NO_KEY → key_word key.now ≡ None }
+        ensures full { result ≡ FULL → IsHistoryFull (Some self.old) }
+        ensures memory { result ≡ NO_MEMORY → key_word key.now ≢ None }
+        ensures status { (result ≡ OK) ⊎ ((result ≡ NO_MEMORY) ⊎ ((result ≡ FULL) ⊎ ((result ≡ NO_KEY) ⊎ (result ≡ STRANGE)))) }
+    {
+        let key = match self.key_for(seat, key) {
+            Ok(key) => key,
+            Err(status) => return status,
+        };
+        let Ok(numbers) = wide::numbers_of(alloc, given) else {
+            return NO_MEMORY;
+        };
+        let values = Items::new(numbers);
+        self.answer_call(
+            alloc,
+            seat,
+            Event::Edit(Edit::Input { key, from, values }),
+            entry,
+        )
+    }
+
+    /// What is answered where memory for the box of an order was refused: that, or what comes before it.
+    pub(crate) fn without_box(&self, seat: &SeatContents) -> u32
+        ensures nothing { result ≡ NOTHING → HasNoneReadyAt (Some self.now) }
+        ensures memory { result ≡ NO_MEMORY → HasReadyAt (Some self.now) }
+        ensures strange { result ≡ STRANGE → IsStrange (Some self.now) (Some seat.now) }
+        ensures status { (result ≡ NO_MEMORY) ⊎ ((result ≡ NOTHING) ⊎ (result ≡ STRANGE)) }
+    {
+        if seat.desk != self.name {
+            STRANGE
+        } else if self.ledger.book().has_ready() {
+            NO_MEMORY
+        } else {
+            NOTHING
+        }
+    }
+
     /// Takes an order for the first ready row, and puts it into its state.
     pub(crate) fn take(
         &mut self,
@@ -176,6 +300,7 @@ impl DeskContents {
         ensures taken { result ≡ OK → IsTakenAt (Some self.old) (Some self.new) (Some seat.old) (Some seat.new) (Some state.new) entry.new }
         ensures whole { result ≡ OK → is_spent state.new ≡ false }
         ensures nothing { result ≡ NOTHING → HasNoneReadyAt (Some self.old) }
+        ensures memory { result ≡ NO_MEMORY → HasReadyAt (Some self.old) }
         ensures kept { result ≢ OK → (self.new ≡ self.old) × (seat.new ≡ seat.old) }
         ensures strange { result ≡ STRANGE → IsStrange (Some self.old) (Some seat.old) }
         ensures full { result ≡ FULL → IsHistoryFull (Some self.old) }
@@ -213,6 +338,7 @@ impl DeskContents {
         ensures verdict { result ≡ OK → HasVerdictAt (Some self.old) (result_in (Some state.now)) verdict.new }
         ensures edition { result ≡ OK → HasEditionAt (Some self.old) (result_in (Some state.now)) edition.new }
         ensures not_run { result ≡ NOT_RUN → result_in (Some state.now) ≡ None }
+        ensures memory { result ≡ NO_MEMORY → result_in (Some state.now) ≢ None }
         ensures kept { result ≢ OK → (self.new ≡ self.old) × (seat.new ≡ seat.old) }
         ensures strange { result ≡ STRANGE → IsStrange (Some self.old) (Some seat.old) }
         ensures full { result ≡ FULL → IsHistoryFull (Some self.old) }
@@ -272,6 +398,7 @@ impl DeskContents {
     ) -> u32
         ensures told { result ≡ OK → HasEntry (Some self.now) number seat.new kind.new room.old room.new reply.new }
         ensures no_entry { result ≡ NO_ENTRY → HasNoEntry (Some self.now) number }
+        ensures memory { result ≡ NO_MEMORY → HasNoEntry (Some self.now) number → ⊥ }
         ensures room { result ≢ OK → room.new ≡ room.old }
         ensures status { (result ≡ OK) ⊎ ((result ≡ NO_MEMORY) ⊎ (result ≡ NO_ENTRY)) }
     {
@@ -308,12 +435,6 @@ impl DeskContents {
     pub(crate) fn snapshot(&self, alloc: Global) -> Result<Box<Contents>, AllocError>
         ensures { IfOk result (λ copy. IsDeskSnapshot (Some self.now) (Some copy.value)) }
     {
-        let book = self.ledger.book().snapshot()?;
-        let session = Session::of_book(alloc, book);
-        let reply = Vec::new(alloc);
-        match Box::new(alloc, Contents { session, reply }) {
-            Ok(copy) => Ok(copy),
-            Err(_) => Err(AllocError),
-        }
+        session_of(alloc, self.ledger.book())
     }
 }

@@ -1,6 +1,6 @@
 //! Input data from words.
 
-ghost use Rattle.std.specs.Prelude.{◌≡◌, ◌≢◌, ◌⊎◌, ◌≤◌, None, Some};
+ghost use Rattle.std.specs.Prelude.{◌≡◌, ◌≢◌, ◌⊎◌, ◌≤◌, None, Some, IfOk};
 ghost use Rattle.paris_text.specs.Words.{key_word};
 ghost use Rattle.paris_c.specs.Calls.{CanBeSet, IsSet, IsSetFault};
 ghost use Rattle.paris_c.specs.declared.statuses.TheConstants.{OK, NO_MEMORY, CLOSED, NO_KEY};
@@ -8,6 +8,18 @@ ghost use Rattle.paris_c.specs.declared.statuses.TheConstants.{OK, NO_MEMORY, CL
 use crate::contents::Contents;
 use crate::statuses::{self, NO_KEY, OK};
 use paris_text::key_of_word;
+use std::alloc::{AllocError, Global};
+
+/// The numbers of a list of words.
+pub(crate) fn list_of(alloc: Global, words: &[u64]) -> Result<Vec<u128>, AllocError>
+    ensures { IfOk result (λ numbers. numbers.items ≡ words.now) }
+{
+    let mut numbers = Vec::with_capacity(alloc, words.len())?;
+    for word in words {
+        numbers.push(u128::from(*word))?;
+    }
+    Ok(numbers)
+}
 
 impl Contents {
     /// Gives the key that a word names numbers from a processor on.

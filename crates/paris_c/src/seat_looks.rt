@@ -1,12 +1,14 @@
 //! The calls from C of a seat alone. They need no desk, and no lock.
 
-ghost use Rattle.std.specs.Prelude.{◌≡◌, ◌≢◌, ◌⊎◌, ◌≤◌, None, Some, false, length, IsSome, IfOk, IfErr};
+ghost use Rattle.std.specs.Prelude.{◌≡◌, ◌≢◌, ◌⊎◌, ◌≤◌, None, Some, false, length, IsSome, IfOk, IfErr, IfSome};
 ghost use Rattle.paris_text.specs.Words.{key_word};
 ghost use Rattle.paris_c.specs.Calls.{IsShown, ShowsNumbers, ShowsCount, ShowsPending, ShowsFault, ShowsWide};
-ghost use Rattle.paris_c.specs.DeskCalls.{seat_looked, seat_order_for, state_looked, state_order_for, HasFront, IsOrderFor, IsSeatReply};
+ghost use Rattle.paris_c.specs.DeskCalls.{seat_looked, seat_order_for, state_looked, state_order_for, HasFront, IsNoRefusal, IsOrderFor, IsSeatReply, IsSeatSnapshot};
 ghost use Rattle.paris_c.specs.OrderCalls.{is_spent};
 ghost use Rattle.paris_c.specs.declared.statuses.TheConstants.{OK, NO_MEMORY, CLOSED, NO_KEY, PENDING, WRONG_ROOM, TOO_WIDE, NOTHING};
 
+use crate::desk_work::session_of;
+use crate::handle::Handle;
 use crate::looks::{put_value, spot_at};
 use crate::order_handle::OrderHandle;
 use crate::order_state::OrderState;
@@ -95,16 +97,38 @@ pub extern "C" fn paris_seat_get(
     status
 }
 
+/// The status by which the key of a word can't be looked at, at a place of a book, if it can't.
+fn refusal_at(book: &Book, key: &[u8], place: u64) -> Option<u32>
+    ensures looked { result ≡ None → IsNoRefusal (state_looked book.now (key_word key.now) place) }
+    ensures fault { IfSome result (λ status. status ≢ NO_KEY → ShowsFault (state_looked book.now (key_word key.now) place) status) }
+    ensures memory { IfSome result (λ status. status ≢ NO_MEMORY) }
+    ensures key { IfSome result (λ status. status ≡ NO_KEY → key_word key.now ≡ None) }
+    ensures status { IfSome result (λ status. ((1 ≤ status) × (status ≤ 23)) ⊎ (status ≡ NO_KEY)) }
+{
+    let Some(key) = key_of_word(key) else {
+        return Some(NO_KEY);
+    };
+    match book.show(key, spot_at(place)) {
+        Ok(_) => None,
+        Err(fault) => Some(statuses::of_fault(fault)),
+    }
+}
+
 /// An order, in a box, for the first ready row of those that the key of a word stands on at a place of a book, or the status that says why there
 /// is none. The book is as it was, so an order that there is no box for is lost to nobody.
 fn order_from(alloc: Global, book: &Book, key: &[u8], place: u64) -> Result<Box<OrderState>, u32>
     ensures ordered { IfOk result (λ state. IsOrderFor (state_order_for book.now (key_word key.now) place) (Some state.value)) }
     ensures whole { IfOk result (λ state. is_spent state.value ≡ false) }
     ensures nothing { IfErr result (λ status. status ≡ NOTHING → state_order_for book.now (key_word key.now) place ≡ None) }
+    ensures looked { IfErr result (λ status. status ≡ NOTHING → IsNoRefusal (state_looked book.now (key_word key.now) place)) }
     ensures memory { IfErr result (λ status. status ≡ NO_MEMORY → IsSome (state_order_for book.now (key_word key.now) place)) }
+    ensures fault { IfErr result (λ status. 1 ≤ status → status ≤ 23 → status ≢ NO_MEMORY → ShowsFault (state_looked book.now (key_word key.now) place) status) }
     ensures key { IfErr result (λ status. status ≡ NO_KEY → key_word key.now ≡ None) }
-    ensures status { IfErr result (λ status. (status ≡ NO_MEMORY) ⊎ ((status ≡ NOTHING) ⊎ (status ≡ NO_KEY))) }
+    ensures status { IfErr result (λ status. ((1 ≤ status) × (status ≤ 23)) ⊎ ((status ≡ NOTHING) ⊎ (status ≡ NO_KEY))) }
 {
+    if let Some(status) = refusal_at(book, key, place) {
+        return Err(status);
+    }
     let Some(key) = key_of_word(key) else {
         return Err(NO_KEY);
     };
@@ -130,13 +154,15 @@ pub extern "C" fn paris_seat_order_for(
 ) -> u32
     ensures ordered { result ≡ OK → IsOrderFor (seat_order_for seat.old.kept.value (key_word key.now) place) order.new.kept.value }
     ensures nothing { result ≡ NOTHING → seat_order_for seat.old.kept.value (key_word key.now) place ≡ None }
+    ensures looked { result ≡ NOTHING → IsNoRefusal (seat_looked seat.old.kept.value (key_word key.now) place) }
     ensures memory { result ≡ NO_MEMORY → IsSome (seat_order_for seat.old.kept.value (key_word key.now) place) }
+    ensures fault { 1 ≤ result → result ≤ 23 → result ≢ NO_MEMORY → ShowsFault (seat_looked seat.old.kept.value (key_word key.now) place) result }
     ensures dropped { result ≢ OK → order.new.kept.value ≡ None }
     ensures kept { seat.new.kept.value ≡ seat.old.kept.value }
     ensures key { result ≡ NO_KEY → key_word key.now ≡ None }
     ensures closed { seat.old.kept.value ≡ None → result ≡ CLOSED }
     ensures was_closed { result ≡ CLOSED → seat.old.kept.value ≡ None }
-    ensures status { (result ≡ OK) ⊎ ((result ≡ CLOSED) ⊎ ((result ≡ NO_MEMORY) ⊎ ((result ≡ NOTHING) ⊎ (result ≡ NO_KEY)))) }
+    ensures status { (result ≤ 23) ⊎ ((result ≡ CLOSED) ⊎ ((result ≡ NOTHING) ⊎ (result ≡ NO_KEY))) }
 {
     drop(order.take(alloc));
     let Some(sitting) = seat.take(alloc) else {
@@ -150,6 +176,35 @@ pub extern "C" fn paris_seat_order_for(
             OK
         }
         Err(status) => status,
+    }
+}
+
+/// Drops what a session's handle holds, and opens a session in it with the book that a seat looks at.
+#[unsafe(no_mangle)]
+pub extern "C" fn paris_seat_snapshot(
+    alloc: Global,
+    seat: &mut SeatHandle,
+    into: &mut Handle,
+) -> u32
+    ensures opened { result ≡ OK → IsSeatSnapshot seat.old.kept.value into.new.kept.value }
+    ensures dropped { result ≢ OK → into.new.kept.value ≡ None }
+    ensures kept { seat.new.kept.value ≡ seat.old.kept.value }
+    ensures closed { seat.old.kept.value ≡ None → result ≡ CLOSED }
+    ensures was_closed { result ≡ CLOSED → seat.old.kept.value ≡ None }
+    ensures status { (result ≡ OK) ⊎ ((result ≡ CLOSED) ⊎ (result ≡ NO_MEMORY)) }
+{
+    drop(into.take(alloc));
+    let Some(sitting) = seat.take(alloc) else {
+        return CLOSED;
+    };
+    let copy = session_of(alloc, &sitting.still);
+    seat.put(sitting);
+    match copy {
+        Ok(copy) => {
+            into.put(copy);
+            OK
+        }
+        Err(_) => NO_MEMORY,
     }
 }
 

@@ -71,7 +71,7 @@ fn first_too_wide(width: u64, given: &[Wide]) -> Option<usize>
 }
 
 /// The numbers of a list, each of which is given in two words.
-fn numbers_of(alloc: Global, given: &[Wide]) -> Result<Vec<u128>, AllocError>
+pub(crate) fn numbers_of(alloc: Global, given: &[Wide]) -> Result<Vec<u128>, AllocError>
     ensures { IfOk result (λ numbers. numbers.items ≡ wide_numbers given.now) }
 {
     let mut numbers = Vec::with_capacity(alloc, given.len())?;
