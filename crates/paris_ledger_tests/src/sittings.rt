@@ -54,13 +54,13 @@ fn sits(
     Ok(waits(&still, b"c") && shows(ledger.book(), b"c", SUMS)? && ledger.len() == 20)
 }
 
-/// There is no entry of the number 0, and none above the last one.
+/// Of 20 entries there is none of the number 0, and none above the last one.
 fn has_no_others(ledger: &Ledger) -> bool {
-    let past = ledger.len() as u64 + 1;
     ledger.entry(0).is_none()
-        && ledger.entry(past).is_none()
+        && ledger.entry(21).is_none()
         && ledger.entry(u64::MAX).is_none()
         && ledger.entry(1).is_some()
+        && ledger.entry(20).is_some()
 }
 
 /// A new chapter begins at the present state, and is audited from there.
@@ -74,18 +74,6 @@ fn goes_on(
     let is_new = ledger.is_empty() && shows(ledger.book(), b"c", SUMS)?;
     play(rt, alloc, ledger, beside, &[(1, Says(b"show c end"))])?;
     Ok(is_new && ledger.len() == 1 && is_audited(ledger)?)
-}
-
-#[test]
-fn seats_sit_in_turn(rt: HostRuntime) -> Result<(), AllocError> {
-    let mut beside = Book::new(rt.alloc());
-    let mut ledger = Ledger::new(rt.alloc(), &beside, 20)?;
-    let is_so = sits(&rt, rt.alloc(), &mut ledger, &mut beside)?
-        && has_no_others(&ledger)
-        && is_audited(&ledger)?
-        && goes_on(&rt, rt.alloc(), &mut ledger, &mut beside)?;
-    assert!(rt; is_so);
-    Ok(())
 }
 
 /// A call past the last entry that there may be is refused, and leaves the history. A new chapter has room again.
@@ -102,19 +90,72 @@ fn fills(
     Ok(was_full && shows(ledger.book(), b"c", SUMS)? && ledger.len() == 8)
 }
 
+/// What is done at a ledger that is new.
+#[derive(Clone, Copy)]
+enum Sitting {
+    /// Two seats sit in turn. A new chapter begins behind it, and both are audited.
+    InTurn,
+    /// There may be 12 entries, and another one is tried.
+    Full,
+    /// No entry may be made.
+    NoEntry,
+}
+
+impl Sitting {
+    fn limit(self) -> u64 {
+        match self {
+            Sitting::InTurn => 20,
+            Sitting::Full => 12,
+            Sitting::NoEntry => 0,
+        }
+    }
+
+    fn is_played(
+        self,
+        rt: &impl Abort,
+        alloc: Global,
+        ledger: &mut Ledger,
+        beside: &mut Book,
+    ) -> Result<bool, AllocError> {
+        match self {
+            Sitting::InTurn => Ok(
+                sits(rt, alloc, ledger, beside)?
+                    && has_no_others(ledger)
+                    && is_audited(ledger)?
+                    && goes_on(rt, alloc, ledger, beside)?,
+            ),
+            Sitting::Full => fills(rt, alloc, ledger, beside),
+            Sitting::NoEntry => {
+                Ok(is_full(ledger, 0) && ledger.is_empty() && is_audited(ledger)?)
+            }
+        }
+    }
+}
+
+/// Whether all is as it has to be at a new ledger. (What has a ledger of its own ends at one place.)
+fn is_held(rt: &impl Abort, alloc: Global, sitting: Sitting) -> Result<bool, AllocError> {
+    let mut beside = Book::new(alloc);
+    let mut ledger = Ledger::new(alloc, &beside, sitting.limit())?;
+    sitting.is_played(rt, alloc, &mut ledger, &mut beside)
+}
+
+#[test]
+fn seats_sit_in_turn(rt: HostRuntime) -> Result<(), AllocError> {
+    let is_so = is_held(&rt, rt.alloc(), Sitting::InTurn)?;
+    assert!(rt; is_so);
+    Ok(())
+}
+
 #[test]
 fn a_history_is_full(rt: HostRuntime) -> Result<(), AllocError> {
-    let mut beside = Book::new(rt.alloc());
-    let mut ledger = Ledger::new(rt.alloc(), &beside, 12)?;
-    let is_so = fills(&rt, rt.alloc(), &mut ledger, &mut beside)?;
+    let is_so = is_held(&rt, rt.alloc(), Sitting::Full)?;
     assert!(rt; is_so);
     Ok(())
 }
 
 #[test]
 fn no_entry_may_be_made(rt: HostRuntime) -> Result<(), AllocError> {
-    let mut ledger = Ledger::new(rt.alloc(), &Book::new(rt.alloc()), 0)?;
-    let is_so = is_full(&mut ledger, 0) && ledger.is_empty() && is_audited(&ledger)?;
+    let is_so = is_held(&rt, rt.alloc(), Sitting::NoEntry)?;
     assert!(rt; is_so);
     Ok(())
 }
