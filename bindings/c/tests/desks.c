@@ -117,6 +117,29 @@ static void order_for(paris_seat *seat) {
   WANT(paris_seat_order_for(seat, bytes("!"), 1, PARIS_END, &order), PARIS_NO_KEY);
 }
 
+/* A session shows what a seat looks at, and goes on by itself. */
+static void snapshot(paris_seat *seat) {
+  paris_handle copy = {0};
+  paris_seat stood = {0};
+  uint64_t rows[1] = {0}, numbers[4] = {0}, told = 0, ran = 0;
+  size_t count = 0;
+  WANT(paris_seat_snapshot(seat, &copy), PARIS_OK);
+  WANT(paris_rows(&copy, rows, 1, &count), PARIS_OK);
+  WANT(rows[0], 1);
+  WANT(paris_unsettled(&copy, rows, 1, &count), PARIS_OK);
+  WANT(count, 1);
+  WANT(paris_part(&copy, bytes("a"), 1, PARIS_END, 1, numbers, 2, &told), PARIS_OK);
+  WANT(numbers[0], 2);
+  WANT(numbers[1], 3);
+  WANT(paris_settle(&copy, &ran), PARIS_OK);
+  WANT(ran, 1);
+  WANT(paris_get(&copy, bytes("c"), 1, PARIS_END, numbers, 4, &told), PARIS_OK);
+  want_numbers(numbers, 15, 22, 33, 44);
+  WANT(get(seat, numbers, &told), PARIS_PENDING);
+  WANT(paris_seat_snapshot(&stood, &copy), PARIS_CLOSED);
+  WANT(copy.is_open, false);
+}
+
 /* A look stays as it is until the seat looks again. */
 static void look(paris_desk *desk, paris_seat *ann, paris_seat *bob) {
   uint64_t numbers[4] = {0}, told = 0;
@@ -140,29 +163,6 @@ static void look(paris_desk *desk, paris_seat *ann, paris_seat *bob) {
   WANT(told, 4);
   WANT(paris_seat_get(ann, bytes("d"), 1, PARIS_END, numbers, 4, &told), 7);
   WANT(paris_seat_get(ann, bytes("!"), 1, PARIS_END, numbers, 4, &told), PARIS_NO_KEY);
-}
-
-/* A session shows what a seat looks at, and goes on by itself. */
-static void snapshot(paris_seat *seat) {
-  paris_handle copy = {0};
-  paris_seat stood = {0};
-  uint64_t rows[1] = {0}, numbers[4] = {0}, told = 0, ran = 0;
-  size_t count = 0;
-  WANT(paris_seat_snapshot(seat, &copy), PARIS_OK);
-  WANT(paris_rows(&copy, rows, 1, &count), PARIS_OK);
-  WANT(rows[0], 1);
-  WANT(paris_unsettled(&copy, rows, 1, &count), PARIS_OK);
-  WANT(count, 1);
-  WANT(paris_part(&copy, bytes("a"), 1, PARIS_END, 1, numbers, 2, &told), PARIS_OK);
-  WANT(numbers[0], 2);
-  WANT(numbers[1], 3);
-  WANT(paris_settle(&copy, &ran), PARIS_OK);
-  WANT(ran, 1);
-  WANT(paris_get(&copy, bytes("c"), 1, PARIS_END, numbers, 4, &told), PARIS_OK);
-  want_numbers(numbers, 15, 22, 33, 44);
-  WANT(get(seat, numbers, &told), PARIS_PENDING);
-  WANT(paris_seat_snapshot(&stood, &copy), PARIS_CLOSED);
-  WANT(copy.is_open, false);
 }
 
 /* Numbers are given as by the line that gives them: accepted, refused by the machine, or to no key. */
