@@ -3,13 +3,14 @@ use crate::sys;
 use std::error;
 use std::fmt::{self, Display, Formatter};
 
-/// Why a call didn't do what it is for. The session is as it was, where it isn't told otherwise.
+/// Why a call didn't do what it is for. The session, or the desk, is as it was, where it isn't told otherwise.
 #[derive(Clone, Copy, Debug, PartialEq, Eq, Hash)]
 #[non_exhaustive]
 pub enum Error {
     /// The call is refused by a fault of the machine.
     Fault(Fault),
-    /// The handle is closed. A session's is open as long as it lives, so no call here gives this.
+    /// The handle is closed. That of a session, a desk or a seat is open as long as it lives, so no call here
+    /// gives this.
     Closed,
     /// The word is no key.
     NoKey,
@@ -18,7 +19,8 @@ pub enum Error {
     /// The room has another length than the numbers that are to be put there, or reaches past the last of
     /// them, or they can't be cut into so many stretches. They are so many.
     WrongRoom(usize),
-    /// The script is too long, or the session has answered as many lines as it can count.
+    /// The script is too long, or the session has answered as many lines as it can count, or a desk has as
+    /// many seats, or no line has room for so many numbers.
     TooMany,
     /// A number is wider than a word.
     TooWide,
@@ -35,9 +37,9 @@ pub enum Error {
     NotRun,
     /// The two values differ in width or in the number of their processors.
     Unlike,
-    /// The line is no event of a desk. This package has no desks, so no call here gives this.
+    /// The line is no event of a desk, as `settle` or a remark.
     NoEvent,
-    /// The seat is of another desk. This package has no desks, so no call here gives this.
+    /// The seat is of another desk. A [`Seat`](crate::Seat) calls its own, so no call here gives this.
     Strange,
     /// The library answered by a status that this package doesn't know.
     Unknown(u32),

@@ -40,7 +40,7 @@ pub enum Fault {
     Overlap = 16,
     /// The count of edits is at its greatest value.
     EditionsSpent = 17,
-    /// A history has as many entries as it may have. A session has no history.
+    /// The history has as many entries as it may have. A session has no history.
     HistoryFull = 18,
     /// There is no memory left.
     NoMemory = 19,

@@ -28,27 +28,36 @@
 //! Rows can be run in threads while the session takes edits: [`Session::take`] gives an [`Order`], which is
 //! executed in any thread, and [`Session::bring`] takes its result.
 //!
+//! Several people, and workers, share a [`Desk`]: each has a [`Seat`], each call of one is an entry of the
+//! desk's history, and a [`Look`] reads with no lock.
+//!
 //! The library is that of the folder which the variable `PARIS_LIB_DIR` names as the package is
 //! built, else that of `bindings/c/out`, where `bindings/c/build` or `bindings/c/unpack` of the repository puts it.
 #![warn(missing_docs, missing_debug_implementations)]
 
+mod desk;
+mod entry;
 mod error;
 mod fault;
 mod order;
 mod place;
 mod profile;
 mod refused;
+mod seat;
 mod session;
 mod summary;
 mod sys;
 mod verdict;
 
+pub use desk::{Desk, Entries};
+pub use entry::{Entry, Kind};
 pub use error::Error;
 pub use fault::Fault;
 pub use order::{Done, Order};
 pub use place::Place;
 pub use profile::Profile;
 pub use refused::{Cause, RowFault};
+pub use seat::{Look, Seat};
 pub use session::{transcript, Session};
 pub use summary::{Sum, Summary};
 pub use verdict::Verdict;

@@ -36,7 +36,7 @@ const FEW_ROWS: usize = 32;
 /// fn is_shared<T: Sync>() {}
 /// is_shared::<paris::Session>();
 /// ```
-pub struct Session(Handle);
+pub struct Session(pub(crate) Handle);
 
 impl Session {
     /// Opens a session with nothing in it. It is in [`Profile::One`], and in [`Profile::Two`] where it
@@ -432,7 +432,7 @@ pub fn transcript(script: impl AsRef<[u8]>) -> Result<String, Error> {
 }
 
 /// Fills a room of the length that is wanted, which the call tells of an empty room.
-fn in_room<T: Clone>(
+pub(crate) fn in_room<T: Clone>(
     zero: T,
     fill: impl Fn(&mut [T]) -> Result<(), Error>,
 ) -> Result<Vec<T>, Error> {
@@ -445,6 +445,6 @@ fn in_room<T: Clone>(
     Ok(room)
 }
 
-fn text_of(reply: Vec<u8>) -> String {
+pub(crate) fn text_of(reply: Vec<u8>) -> String {
     String::from_utf8(reply).expect("replies are ASCII")
 }

@@ -11,6 +11,8 @@ use std::cell::UnsafeCell;
 use std::ffi::c_void;
 use std::ptr;
 
+pub(crate) mod desk;
+
 const OK: u32 = 0;
 pub(crate) const CLOSED: u32 = 101;
 pub(crate) const NO_KEY: u32 = 102;

@@ -1,6 +1,6 @@
 //! The numbers of this package beside those of the library's header and of the machine's faults.
 
-use paris::{Cause, Error, Fault, Verdict};
+use paris::{Cause, Error, Fault, Kind, Verdict};
 use std::collections::BTreeMap;
 
 const HEADER: &str = include_str!("../../c/paris.h");
@@ -86,6 +86,20 @@ fn verdicts_are_those_of_the_header() {
         ("FOREIGN", Verdict::Foreign.number()),
     ]);
     assert_eq!(known, declared("paris_verdict"));
+}
+
+#[test]
+fn kinds_are_those_of_the_header() {
+    let known: BTreeMap<_, _> = (0..10)
+        .filter_map(Kind::of_number)
+        .map(|kind| (kind.to_string().to_uppercase(), kind.number()))
+        .collect();
+    let declared = declared("paris_kind")
+        .into_iter()
+        .map(|(name, number)| (name.to_string(), number))
+        .collect();
+    assert_eq!(known, declared);
+    assert_eq!(known.len(), 6);
 }
 
 #[test]
