@@ -6,6 +6,7 @@ from importlib import import_module
 from types import ModuleType
 from typing import TYPE_CHECKING
 
+from pevudlo.desk import Desk, Entry, Look, Order, Seat
 from pevudlo.follow import follow
 from pevudlo.hints.explanation import Explanation, Refusal
 from pevudlo.lang.causes import RefusedRows
@@ -15,6 +16,7 @@ from pevudlo.machine import Machine, RowList
 from pevudlo.running.crew import News, Progress
 from pevudlo.values.shaped import Pending, ValueList, WrongShape, signed, unsigned
 from pevudlo.version import release
+from pevudlo.wire.desk import HistoryFull, Kind
 from pevudlo.wire.library import Library
 from pevudlo.wire.library_places import find_library
 from pevudlo.wire.pipe import Ended, OutOfTurn, Pipe, PipeError
@@ -29,12 +31,18 @@ __all__ = [
     "END",
     "START",
     "Cause",
+    "Desk",
     "Ended",
+    "Entry",
     "Explanation",
+    "HistoryFull",
+    "Kind",
     "Library",
+    "Look",
     "Machine",
     "News",
     "NotFound",
+    "Order",
     "OrderTaken",
     "OutOfTurn",
     "Pending",
@@ -47,6 +55,7 @@ __all__ = [
     "Row",
     "RowFault",
     "RowList",
+    "Seat",
     "Status",
     "ValueList",
     "Verdict",

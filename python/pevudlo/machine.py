@@ -4,7 +4,7 @@ from __future__ import annotations
 
 import os
 import warnings
-from collections.abc import Iterable, Iterator, Mapping, Sequence
+from collections.abc import Iterator, Mapping, Sequence
 from contextlib import AbstractContextManager
 from pathlib import Path
 from threading import get_ident
@@ -12,18 +12,16 @@ from types import MappingProxyType, TracebackType
 from typing import SupportsIndex, overload
 
 from pevudlo.data import data_of
-from pevudlo.draw.grids import Grid
+from pevudlo.editing import Editing
 from pevudlo.lang.board import Board, Declared
 from pevudlo.lang.causes import MOST_WARNED, RefusedRows, causes
 from pevudlo.lang.places import END, Place, spelled
 from pevudlo.lang.profiles import USUAL, check_profile
 from pevudlo.lang.replies import (
-    NoReply,
     Nothing,
     Ok,
     OrderTaken,
     Row,
-    RowAdded,
     RowFault,
     Rows,
     Status,
@@ -34,9 +32,9 @@ from pevudlo.running.crew import News, Progress
 from pevudlo.running.history import MOST_STEPS
 from pevudlo.summary import summary
 from pevudlo.talk import Talk, of_kind
-from pevudlo.values.indices import Index, first_of, places_of, shown_part, split
+from pevudlo.values.indices import Index, shown_part, split
 from pevudlo.values.notebook import rows_html
-from pevudlo.values.shaped import Pending, Shown, check_shape, flat, is_number, shaped, whole
+from pevudlo.values.shaped import Pending, Shown, shaped
 from pevudlo.wire.book import Book
 from pevudlo.wire.library_calls import place_number
 from pevudlo.wire.library_places import find_library
@@ -61,7 +59,7 @@ class RowList(tuple[Row, ...]):
         return rows_html(self, self.refused)
 
 
-class Machine:
+class Machine(Editing):
     """One run of the program. Every call is a command of scripts, and raises Refusal where the command is refused.
 
     The program is found by `find`, which raises NotFound. It settles rows in 1 to 16 workers, 2 where nothing is said;
@@ -197,26 +195,6 @@ class Machine:
             raise AttributeError("a machine over the library has no child process")
         return self._talk.peer.process
 
-    def set(self, name: str, *axes: int) -> None:
-        """Declares a set with axes of these lengths, axis 0 first: powers of two, 65,536 processors at most."""
-        self._talk.ask(f"set {name} {'x'.join(map(str, axes))}", Ok)
-
-    def field(self, name: str, of: str, width: int) -> None:
-        """Declares a field of a set, of a width in bits from 1 to 64, or to 128 in profile 2."""
-        self._talk.ask(f"field {name} {of} {width}", Ok)
-
-    def insert(self, text: str, at: Place = END) -> int:
-        """Puts a row with this instruction in a place, and gives its id."""
-        return self._talk.ask(f"insert {spelled(at)} {text}", RowAdded).row
-
-    def delete(self, row: int) -> None:
-        """Takes the row of this id out."""
-        self._talk.ask(f"delete {row}", Ok)
-
-    def replace(self, row: int, text: str) -> None:
-        """Gives the row of this id another instruction."""
-        self._talk.ask(f"replace {row} {text}", Ok)
-
     def settle(self) -> int:
         """Settles all rows, and says how many of them ran: rows that would compute the same again aren't run.
 
@@ -243,15 +221,6 @@ class Machine:
         """
         return self._talk.ask(f"bring {order.order if isinstance(order, OrderTaken) else order}", Verdict)
 
-    def release(self) -> None:
-        """Gives up all orders that are out: their rows wait again."""
-        self._talk.ask("release", Ok)
-
-    def show(self, key: str, at: Place = END) -> Shown | Pending:
-        """The numbers of a key at a place, in the shape of its set, or the row that has to be settled first."""
-        grid = self._grid(key, at)
-        return grid if isinstance(grid, Pending) else shaped(grid)
-
     def rows(self) -> RowList:
         """The rows in program order."""
         with self._talk.lock:
@@ -269,18 +238,6 @@ class Machine:
         The bad addresses of the first twelve are looked at; of others the processor alone is named.
         """
         return causes(self.faults(), self._board, self._look)
-
-    def raw(self, line: str) -> list[str]:
-        """The lines of the reply to a line of a script, as they come; a refusal is a reply here. None for a comment."""
-        return self._talk.tell_lines(line)
-
-    def tell(self, lines: Iterable[str]) -> list[int | None]:
-        """Tells lines that declare or edit, one by one. Gives the id of the row that each put in, and None of others.
-
-        Ctrl-C comes behind all of them. Raises ValueError, with nothing told, where another line is among them, and
-        Refusal at the first that is refused: those before it are told, and none behind.
-        """
-        return [reply.row if isinstance(reply, RowAdded) else None for reply in self._talk.tell_edits(lines)]
 
     @overload
     def __getitem__(self, index: str) -> Shown | Pending:
@@ -306,57 +263,6 @@ class Machine:
         if isinstance(grid, Pending):
             return grid
         return shaped(grid) if part is None else shown_part(grid, part)
-
-    def __setitem__(self, index: Index, values: object) -> None:
-        """Gives a key its input data.
-
-        `machine["a"] = values` gives a number for each processor, `machine["a", 3:] = values` gives them from a
-        processor on, and `machine["a", 3] = value` gives one. One number in the place of values is given to every
-        processor, or to each of the slice. Many numbers go in several lines, each of them an edit.
-        Where one of the lines would be refused, it is asked first, so that a refusal changes nothing.
-        Raises WrongShape where whole values don't fit the set, IndexError for a processor below 0, TypeError for
-        another index, and what `flat` raises.
-        """
-        key, part = split(index)
-        is_each = is_number(values) and not isinstance(part, int)
-        numbers, shape = flat([whole(values)] if is_each or isinstance(part, int) else values)
-        try:
-            self._talk.waiting.add(get_ident())
-            with self._talk.lock:
-                self._give(key, part, numbers, None if is_each else shape)
-        finally:
-            self._talk.waiting.discard(get_ident())
-
-    def _give(self, key: str, part: int | slice | None, numbers: Sequence[int], shape: tuple[int, ...] | None) -> None:
-        """Gives a key numbers, or a part of them, by what is declared. Without a shape it is one number for each."""
-        name, axes = self._board.set_of(key), self._board.axes_of(key)
-        processors = 0 if name is None else self._board.processors(name)
-        first = 0
-        if shape is None and not isinstance(part, int):
-            places = places_of(key, part, processors)
-            first, numbers = places.start, [*numbers] * len(places)
-        elif part is not None:
-            first = first_of(key, part, len(numbers), processors)
-        elif axes is not None and shape is not None:
-            check_shape(shape, key, axes)
-        self._data.give(key, first, numbers)
-
-    def _grid(self, key: str, at: Place) -> Grid | Pending:
-        """The numbers of a key at a place, as a grid."""
-        if not isinstance(key, str):
-            raise TypeError(f"a key is a name, and not {type(key).__name__}: machine['a'][0] is a number of a")
-        try:
-            self._talk.waiting.add(get_ident())
-            with self._talk.lock:
-                numbers = self._data.look(key, spelled(at))
-                axes, width = self._board.axes_of(key), self._board.width_of(key)
-        finally:
-            self._talk.waiting.discard(get_ident())
-        if isinstance(numbers, Pending):
-            return numbers
-        if axes is None or width is None:
-            raise NoReply(f"numbers of {key}, which isn't declared")
-        return Grid(key, axes, width, numbers, place=at.text)
 
     # While rows run. These are of machines over the library alone.
 
@@ -408,12 +314,29 @@ class Machine:
     def copy(self) -> Machine:
         """Another machine in the same state, with no orders out and no steps. They share values in memory."""
         inside = self._inside("copy")
-        machine = Machine.__new__(Machine)
-        machine.program, machine.library = None, self.library
         with self._talk.lock:
-            most_bytes = inside.history.most_bytes
-            machine._hold(inside.book.copy(), self._board.copy(), inside.workers, inside.steps, most_bytes)
+            book, board, most_bytes = inside.book.copy(), self._board.copy(), inside.history.most_bytes
+            return Machine.over(self.library, book, board, inside.workers, inside.steps, most_bytes)
+
+    @classmethod
+    def over(
+        cls,
+        library: Path | None,
+        book: Book,
+        board: Board,
+        workers: int = 1,
+        steps: int = 0,
+        undo_bytes: int | None = None,
+    ) -> Machine:
+        """A machine over a session of the library at a path, of which this board is."""
+        machine = cls.__new__(cls)
+        machine.program, machine.library = None, library
+        machine._hold(book, board, workers, steps, undo_bytes)
         return machine
+
+    def session(self, call: str) -> tuple[Book, Board]:
+        """The session of a machine over the library, and its board, for a call. Raises TypeError over a program."""
+        return self._inside(call).book, self._board
 
     def unsettled(self) -> tuple[int, ...]:
         """The ids of the rows that are unsettled, in program order."""
@@ -457,10 +380,6 @@ class Machine:
         if self._background is None:
             raise TypeError(f"`{call}` is of machines over the library alone: Machine(library=True)")
         return self._background
-
-    @property
-    def _board(self) -> Board:
-        return self._talk.board
 
     def _look(self, key: str, place: str) -> Sequence[int] | None:
         """The numbers of a key at a place as they come, or None where it is pending."""

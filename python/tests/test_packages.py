@@ -37,7 +37,9 @@ STANDS_ON = {
     "talk": "hints interrupts lang",
     "data": "lang talk values wire",
     "summary": "lang",
-    "machine": "data draw lang running summary talk values wire",
+    "editing": "data draw lang talk values",
+    "machine": "data editing lang running summary talk values wire",
+    "desk": "data draw editing hints lang machine running talk values wire",
     "explain": "arguments draw hints lang progress talk wire",
     "client": "draw hints lang values",
     "page": TALKING + " client",
@@ -53,7 +55,7 @@ STANDS_ON = {
     "help": "draw hints prompt reference wire",
     "cli": "draw hints script version",
     "__main__": "cli",
-    "": "algorithms follow hints lang machine paris running values version wire",
+    "": "algorithms desk follow hints lang machine paris running values version wire",
 }
 """Of each package, and of each module that is in none, what it imports of the others; `""` is `pevudlo/__init__.py`."""
 

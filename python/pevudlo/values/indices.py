@@ -27,6 +27,12 @@ def split(index: object) -> tuple[str, Part]:
     )
 
 
+def check_key(key: object) -> None:
+    """Raises TypeError for what is no name."""
+    if not isinstance(key, str):
+        raise TypeError(f"a key is a name, and not {type(key).__name__}: machine['a'][0] is a number of a")
+
+
 def part_of(where: object) -> Part:
     """A processor or a slice whose ends are Python's numbers."""
     if isinstance(where, slice):

@@ -49,7 +49,7 @@ def drop(close: Callable[..., int], handle: Handle, process: int) -> None:
 
 
 class Held:
-    """The handle of a session or of an order. It is closed by `close`, or where nobody holds it any more."""
+    """The handle of a session, an order, a desk or a seat: closed by `close`, or where nobody holds it any more."""
 
     def __init__(self, close: Callable[..., int]) -> None:
         self.handle = Handle()
@@ -255,6 +255,20 @@ class Library:
         if outcome != Outcome.OK:
             raise trouble(outcome)
         return count
+
+    def desk(self, name: int, limit: int) -> tuple[Calls, Held]:
+        """A desk of a name whose history begins at the present state, with so many entries at most, and its calls."""
+        held = Held(self._calls["paris_desk_close"])
+        with self.lock:
+            self._check_open()
+            try:
+                self._is_in_call = True
+                outcome = self._calls["paris_desk_open"](held.at, self._at, name, limit)
+            finally:
+                self._is_in_call = False
+        if outcome != Outcome.OK:
+            raise trouble(outcome)
+        return self._calls, held
 
     def close(self) -> int:
         """Ends the session, and gives 1 where a line was refused, else 0, as the program's exit status does."""

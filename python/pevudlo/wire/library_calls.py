@@ -44,7 +44,7 @@ class Outcome(IntEnum):
 
 
 class Handle(ctypes.Structure):
-    """What the library keeps of a session, or of an order, with its caller. All zeros is a closed one."""
+    """What the library keeps of a session, an order, a desk or a seat with its caller. All zeros is a closed one."""
 
     _fields_ = [("at", c_void_p), ("is_open", c_bool)]
 
@@ -75,6 +75,22 @@ CALLS: dict[str, tuple[Any, ...]] = {
     "paris_touched": (c_void_p, c_uint64, c_void_p, c_size_t, c_void_p, c_void_p),
     "paris_origin": (c_void_p, c_char_p, c_size_t, c_uint64, c_void_p),
     "paris_settle_for_ids": (c_void_p, c_char_p, c_size_t, c_uint64, c_void_p, c_size_t, c_void_p),
+    "paris_desk_open": (c_void_p, c_void_p, c_uint64, c_uint64),
+    "paris_desk_sit": (c_void_p, c_void_p, c_void_p),
+    "paris_desk_answer": (c_void_p, c_void_p, c_char_p, c_size_t, c_void_p, c_void_p),
+    "paris_desk_take": (c_void_p, c_void_p, c_void_p, c_void_p),
+    "paris_desk_bring": (c_void_p, c_void_p, c_void_p, c_void_p, c_void_p, c_void_p),
+    "paris_desk_look": (c_void_p, c_void_p),
+    "paris_desk_entry": (c_void_p, c_uint64, c_void_p, c_void_p, c_void_p, c_size_t, c_void_p),
+    "paris_desk_audit": (c_void_p, c_void_p),
+    "paris_desk_cut": (c_void_p, c_void_p),
+    "paris_desk_snapshot": (c_void_p, c_void_p),
+    "paris_desk_close": (c_void_p,),
+    "paris_seat_reply": (c_void_p, c_void_p, c_size_t),
+    "paris_seat_get": (c_void_p, c_char_p, c_size_t, c_uint64, c_void_p, c_size_t, c_void_p),
+    "paris_seat_order_for": (c_void_p, c_char_p, c_size_t, c_uint64, c_void_p),
+    "paris_seat_front": (c_void_p, c_void_p),
+    "paris_seat_close": (c_void_p,),
 }
 
 
