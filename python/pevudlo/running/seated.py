@@ -11,7 +11,8 @@ from typing import ClassVar, TypeVar
 
 from pevudlo.running.crew import MOST_PAUSE, PAUSE, deadline
 from pevudlo.wire.book import Slot
-from pevudlo.wire.desk import HistoryFull, OpenDesk, OpenSeat
+from pevudlo.wire.desk import HistoryFull, OpenDesk, OpenSeat, check
+from pevudlo.wire.library_calls import Outcome
 
 Given = TypeVar("Given")
 
@@ -20,8 +21,8 @@ class SeatedCrew:
     """The workers of a desk. They hold the desk, and not who began them: so that one's end can be theirs.
 
     `running` counts the orders that are out here. What a worker couldn't do is in `trouble`, and all of them end then.
-    Where the history is full, `full` says so, and they wait for a new chapter. Each order that is taken, and each
-    result that is brought, is an entry.
+    Where the history is full they wait for a new chapter. Each order that is taken, and each result that is brought, is
+    an entry.
     """
 
     _all: ClassVar[weakref.WeakSet[SeatedCrew]] = weakref.WeakSet()
@@ -30,11 +31,10 @@ class SeatedCrew:
         self.desk = desk
         self.is_over, self.running = False, 0
         self.trouble: Exception | None = None
-        self.full: HistoryFull | None = None
         # The threads that were begun, and those of them that work.
         self._threads, self._at_work = list[threading.Thread](), set[threading.Thread]()
-        # The change behind which a worker found no row that is ready.
-        self._looked_at = -1
+        # The change behind which a worker found no row that is ready, and the last chapter that one found full.
+        self._looked_at = self._full_chapter = -1
 
     def work(self, seat: OpenSeat, name: str) -> None:
         """Begins a worker of this seat, whatever one couldn't do before."""
@@ -68,9 +68,10 @@ class SeatedCrew:
     def _check(self) -> None:
         """Raises Ended where the desk is closed, and what keeps the workers."""
         self.desk.check_open()
-        trouble = self.trouble or self.full
-        if trouble is not None:
-            raise trouble
+        if self.trouble is not None:
+            raise self.trouble
+        if self._full_chapter == self.desk.chapters:
+            check(Outcome.FULL)
 
     def leave(self) -> None:
         """The workers end, each behind its row. Nobody waits for them."""
@@ -140,20 +141,18 @@ class SeatedCrew:
     def _again(self, call: Callable[[], Given]) -> Given | None:
         """What a call gives, which is made again in a new chapter where the history is full. None at the end."""
         while self._is_on:
-            chapters = self.desk.chapters
             try:
                 return call()
-            except HistoryFull as error:
-                self.full = error
-                self._wait_for_chapter(chapters)
+            except HistoryFull:
+                self._wait_for_chapter()
         return None
 
-    def _wait_for_chapter(self, chapters: int) -> None:
-        """Waits for a new chapter behind so many."""
+    def _wait_for_chapter(self) -> None:
+        """Waits for a new chapter, and tells who waits for rows that the present one is full."""
+        chapter = self._full_chapter = self.desk.chapters
         self.desk.news.notify_all()
-        while self._is_on and self.desk.chapters == chapters:
+        while self._is_on and self.desk.chapters == chapter:
             self.desk.news.wait()
-        self.full = None
 
     def _execute(self, slot: Slot) -> None:
         """Executes an order without the lock."""
