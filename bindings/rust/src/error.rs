@@ -20,7 +20,7 @@ pub enum Error {
     /// them, or they can't be cut into so many stretches. They are so many.
     WrongRoom(usize),
     /// The script is too long, or the session has answered as many lines as it can count, or a desk has as
-    /// many seats, or no line has room for so many numbers.
+    /// many seats.
     TooMany,
     /// A number is wider than a word.
     TooWide,

@@ -3,14 +3,11 @@ use crate::error::Error;
 use crate::fault::Fault;
 use crate::order::{Done, Order};
 use crate::place::Place;
-use crate::session::{in_room, text_of};
+use crate::session::{in_room, text_of, Session};
 use crate::sys::desk::{DeskHandle, SeatHandle};
 use crate::verdict::Verdict;
-use std::fmt::{self, Debug, Display, Formatter};
+use std::fmt::{self, Debug, Formatter};
 use std::sync::{Arc, Mutex};
-
-/// A line has at most so many bytes.
-const LINE_BYTES: usize = 1 << 16;
 
 /// A seat of a desk: somebody's, or a worker's. It may go to another thread, and isn't shared.
 ///
@@ -61,16 +58,12 @@ impl Seat {
     /// `settle`, `take` or a remark, is [`Error::NoEvent`].
     pub fn answer(&mut self, line: impl AsRef<[u8]>) -> Result<String, Error> {
         let len = held(&self.desk).answer(&mut self.handle, line.as_ref())?;
-        let mut reply = vec![0; len];
-        self.handle.reply(&mut reply)?;
-        Ok(text_of(reply))
+        self.reply(len)
     }
 
-    /// Gives a key numbers, from a processor on, as [`Session::set`](crate::Session::set) does. It is the
-    /// line `input`, so one entry, and one that is refused is an entry too.
-    ///
-    /// Numbers that no line has room for are [`Error::TooMany`], and are to be given in parts: a line has
-    /// 65,536 bytes, so 3,000 numbers of any size fit. Those, no numbers, and what is no key are no entries.
+    /// Gives a key numbers, from a processor on, as [`Session::set`] does: as many as it has processors, with
+    /// no text of them. It is one entry, as the line `input` is, and one that is refused is an entry too. A
+    /// word that is no key is none.
     ///
     /// ```
     /// # use paris::{Desk, Error, Fault, Session};
@@ -88,22 +81,19 @@ impl Seat {
     /// # }
     /// ```
     pub fn set(&mut self, key: impl AsRef<[u8]>, from: u64, numbers: &[u64]) -> Result<(), Error> {
-        self.give(key.as_ref(), from, numbers)
+        let len = held(&self.desk).set(&mut self.handle, key.as_ref(), from, numbers)?;
+        accepted(&self.reply(len)?)
     }
 
-    /// The same with numbers of up to 128 bits, of which 1,600 of any size fit.
+    /// The same with numbers of up to 128 bits.
     pub fn set_wide(
         &mut self,
         key: impl AsRef<[u8]>,
         from: u64,
         numbers: &[u128],
     ) -> Result<(), Error> {
-        self.give(key.as_ref(), from, numbers)
-    }
-
-    fn give<N: Display>(&mut self, key: &[u8], from: u64, numbers: &[N]) -> Result<(), Error> {
-        let line = input_line(key, from, numbers)?;
-        accepted(&self.answer(line)?)
+        let len = held(&self.desk).set_wide(&mut self.handle, key.as_ref(), from, numbers)?;
+        accepted(&self.reply(len)?)
     }
 
     /// Gives up the orders that are out: their rows are ready again. It is an entry.
@@ -159,6 +149,13 @@ impl Seat {
         Ok(Look(&self.handle))
     }
 
+    /// The reply that the seat keeps, which has so many bytes.
+    fn reply(&self, len: usize) -> Result<String, Error> {
+        let mut reply = vec![0; len];
+        self.handle.reply(&mut reply)?;
+        Ok(text_of(reply))
+    }
+
     /// As [`Look::order_for`], of the book that the seat looked at last.
     pub fn order_for(&self, key: impl AsRef<[u8]>, place: Place) -> Result<Option<Order>, Error> {
         Look(&self.handle).order_for(key, place)
@@ -178,7 +175,7 @@ pub struct Look<'seat>(&'seat SeatHandle);
 
 impl Look<'_> {
     /// The numbers that a key holds at a place. A field of more than 64 bits is [`Error::TooWide`],
-    /// whatever it holds: [`Seat::answer`] has its numbers by the line `show`.
+    /// whatever it holds: a [`snapshot`](Look::snapshot) has its numbers.
     pub fn get(&self, key: impl AsRef<[u8]>, place: Place) -> Result<Vec<u64>, Error> {
         let (key, place) = (key.as_ref(), place.number());
         in_room(0, |room| self.0.get(key, place, room))
@@ -196,10 +193,36 @@ impl Look<'_> {
 
     /// An order for the first row that is ready of those that the value of a key at a place stands on. It is
     /// no entry: the row waits as before, may be taken too, and is settled by the first result that is
-    /// brought while it is as it was. `None` where none of these rows is ready, as where the value is shown,
-    /// or where `show` refuses.
+    /// brought while it is as it was. `None` where none of these rows is ready, as where the value is shown.
+    /// Where `show` refuses, so does this.
     pub fn order_for(&self, key: impl AsRef<[u8]>, place: Place) -> Result<Option<Order>, Error> {
         Ok(self.0.order_for(key.as_ref(), place.number())?.map(Order))
+    }
+
+    /// A session with the book that the seat looks at, where rows that are out are out too. So all that a
+    /// [`Session`] tells can be asked of a look: wide numbers, parts, rows, faults, and where a value comes
+    /// from. The two share values, and what is done with the session leaves the desk as it is.
+    ///
+    /// ```
+    /// # use paris::{Desk, Place, Profile, Session};
+    /// # fn main() -> Result<(), paris::Error> {
+    /// let mut session = Session::with_profile(Profile::Two)?;
+    /// session.answer("set s 2")?;
+    /// session.answer("field a s 128")?;
+    /// session.answer("insert end lognot-2-1L a a 128")?;
+    /// let desk = Desk::open(&session)?;
+    /// let mut seat = desk.sit()?;
+    ///
+    /// let mut looked = seat.look()?.snapshot()?;
+    /// assert_eq!(looked.unsettled()?, [1]);
+    /// looked.settle()?;
+    /// assert_eq!(looked.get_wide("a", Place::End)?, [u128::MAX; 2]);
+    /// assert_eq!(desk.entries().count(), 0);
+    /// # Ok(())
+    /// # }
+    /// ```
+    pub fn snapshot(&self) -> Result<Session, Error> {
+        self.0.snapshot().map(Session)
     }
 }
 
@@ -209,32 +232,14 @@ impl Debug for Look<'_> {
     }
 }
 
-/// The line that gives a key numbers.
-fn input_line<N: Display>(key: &[u8], from: u64, numbers: &[N]) -> Result<Vec<u8>, Error> {
-    if !key.iter().all(u8::is_ascii_graphic) {
-        // The word would be another one, or more than one.
-        return Err(Error::NoKey);
-    }
-    if numbers.is_empty() {
-        return Err(Error::Fault(Fault::WrongCount));
-    }
-    let words: String = numbers.iter().map(|number| format!(" {number}")).collect();
-    let line = [b"input ", key, format!(" {from}{words}").as_bytes()].concat();
-    if line.len() > LINE_BYTES {
-        return Err(Error::TooMany);
-    }
-    Ok(line)
-}
-
-/// What a reply says to a line of which no word but its key may be wrong.
+/// What a reply says that is `ok` or a refusal.
 fn accepted(reply: &str) -> Result<(), Error> {
     let Some(refused) = reply.strip_prefix("refused ") else {
         return Ok(());
     };
     let number = refused.split_ascii_whitespace().next();
-    match number.and_then(|number| Fault::of_number(number.parse().ok()?)) {
-        Some(Fault::Syntax) => Err(Error::NoKey),
-        Some(fault) => Err(Error::Fault(fault)),
-        None => panic!("a refusal has the number of a fault: {reply}"),
-    }
+    let fault = number.and_then(|number| Fault::of_number(number.parse().ok()?));
+    Err(Error::Fault(
+        fault.expect("a refusal has the number of a fault"),
+    ))
 }

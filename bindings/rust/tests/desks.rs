@@ -174,35 +174,65 @@ fn numbers_are_refused_as_those_of_a_session() -> Result<(), Error> {
                 assert_eq!(seat.set_wide(key, from, numbers), wanted, "{key:?} {from}");
             }
         }
-        assert!(seat.set(key, 0, &[]).is_err(), "{key:?}");
+        assert_eq!(seat.set(key, 0, &[]), session.set(key, 0, &[]), "{key:?}");
     }
     for key in ["a", "w", "s.context"] {
         let shown = format!("show {key} end");
         assert_eq!(seat.answer(&shown)?, session.answer(&shown)?);
     }
+    // A word that is no key makes no entry: the last five of the ten.
     let edits = told(&desk)?.len() - 3;
-    assert_eq!(edits, 5 * 4 * 5);
+    assert_eq!(edits, 5 * (4 * 5 + 1));
     Ok(())
 }
 
 #[test]
-fn as_many_numbers_are_given_as_a_line_has_room_for() -> Result<(), Error> {
+fn as_many_numbers_are_given_as_there_are_processors() -> Result<(), Error> {
     let mut session = Session::with_profile(Profile::Two)?;
-    for line in ["set s 32768", "field a s 64", "field w s 128"] {
+    for line in ["set s 65536", "field a s 64", "field w s 128"] {
         session.answer(line)?;
     }
     let desk = Desk::open(&session)?;
     let mut seat = desk.sit()?;
-    seat.set("a", 9, &[u64::MAX; 3_000])?;
-    seat.set_wide("w", 9, &[u128::MAX; 1_600])?;
-    assert_eq!(seat.set("a", 0, &[7; 32_764]), Err(Error::TooMany));
-    // The words `input a 0` have nine bytes, and each of these numbers has two with its space.
-    let most = vec![7; (65_536 - 9) / 2];
-    seat.set("a", 0, &most)?;
-    assert_eq!(told(&desk)?.len(), 3);
-    let shown = seat.look()?.get("a", Place::End)?;
-    assert!(shown.iter().take(most.len()).all(|number| *number == 7));
-    assert_eq!(shown[most.len()..], [0; 32_768 - 32_763]);
+    let given: Vec<u64> = (0..65_536).map(|number| u64::MAX - number).collect();
+    let wide: Vec<u128> = (0..65_536).map(|number| u128::MAX - number).collect();
+    seat.set("a", 0, &given)?;
+    seat.set_wide("w", 0, &wide)?;
+    let wanted = [
+        entry(1, 0, Kind::Edit, "ok\n"),
+        entry(2, 0, Kind::Edit, "ok\n"),
+    ];
+    assert_eq!(told(&desk)?, wanted);
+    let look = seat.look()?;
+    assert_eq!(look.get("a", Place::End)?, given);
+    assert_eq!(look.snapshot()?.get_wide("w", Place::End)?, wide);
+    assert!(desk.audit()?);
+    Ok(())
+}
+
+#[test]
+fn a_snapshot_of_a_look_tells_what_a_session_tells() -> Result<(), Error> {
+    let mut session = Session::with_profile(Profile::Two)?;
+    for line in ["set s 4", "field a s 8", "field d s 8", "field w s 65"] {
+        session.answer(line)?;
+    }
+    session.set_wide("w", 0, &[1 << 64, 1, 2, 3])?;
+    // All four messages are for processor 0.
+    session.answer("insert end send-1L d a a 8 none")?;
+    session.settle()?;
+    session.answer("insert end u-move-1L w w 65")?;
+    let desk = Desk::open(&session)?;
+    let (mut ann, mut bob) = (desk.sit()?, desk.sit()?);
+    let looked = ann.look()?.snapshot()?;
+    bob.answer("delete 1")?;
+    bob.set("w", 0, &[7])?;
+    drop(desk);
+    assert_eq!(looked.get_wide("w", Place::Start)?, [1 << 64, 1, 2, 3]);
+    assert_eq!(looked.unsettled()?, [2]);
+    assert_eq!(looked.origin("w", Place::End)?, Some(2));
+    let fault = looked.faults()?[0];
+    assert_eq!((fault.row, fault.processor), (1, 0));
+    assert_eq!(looked.rows()?, session.rows()?);
     Ok(())
 }
 
@@ -217,13 +247,15 @@ fn orders_for_a_value_are_looks() -> Result<(), Error> {
     let look = seat.look()?;
     let second = look.order_for("d", Place::End)?.expect("it is ready");
     assert_eq!((first.row(), second.row()), (2, 2));
-    for (key, place) in [("d", Place::Start), ("zz", Place::End)] {
-        assert!(look.order_for(key, place)?.is_none());
+    assert!(look.order_for("d", Place::Start)?.is_none());
+    for (key, place, error) in [
+        ("zz", Place::End, Error::Fault(Fault::NoField)),
+        ("s.zz", Place::End, Error::NoKey),
+        ("d", Place::After(9), Error::Fault(Fault::NoRow)),
+        ("1", Place::End, Error::NoKey),
+    ] {
+        assert_eq!(look.order_for(key, place).map(|_| ()), Err(error), "{key}");
     }
-    assert_eq!(
-        look.order_for("1", Place::End).map(|_| ()),
-        Err(Error::NoKey)
-    );
     assert_eq!(told(&desk)?, []);
     let (first, second) = (executed(first)?, executed(second)?);
     assert_eq!(seat.bring(&first)?, Verdict::Kept);

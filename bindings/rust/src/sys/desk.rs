@@ -1,7 +1,7 @@
 //! The calls of a desk and of its seats. What a caller keeps is kept as for a session: a desk is in one
 //! call at a time, since whoever calls it has it to itself, and so is a seat.
 
-use super::{outcome, Handle, OrderHandle, Place, Words, NOTHING};
+use super::{outcome, Handle, OrderHandle, Place, Wide, Words, NOTHING};
 use crate::error::Error;
 
 extern "C" {
@@ -11,6 +11,28 @@ extern "C" {
         desk: *mut Words,
         seat: *mut Words,
         line: *const u8,
+        len: usize,
+        reply: *mut usize,
+        entry: *mut u64,
+    ) -> u32;
+    fn paris_desk_set(
+        desk: *mut Words,
+        seat: *mut Words,
+        key: *const u8,
+        key_len: usize,
+        from: u64,
+        numbers: *const u64,
+        len: usize,
+        reply: *mut usize,
+        entry: *mut u64,
+    ) -> u32;
+    fn paris_desk_set_wide(
+        desk: *mut Words,
+        seat: *mut Words,
+        key: *const u8,
+        key_len: usize,
+        from: u64,
+        numbers: *const Wide,
         len: usize,
         reply: *mut usize,
         entry: *mut u64,
@@ -60,6 +82,7 @@ extern "C" {
         place: u64,
         order: *mut Words,
     ) -> u32;
+    fn paris_seat_snapshot(seat: *mut Words, into: *mut Words) -> u32;
     fn paris_seat_front(seat: *mut Words, front: *mut u64) -> u32;
     fn paris_seat_close(seat: *mut Words) -> u32;
 }
@@ -96,6 +119,62 @@ impl DeskHandle {
                 seat.0.get(),
                 start,
                 count,
+                &mut len,
+                &mut entry,
+            )
+        };
+        outcome(status, 0).map(|()| len)
+    }
+
+    /// Gives a key numbers for a seat, and says how long the reply is.
+    pub(crate) fn set(
+        &mut self,
+        seat: &mut SeatHandle,
+        key: &[u8],
+        from: u64,
+        numbers: &[u64],
+    ) -> Result<usize, Error> {
+        let (mut len, mut entry) = (0, 0);
+        // Two slices that are read may overlap, so the key is copied.
+        let key = key.to_vec();
+        let (start, count) = (numbers.as_ptr(), numbers.len());
+        // SAFETY: the desk and the seat are in no other call, and the slices don't overlap.
+        let status = unsafe {
+            paris_desk_set(
+                self.0.get(),
+                seat.0.get(),
+                key.as_ptr(),
+                key.len(),
+                from,
+                start,
+                count,
+                &mut len,
+                &mut entry,
+            )
+        };
+        outcome(status, 0).map(|()| len)
+    }
+
+    /// The same with numbers of two words each.
+    pub(crate) fn set_wide(
+        &mut self,
+        seat: &mut SeatHandle,
+        key: &[u8],
+        from: u64,
+        numbers: &[u128],
+    ) -> Result<usize, Error> {
+        let (mut len, mut entry) = (0, 0);
+        let numbers: Vec<Wide> = numbers.iter().copied().map(Wide::of).collect();
+        // SAFETY: the desk and the seat are in no other call, and the numbers are a copy, so no slices overlap.
+        let status = unsafe {
+            paris_desk_set_wide(
+                self.0.get(),
+                seat.0.get(),
+                key.as_ptr(),
+                key.len(),
+                from,
+                numbers.as_ptr(),
+                numbers.len(),
                 &mut len,
                 &mut entry,
             )
@@ -224,6 +303,14 @@ impl SeatHandle {
         let status =
             unsafe { paris_seat_order_for(self.0.get(), name, count, place, order.0.get()) };
         order.where_some(status)
+    }
+
+    /// A session with the book that the seat looks at.
+    pub(crate) fn snapshot(&self) -> Result<Handle, Error> {
+        let into = Handle::closed();
+        // SAFETY: the seat is in no other call, and the other handle is all zeros.
+        let status = unsafe { paris_seat_snapshot(self.0.get(), into.0.get()) };
+        outcome(status, 0).map(|()| into)
     }
 
     pub(crate) fn front(&self) -> u64 {
