@@ -4,11 +4,14 @@ from __future__ import annotations
 
 from collections.abc import Sequence
 
+from pevudlo.hints.explanation import Refusal, explained
+from pevudlo.interrupts import undisturbed
 from pevudlo.lang.profiles import WORD
-from pevudlo.lang.replies import Ok, PendingReply, Values
+from pevudlo.lang.replies import Ok, PendingReply, Refused, Values, parse
 from pevudlo.talk import Talk, of_kind
 from pevudlo.values.shaped import Pending, input_lines
-from pevudlo.values.words import wide_words_of, words_of
+from pevudlo.values.words import Words, wide_words_of, words_of
+from pevudlo.wire.desk import OpenSeat
 from pevudlo.wire.library import Library
 from pevudlo.wire.library_calls import END_NUMBER, place_number
 
@@ -21,17 +24,24 @@ class LineData:
 
     def give(self, key: str, first: int, numbers: Sequence[int]) -> None:
         """Gives a key numbers from a processor on, in lines, first of all one that would be refused."""
-        board, numbers = self.talk.board, list(numbers)
+        numbers = list(numbers)
         lines = input_lines(key, first, numbers)
-        name, width = board.set_of(key), board.width_of(key)
-        if name is not None and width is not None and len(lines) > 1:
-            if first + len(numbers) > board.processors(name):
-                self.talk.ask(lines[-1], Ok)
-            if max(numbers) >> width:
-                at = next(at for at, number in enumerate(numbers) if number >> width)
-                self.talk.ask(input_lines(key, first + at, numbers[at : at + 1])[0], Ok)
+        wrong = self._wrong_line(key, first, numbers, lines) if len(lines) > 1 else None
+        if wrong is not None:
+            self.talk.ask(wrong, Ok)
         for line in lines:
             self.talk.ask(line, Ok)
+
+    def _wrong_line(self, key: str, first: int, numbers: Sequence[int], lines: Sequence[str]) -> str | None:
+        """Of lines that give a declared key numbers one that is refused, or None where all of them are right."""
+        board = self.talk.board
+        name, width = board.set_of(key), board.width_of(key)
+        if name is None or width is None:
+            return None
+        if first + len(numbers) > board.processors(name):
+            return lines[-1]
+        at = next((at for at, number in enumerate(numbers) if number >> width), None)
+        return None if at is None else input_lines(key, first + at, numbers[at : at + 1])[0]
 
     def look(self, key: str, place: str) -> Sequence[int] | Pending:
         """The numbers of a key at a place, or the row that has to be settled first."""
@@ -56,7 +66,7 @@ class ArrayData(LineData):
 
     def _is_given(self, key: str, first: int, numbers: Sequence[int], is_wide: bool) -> bool:
         """Gives a key numbers of one word or of two. Whether the library has taken them."""
-        words = wide_words_of(numbers) if is_wide else words_of(numbers)
+        words = words_for(numbers, is_wide)
         if words is None:
             return False
         return self.library.set_wide(key, first, words) if is_wide else self.library.set(key, first, words)
@@ -71,6 +81,41 @@ class ArrayData(LineData):
         if told is None:
             return super().look(key, place)
         return Pending(told) if isinstance(told, int) else told
+
+
+class SeatData(LineData):
+    """Numbers in by arrays of a seat, and out by lines: each call is one entry of the desk's history."""
+
+    def __init__(self, talk: Talk, seat: OpenSeat) -> None:
+        super().__init__(talk)
+        self.seat = seat
+
+    def give(self, key: str, first: int, numbers: Sequence[int]) -> None:
+        """Gives a key numbers from a processor on, as one entry, also where it is refused.
+
+        What no array says is said in lines: numbers of no key, none, and some that are wider than any number.
+        """
+        width = self.talk.board.width_of(key)
+        is_wide = width is not None and width > WORD
+        words = words_for(numbers, is_wide) if width is not None and len(numbers) and first <= END_NUMBER else None
+        if words is None:
+            super().give(key, first, numbers)
+            return
+        with undisturbed():
+            reply = parse(self.seat.give(key, first, words, is_wide))
+        if isinstance(reply, Refused):
+            line = self._refused_line(key, first, list(numbers))
+            raise Refusal(explained(line, reply, self.talk.board, self.talk.where))
+
+    def _refused_line(self, key: str, first: int, numbers: Sequence[int]) -> str:
+        """The line that stands for numbers that are refused, of many numbers a part."""
+        lines = input_lines(key, first, numbers)
+        return (self._wrong_line(key, first, numbers, lines) if len(lines) > 1 else None) or lines[0]
+
+
+def words_for(numbers: Sequence[int], is_wide: bool) -> Words | None:
+    """Numbers as one word each, or as two. None where one of them has more bits."""
+    return wide_words_of(numbers) if is_wide else words_of(numbers)
 
 
 def data_of(talk: Talk) -> LineData:

@@ -11,23 +11,25 @@ import weakref
 from collections.abc import Iterator, Mapping
 from dataclasses import dataclass
 from itertools import count
+from pathlib import Path
+from threading import get_ident
 from types import MappingProxyType, TracebackType
 from typing import SupportsIndex, overload
 
-from pevudlo.data import LineData
+from pevudlo.data import SeatData
 from pevudlo.draw.grids import Grid
 from pevudlo.editing import Editing
 from pevudlo.hints.explanation import SYNTAX, Explanation, Refusal, explained
 from pevudlo.lang.board import Board, Declared
 from pevudlo.lang.faults import FAULTS
 from pevudlo.lang.places import END, Place, spelled
-from pevudlo.lang.replies import Refused, Verdict
-from pevudlo.machine import Machine
+from pevudlo.lang.replies import Refused, RowFault, Rows, Verdict, parse
+from pevudlo.machine import Machine, RowList
 from pevudlo.running.seated import SeatedCrew
-from pevudlo.talk import Talk
+from pevudlo.talk import Talk, of_kind
 from pevudlo.values.indices import Index, check_key, shown_part, split
 from pevudlo.values.shaped import Pending, Shown, shaped
-from pevudlo.wire.book import Slot
+from pevudlo.wire.book import Book, Slot
 from pevudlo.wire.desk import Kind, OpenDesk, OpenSeat
 from pevudlo.wire.library_calls import Outcome, place_number
 
@@ -83,13 +85,21 @@ class Order:
 class Look:
     """The book as it was when a seat looked: what others do meanwhile changes nothing of what it shows.
 
-    It needs no lock of the desk, and shows keys of up to 64 bits. Where the seat has looked again or is closed, each
-    call is a RuntimeError or Ended. `front` is the number of the last entry that the book has.
+    It needs no lock of the desk, and is no entry. Where the seat has looked again or is closed, each call is a
+    RuntimeError or Ended. `front` is the number of the last entry that the book has. Raises MemoryError.
     """
 
-    def __init__(self, seat: OpenSeat, board: Board) -> None:
-        self._seat, self._board = seat, board
-        self._turn, self.front = seat.look()
+    def __init__(self, seat: OpenSeat, board: Board, library: Path | None) -> None:
+        self._seat, self._board, self._library = seat, board, library
+        self._machine: Machine | None = None
+        try:
+            seat.waiting.add(get_ident())
+            with seat.lock:
+                self._turn, self.front = seat.look()
+                # (a desk's book loses none)
+                self._sets, self._fields = len(board.sets), len(board.fields)
+        finally:
+            seat.waiting.discard(get_ident())
 
     @overload
     def __getitem__(self, index: str) -> Shown | Pending:
@@ -104,12 +114,11 @@ class Look:
         ...
 
     def __getitem__(self, index: Index) -> int | Shown | list[int] | Pending:
-        """The numbers of a key at the end of the program, as `Machine.__getitem__` gives them and raises.
-
-        Raises ValueError for a key of more than 64 bits.
-        """
+        """The numbers of a key at the end of the program, as `Machine.__getitem__` gives them and raises."""
         key, part = split(index)
         grid = self._grid(key, END)
+        if grid is None:
+            return self._inside()[index]
         if isinstance(grid, Pending):
             return grid
         return shaped(grid) if part is None else shown_part(grid, part)
@@ -117,24 +126,71 @@ class Look:
     def show(self, key: str, at: Place = END) -> Shown | Pending:
         """The numbers of a key at a place, in the shape of its set, or the row that has to be settled first.
 
-        Raises Refusal as the command does, which is no entry here, and ValueError for a key of more than 64 bits.
+        Raises Refusal as the command does, which is no entry here.
         """
         grid = self._grid(key, at)
+        if grid is None:
+            return self._inside().show(key, at)
         return grid if isinstance(grid, Pending) else shaped(grid)
+
+    def rows(self) -> RowList:
+        """The rows in program order, with their states."""
+        return self._inside().rows()
+
+    def unsettled(self) -> tuple[int, ...]:
+        """The ids of the rows that are unsettled, in program order."""
+        return self._inside().unsettled()
+
+    def faults(self) -> tuple[RowFault, ...]:
+        """The settled rows that were refused for their data when they ran, in program order."""
+        return self._inside().faults()
+
+    def causes(self) -> dict[int, str]:
+        """Why the rows of `faults` are refused for their data, as `Machine.causes` says."""
+        return self._inside().causes()
+
+    def origin(self, key: str, at: Place = END) -> int | None:
+        """The row that gives a key its value at a place, or None where that is the start. Raises Refusal."""
+        return self._inside().origin(key, at)
+
+    def snapshot(self) -> Machine:
+        """A machine over the library with the book that is shown, and with no order out. The look stays as it is."""
+        return self._inside().copy()
 
     def order_for(self, key: str, at: Place = END) -> Order | None:
         """An order for the first ready row of those that a value stands on. None where no such row is ready.
 
         It is no entry: the row waits as before, and is settled by the first result that is brought while it is as it
-        was. Raises MemoryError.
+        was. Raises Refusal as `show` does, and MemoryError.
         """
         check_key(key)
         slot = self._seat.desk.slot()
-        is_ordered = self._seat.order_for(self._turn, key, place_of(at), slot)
-        return Order(self._seat.desk, slot) if is_ordered else None
+        outcome = self._seat.order_for(self._turn, key, place_of(at), slot)
+        if outcome not in (Outcome.OK, Outcome.NOTHING):
+            raise Refusal(self._explained(f"show {key} {at.text}", outcome))
+        return Order(self._seat.desk, slot) if outcome == Outcome.OK else None
 
-    def _grid(self, key: str, at: Place) -> Grid | Pending:
-        """The numbers of a key at a place, as a grid."""
+    def _inside(self) -> Machine:
+        """The machine that shows what needs more than numbers of 64 bits. It is made once, where it is wanted first."""
+        self._seat.check_look(self._turn)
+        with self._seat.own:
+            if self._machine is None:
+                book = self._seat.snapshot(self._turn)
+                self._machine = Machine.over(self._library, book, self._board_of(book))
+            return self._machine
+
+    def _board_of(self, book: Book) -> Board:
+        """What was declared when the seat looked, with the rows of the book."""
+        sets, fields = list(self._board.sets.items()), list(self._board.fields.items())
+        board = Board(dict(sets[: self._sets]), dict(fields[: self._fields]))
+        board.profile, board.is_begun = self._board.profile, True
+        for row in of_kind(parse(book.ask("list")), Rows).rows:
+            board.order.put_last(row.row)
+            board.texts[row.row] = row.text
+        return board
+
+    def _grid(self, key: str, at: Place) -> Grid | Pending | None:
+        """The numbers of a key at a place, as a grid. None for a key of more than 64 bits."""
         check_key(key)
         board = self._board
         name, axes, width = board.set_of(key), board.axes_of(key), board.width_of(key)
@@ -142,7 +198,7 @@ class Look:
         if looked.outcome == Outcome.PENDING:
             return Pending(looked.told)
         if looked.outcome == Outcome.TOO_WIDE:
-            raise ValueError(f"{key} has {width} bits, and a look shows up to 64: `show` of the seat shows any")
+            return None
         if looked.outcome != Outcome.OK or axes is None or width is None:
             raise Refusal(self._explained(f"show {key} {at.text}", looked.outcome))
         return Grid(key, axes, width, looked.room.numbers, place=at.text)
@@ -164,12 +220,12 @@ class Seat(Editing):
     history has as many entries as it may have, and Ended where the desk or the seat is closed. Raises MemoryError.
     """
 
-    def __init__(self, desk: OpenDesk, name: str, board: Board) -> None:
-        self._seat = OpenSeat(desk)
+    def __init__(self, desk: OpenDesk, name: str, board: Board, library: Path | None) -> None:
+        self._seat, self._library = OpenSeat(desk), library
         self.name, self.number = name, self._seat.number
         self._talk = Talk(self._seat)
         self._talk.board = board
-        self._data = LineData(self._talk)
+        self._data = SeatData(self._talk, self._seat)
 
     def __repr__(self) -> str:
         return f"<Seat {self.number}: {self.name}>"
@@ -192,7 +248,7 @@ class Seat(Editing):
 
     def look(self) -> Look:
         """Looks at the book as it is. It is no entry, and copies no value. The look before shows no more."""
-        return Look(self._seat, self._board)
+        return Look(self._seat, self._board, self._library)
 
     def close(self) -> None:
         """Closes the seat. The history keeps its entries."""
@@ -246,7 +302,7 @@ class Desk:
     def seat(self, name: str = "") -> Seat:
         """The next seat, of a person of this name. It looks at the book as it is."""
         with self._desk.lock:
-            seat = Seat(self._desk, name, self._board)
+            seat = Seat(self._desk, name, self._board, self._library)
             self._names[seat.number] = name
         return seat
 

@@ -67,8 +67,9 @@ class Editing:
 
         `machine["a"] = values` gives a number for each processor, `machine["a", 3:] = values` gives them from a
         processor on, and `machine["a", 3] = value` gives one. One number in the place of values is given to every
-        processor, or to each of the slice. Many numbers go in several lines, each of them an edit.
-        Where one of the lines would be refused, it is asked first, so that a refusal changes nothing.
+        processor, or to each of the slice. Over the library they are one edit. Over a program many numbers go in
+        several lines, each of them an edit. Where one of the lines would be refused, it is asked first, so that a
+        refusal changes nothing.
         Raises WrongShape where whole values don't fit the set, IndexError for a processor below 0, TypeError for
         another index, and what `flat` raises.
         """

@@ -16,6 +16,7 @@ import pytest
 from waits import LIMIT, Told, status_of_child, within
 
 from pevudlo import (
+    END,
     START,
     Desk,
     Ended,
@@ -26,7 +27,9 @@ from pevudlo import (
     Order,
     Pending,
     Refusal,
+    RefusedRows,
     Seat,
+    Status,
     Verdict,
     Word,
     WrongShape,
@@ -180,6 +183,7 @@ WRONG: tuple[Callable[[Editing], object], ...] = (
     lambda of: of.__setitem__(("a", 3), 300),
     lambda of: of.__setitem__(("a", 4), 3),
     lambda of: of.__setitem__(("a", -5), 3),
+    lambda of: of.__setitem__(("a", slice(4, None)), 3),
     lambda of: of.__setitem__("zz", [1]),
     lambda of: of.__setitem__("a", [-1, 0, 0, 0]),
     lambda of: of.insert("u-add-3-1L c a zz 8"),
@@ -204,21 +208,27 @@ def test_wrong_calls_raise_what_those_of_a_machine_raise(
     assert (type(raised[0]), str(raised[0])) == (type(raised[1]), str(raised[1]))
 
 
-def test_many_numbers_go_in_several_lines_and_are_refused_as_a_whole(libparis: Path) -> None:
-    with Machine(library=True) as machine:
-        machine.tell(["set s 65536", "field a s 32"])
+def test_many_numbers_are_one_entry_and_are_refused_as_a_whole(libparis: Path) -> None:
+    with Machine(library=True, profile=2) as machine:
+        machine.tell(["set s 65536", "field a s 32", "field w s 128"])
         with Desk(machine) as desk:
             seat = desk.seat()
             given = numpy.arange(65536, dtype=numpy.uint64) * 65537 % 2**32
             seat["a"] = given
-            before = len(told(desk))
-            assert before > 2 and numpy.array_equal(seat.look()["a"], given)
-            given[60000] = 2**32
-            with pytest.raises(Refusal) as refused:
-                seat["a"] = given + 1
-            assert refused.value.number == 9 and len(told(desk)) == before + 1
-            given[60000] = 60000 * 65537 % 2**32
-            assert numpy.array_equal(seat.look()["a"], given)
+            seat["w"] = wide = [2**127 + number for number in range(65536)]
+            assert told(desk) == [(0, Kind.EDIT, "ok")] * 2
+            wrong = given + 1
+            wrong[60000] = 2**32
+            raised = list[Refusal]()
+            for of in (machine, seat):
+                with pytest.raises(Refusal) as refused:
+                    of["a"] = wrong
+                raised.append(refused.value)
+            assert raised[0].explanation == raised[1].explanation and len(raised[1].line) < 100
+            assert told(desk)[2:] == [(0, Kind.EDIT, "refused 9 60000")]
+            look = seat.look()
+            assert numpy.array_equal(look["a"], given) and numbers(look["w"]) == wide
+            assert desk.audit()
 
 
 def test_a_look_stays_as_it_was(desk: Desk) -> None:
@@ -279,14 +289,71 @@ def test_a_key_that_came_later_isnt_in_a_look(desk: Desk) -> None:
     assert refused.value.number == 10
 
 
-def test_wide_keys_are_shown_by_lines_alone(libparis: Path) -> None:
+def test_a_look_shows_wide_keys(libparis: Path) -> None:
     with Machine(library=True, profile=2) as machine:
-        machine.tell(["set s 2", "field w s 65", f"input w 0 {2**65 - 1} 7"])
+        machine.tell(["set s 2x2", "field w s 65", f"input w 0 {2**65 - 1} 7 8 9", "insert end u-move-1L w w 65"])
         with Desk(machine) as desk:
-            seat = desk.seat()
-            with pytest.raises(ValueError, match="w has 65 bits, and a look shows up to 64"):
-                seat.look()["w"]
-            assert numbers(seat.show("w")) == [2**65 - 1, 7]
+            seat, other = desk.seat(), desk.seat()
+            look = seat.look()
+            other["w"] = [1, 2, 3, 4]
+            assert look["w"] == Pending(1) and look["w", 0] == Pending(1)
+            assert numbers(look.show("w", START)) == [[2**65 - 1, 7], [8, 9]]
+            for at in (after(9), after(2**64 - 1)):
+                with pytest.raises(Refusal) as refused:
+                    look.show("w", at)
+                assert refused.value.number == 10
+            other.bring(taken(other))
+            entries = len(told(desk))
+            later = seat.look()
+            shown = later["w", 3], numbers(later["w", 1:]), numbers(later["w"])
+            assert shown == (4, [2, 3, 4], [[1, 2], [3, 4]])
+            assert len(told(desk)) == entries
+            with pytest.raises(RuntimeError, match="has looked again"):
+                look.show("w", START)
+            seat.close()
+            with pytest.raises(Ended, match="the seat is closed"):
+                later["w"]
+
+
+def test_a_look_tells_what_a_machine_tells(machine: Machine) -> None:
+    machine.tell(["field d s 8", "insert end send-1L d a b 8 none", "insert end u-move-1L c d 8"])
+    with pytest.warns(RefusedRows):
+        machine.settle()
+    machine.insert("u-move-1L d c 8")
+    with Desk(machine) as desk:
+        ann, bob = desk.seat("Ann"), desk.seat("Bob")
+        look = ann.look()
+        bob.field("e", "s", 8)
+        bob.delete(2)
+        bob["a", 0] = 99
+        assert look.rows() == machine.rows() and look.rows().refused == {2}
+        assert look.faults() == machine.faults() and look.causes() == machine.causes() and len(look.causes()) == 1
+        assert look.unsettled() == machine.unsettled() == (4,)
+        assert [look.origin(key) for key in "abcd"] == [None, None, 3, 4]
+        with pytest.raises(Refusal, match="refused 7"):
+            look.origin("e")
+        copy = look.snapshot()
+        assert (copy.fields, copy.sets) == (machine.fields, machine.sets)
+        copy["a"] = [0, 1, 2, 3]
+        copy.delete(4)
+        assert copy.settle() == 3 and numbers(copy["c"]) == [10, 20, 30, 40]
+        assert look.rows() == machine.rows() and look["a", 0] == 1
+        assert len(told(desk)) == 3
+        order = taken(bob)
+        later = ann.look()
+        assert [row.status for row in later.rows() if row.row == order.row] == [Status.OUT]
+        assert later.snapshot().settle() > 0
+        calls: tuple[Callable[[], object], ...] = (
+            look.rows,
+            look.unsettled,
+            look.faults,
+            look.causes,
+            look.snapshot,
+            lambda: look.origin("a"),
+        )
+        for call in calls:
+            with pytest.raises(RuntimeError, match="has looked again"):
+                call()
 
 
 # Orders
@@ -321,7 +388,13 @@ def test_orders_for_a_value_are_looks(desk: Desk) -> None:
     look = ann.look()
     first, second = look.order_for("d"), look.order_for("d")
     assert first is not None and second is not None and first.row == second.row == row
-    assert look.order_for("d", START) is None and look.order_for("zz") is None and look.order_for("1") is None
+    assert look.order_for("d", START) is None
+    for key, at in (("zz", END), ("s.zz", END), ("1", END), ("d", after(9))):
+        with pytest.raises(Refusal) as wanted:
+            look.show(key, at)
+        with pytest.raises(Refusal) as found:
+            look.order_for(key, at)
+        assert found.value.explanation == wanted.value.explanation
     with pytest.raises(TypeError):
         look.order_for(1)  # type: ignore[arg-type]
     assert len(told(desk)) == entries

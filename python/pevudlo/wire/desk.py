@@ -16,7 +16,7 @@ from itertools import count
 from threading import get_ident
 
 from pevudlo.lang.replies import Verdict, Word
-from pevudlo.values.words import Words, room_of
+from pevudlo.values.words import WIDE, Words, room_of
 from pevudlo.wire.book import WORDS, Book, Slot
 from pevudlo.wire.library import SHORT_REPLY, Held, Library, check_line
 from pevudlo.wire.library_calls import Outcome, trouble
@@ -154,10 +154,15 @@ class OpenDesk:
         into = Held(self.calls["paris_close"])
         with self.lock:
             check(self.call("paris_desk_snapshot", into.at))
+        book = self.copied(into)
+        book.release()
+        return book
+
+    def copied(self, into: Held) -> Book:
+        """The session that a call has opened with a book that was there before."""
         book = Book.over(self.calls, into)
         assert isinstance(book, Book)
         book.is_copy = True
-        book.release()
         return book
 
     def slot(self) -> Slot:
@@ -229,8 +234,25 @@ class OpenSeat:
                 self._is_in_call = False
             if not line.startswith(LOOKS):
                 self.desk.tell()
-            if text.startswith("refused"):
-                self._status = 1
+            return self._lines(text)
+
+    def give(self, key: str, first: int, words: Words, is_wide: bool) -> list[str]:
+        """Gives a declared key numbers of one word or of two from a processor on. The lines of the reply.
+
+        Raises HistoryFull, Ended and MemoryError.
+        """
+        call, count = ("paris_desk_set_wide", len(words) // WIDE) if is_wide else ("paris_desk_set", len(words))
+        name, length, entry = key.encode("ascii"), c_size_t(), c_uint64()
+        told = ctypes.addressof(length), ctypes.addressof(entry)
+        with self.lock, self.own:
+            check(self._at_desk(call, name, len(name), first, words.address, count, *told))
+            self.desk.tell()
+            return self._lines(self._reply(length.value))
+
+    def _lines(self, text: str) -> list[str]:
+        """The lines of a reply. One that is refused is noted."""
+        if text.startswith("refused"):
+            self._status = 1
         return text.split("\n")[:-1]
 
     def _turn(self, line: bytes) -> str:
@@ -242,9 +264,13 @@ class OpenSeat:
             word = line.split(b" ")[0].decode("utf-8", "surrogateescape")
             raise ValueError(f"`{word}` is no line of a desk: it takes edits, `release`, `show` and `list`")
         check(outcome)
-        room = ctypes.create_string_buffer(max(length.value, 1))
-        check(self.desk.calls["paris_seat_reply"](self._held.at, ctypes.addressof(room), length.value))
-        return text_in(room, length.value)
+        return self._reply(length.value)
+
+    def _reply(self, size: int) -> str:
+        """The text of the kept reply, of so many bytes. The seat's lock is held."""
+        room = ctypes.create_string_buffer(max(size, 1))
+        check(self.desk.calls["paris_seat_reply"](self._held.at, ctypes.addressof(room), size))
+        return text_in(room, size)
 
     def take(self, slot: Slot) -> bool:
         """Takes an order for the first ready row. Whether there is one. Raises HistoryFull and MemoryError."""
@@ -286,13 +312,29 @@ class OpenSeat:
             raise trouble(outcome)
         return Looked(outcome, told.value, room)
 
-    def order_for(self, turn: int, key: str, place: int, slot: Slot) -> bool:
-        """Opens an order for the first ready row that a value stands on. Whether there is one. Raises MemoryError."""
+    def order_for(self, turn: int, key: str, place: int, slot: Slot) -> int:
+        """Opens an order for the first ready row that a value stands on. What becomes of it. Raises MemoryError."""
         name = key.encode("utf-8", "surrogateescape")
         with self.own:
             self._check_turn(turn)
             outcome = self._alone("paris_seat_order_for", name, len(name), place, slot.at)
-            return outcome != Outcome.NO_KEY and self._is_ordered(outcome, slot)
+            if outcome in (Outcome.OK, Outcome.NO_MEMORY):
+                self._is_ordered(outcome, slot)
+            return outcome
+
+    def snapshot(self, turn: int) -> Book:
+        """A session with the book that is looked at. Raises MemoryError."""
+        into = Held(self.desk.calls["paris_close"])
+        with self.own:
+            self._check_turn(turn)
+            check(self._alone("paris_seat_snapshot", into.at))
+        return self.desk.copied(into)
+
+    def check_look(self, turn: int) -> None:
+        """Raises RuntimeError where the seat has looked since, and Ended where it is closed."""
+        with self.own:
+            self._check_turn(turn)
+            self._check_open()
 
     def front(self) -> int:
         """The number of the last entry that the seat knows."""

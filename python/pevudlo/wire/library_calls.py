@@ -78,6 +78,8 @@ CALLS: dict[str, tuple[Any, ...]] = {
     "paris_desk_open": (c_void_p, c_void_p, c_uint64, c_uint64),
     "paris_desk_sit": (c_void_p, c_void_p, c_void_p),
     "paris_desk_answer": (c_void_p, c_void_p, c_char_p, c_size_t, c_void_p, c_void_p),
+    "paris_desk_set": (c_void_p, c_void_p, c_char_p, c_size_t, c_uint64, c_void_p, c_size_t, c_void_p, c_void_p),
+    "paris_desk_set_wide": (c_void_p, c_void_p, c_char_p, c_size_t, c_uint64, c_void_p, c_size_t, c_void_p, c_void_p),
     "paris_desk_take": (c_void_p, c_void_p, c_void_p, c_void_p),
     "paris_desk_bring": (c_void_p, c_void_p, c_void_p, c_void_p, c_void_p, c_void_p),
     "paris_desk_look": (c_void_p, c_void_p),
@@ -89,6 +91,7 @@ CALLS: dict[str, tuple[Any, ...]] = {
     "paris_seat_reply": (c_void_p, c_void_p, c_size_t),
     "paris_seat_get": (c_void_p, c_char_p, c_size_t, c_uint64, c_void_p, c_size_t, c_void_p),
     "paris_seat_order_for": (c_void_p, c_char_p, c_size_t, c_uint64, c_void_p),
+    "paris_seat_snapshot": (c_void_p, c_void_p),
     "paris_seat_front": (c_void_p, c_void_p),
     "paris_seat_close": (c_void_p,),
 }
