@@ -1,7 +1,7 @@
-/* Threads sit at one desk behind a mutex, some as users and some as workers. Then the history has each call once, as its thread kept it, and
-   is audited.
+/* Threads sit at one desk behind a mutex, and edit, look and work. Then the history has each call once, as its thread kept it, and is audited.
 
-   Usage: desk_threads SEED CALLS THREADS: so many calls in all, by so many threads. */
+   Usage: desk_threads SEED CALLS THREADS [CHAPTERS]: so many calls in all, by so many threads, in as many chapters, 1 where nothing is said.
+   Each chapter is compared and audited, and then cut, so that memory is that of one chapter. */
 #include "want.h"
 
 #include <pthread.h>
@@ -24,6 +24,7 @@ typedef struct person {
   receipt *receipts;
   size_t count;
   uint64_t looks;
+  uint64_t row; /* that it has put in, or 0 */
 } person;
 
 static paris_desk desk;
@@ -42,7 +43,8 @@ static void keep(person *who, uint64_t entry, uint32_t kind, const char *text, s
   strncpy(kept->text, text, TEXT - 1);
 }
 
-static void say(person *who, const char *line, uint32_t kind) {
+/* Says a line, and returns the number behind the first word of the reply. */
+static uint64_t say(person *who, const char *line, uint32_t kind) {
   uint8_t text[TEXT] = {0};
   size_t len = 0;
   uint64_t entry = 0, front = 0;
@@ -53,6 +55,8 @@ static void say(person *who, const char *line, uint32_t kind) {
   WANT(paris_seat_front(&who->seat, &front), PARIS_OK);
   WANT(front, entry);
   keep(who, entry, kind, (const char *)text, len);
+  const char *word = strchr((const char *)text, ' ');
+  return word ? strtoull(word, NULL, 10) : 0;
 }
 
 /* A look at what no row writes is settled, whoever edits meanwhile. It is told twice the same. */
@@ -93,13 +97,26 @@ static void work(person *who) {
   WANT(paris_order_close(&order), PARIS_OK);
 }
 
-/* The rows stay some thirty. */
+/* Puts a row in, or takes out the one that it has put in. So a thread has one row at most beside the first thirty. */
+static void put_in_or_out(person *who) {
+  char line[TEXT];
+  int a = (int)next(who, FIELDS), b = (int)next(who, FIELDS), c = (int)next(who, FIELDS);
+  if (who->row) {
+    snprintf(line, sizeof line, "delete %llu", (unsigned long long)who->row);
+    say(who, line, PARIS_EDIT);
+    who->row = 0;
+    return;
+  }
+  snprintf(line, sizeof line, "insert end u-max-3-1L f%d f%d f%d 8", a, b, c);
+  who->row = say(who, line, PARIS_EDIT);
+}
+
+/* A row above the first thirty may be there or not, and a number above 255 is refused. */
 static void edit(person *who) {
   char line[TEXT];
   int a = (int)next(who, FIELDS), b = (int)next(who, FIELDS), c = (int)next(who, FIELDS), row = 1 + (int)next(who, 40);
   switch (next(who, 40)) {
-  case 0: snprintf(line, sizeof line, "delete %d", row); break;
-  case 1: snprintf(line, sizeof line, "insert end u-max-3-1L f%d f%d f%d 8", a, b, c); break;
+  case 0: case 1: put_in_or_out(who); return;
   case 2: case 3: case 4: case 5: snprintf(line, sizeof line, "replace %d u-max-3-1L f%d f%d f%d 8", row, a, b, c); break;
   default: snprintf(line, sizeof line, "input f%d %d %d", a, (int)next(who, PROCESSORS), (int)next(who, 300)); break;
   }
@@ -109,6 +126,7 @@ static void edit(person *who) {
 static void *sit(void *at) {
   person *who = at;
   char line[TEXT];
+  who->count = 0;
   while (who->count + 2 <= who->calls) {
     switch (next(who, 8)) {
     case 0: look(who); break;
@@ -162,35 +180,50 @@ static uint64_t compare(person *people, size_t threads) {
   return count;
 }
 
-int main(int count, char **words) {
-  if (count != 4) return 2;
-  uint64_t seed = strtoull(words[1], NULL, 10), calls = strtoull(words[2], NULL, 10), looks = 0;
-  size_t threads = strtoull(words[3], NULL, 10);
-  paris_handle from = {0};
-  person *people = calloc(threads, sizeof *people);
-  pthread_t *ids = calloc(threads, sizeof *ids);
+/* Has all threads make a chapter's calls, compares what they kept, audits and cuts. Returns how many entries there are. */
+static uint64_t play_chapter(person *people, pthread_t *ids, size_t threads) {
   bool agrees = false;
-  begin(&from);
-  WANT(paris_desk_open(&desk, &from, 1, UINT64_MAX), PARIS_OK);
-  WANT(paris_close(&from), PARIS_OK);
-  for (size_t i = 0; i < threads; i++) {
-    people[i].random = seed * 1000 + i;
-    people[i].calls = calls / threads + 3;
-    people[i].receipts = calloc(people[i].calls + 4, sizeof *people[i].receipts);
-    WANT(paris_desk_sit(&desk, &people[i].seat, &people[i].number), PARIS_OK);
-  }
+  uint64_t cut = 0;
   for (size_t i = 0; i < threads; i++) WANT(pthread_create(&ids[i], NULL, sit, &people[i]), 0);
   for (size_t i = 0; i < threads; i++) WANT(pthread_join(ids[i], NULL), 0);
   uint64_t entries = compare(people, threads);
   WANT(paris_desk_audit(&desk, &agrees), PARIS_OK);
   WANT(agrees, true);
-  for (size_t i = 0; i < threads; i++) {
-    looks += people[i].looks;
-    WANT(paris_seat_close(&people[i].seat), PARIS_OK);
-    free(people[i].receipts);
-  }
+  WANT(paris_desk_cut(&desk, &cut), PARIS_OK);
+  WANT(cut, entries);
+  return entries;
+}
+
+static void sit_down(person *who, uint64_t random, size_t calls) {
+  who->random = random;
+  who->calls = calls;
+  who->receipts = calloc(calls + 4, sizeof *who->receipts);
+  WANT(paris_desk_sit(&desk, &who->seat, &who->number), PARIS_OK);
+}
+
+/* Returns how often the seat looked. */
+static uint64_t stand_up(person *who) {
+  WANT(paris_seat_close(&who->seat), PARIS_OK);
+  free(who->receipts);
+  return who->looks;
+}
+
+int main(int count, char **words) {
+  if (count != 4 && count != 5) return 2;
+  uint64_t seed = strtoull(words[1], NULL, 10), calls = strtoull(words[2], NULL, 10), entries = 0, looks = 0;
+  size_t threads = strtoull(words[3], NULL, 10), chapters = count == 5 ? strtoull(words[4], NULL, 10) : 1;
+  paris_handle from = {0};
+  person *people = calloc(threads, sizeof *people);
+  pthread_t *ids = calloc(threads, sizeof *ids);
+  begin(&from);
+  WANT(paris_desk_open(&desk, &from, 1, UINT64_MAX), PARIS_OK);
+  WANT(paris_close(&from), PARIS_OK);
+  for (size_t i = 0; i < threads; i++) sit_down(&people[i], seed * 1000 + i, calls / chapters / threads + 3);
+  for (size_t i = 0; i < chapters; i++) entries += play_chapter(people, ids, threads);
+  for (size_t i = 0; i < threads; i++) looks += stand_up(&people[i]);
   WANT(paris_desk_close(&desk), PARIS_OK);
-  printf("%llu entries by %zu threads, each kept once; %llu looks\n", (unsigned long long)entries, threads, (unsigned long long)looks);
+  printf("%llu calls of %zu threads in %zu chapters: %llu entries, each kept once, and %llu looks\n", (unsigned long long)(entries + looks), threads,
+         chapters, (unsigned long long)entries, (unsigned long long)looks);
   free(people);
   free(ids);
   return 0;
