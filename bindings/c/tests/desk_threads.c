@@ -191,6 +191,7 @@ static uint64_t play_chapter(person *people, pthread_t *ids, size_t threads) {
   WANT(agrees, true);
   WANT(paris_desk_cut(&desk, &cut), PARIS_OK);
   WANT(cut, entries);
+  fprintf(stderr, "a chapter of %llu entries, each kept once\n", (unsigned long long)entries);
   return entries;
 }
 
