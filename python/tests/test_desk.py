@@ -488,6 +488,23 @@ def test_a_closed_desk_takes_no_call(desk: Desk) -> None:
             call()
 
 
+def test_a_call_within_a_call_is_refused(desk: Desk) -> None:
+    seat = desk.seat()
+    look = seat.look()
+    calls: tuple[Callable[[], object], ...] = (lambda: seat.raw("list"), seat.take, seat.look)
+    alone: tuple[Callable[[], object], ...] = (lambda: look["a"], lambda: seat.front, seat.close)
+    of_desk: tuple[Callable[[], object], ...] = (*calls, desk.seat, desk.cut, desk.close)
+    inners: tuple[Any, Any] = (seat._seat, desk._desk)
+    for inner, refused in zip(inners, ((*calls, *alone), of_desk)):
+        inner._is_in_call = True
+        for call in refused:
+            with pytest.raises(RuntimeError, match="in one call at a time"):
+                call()
+        inner._is_in_call = False
+    assert numbers(look["a"]) == [1, 2, 3, 4] and seat.raw("show a end") == ["values 1 2 3 4"]
+    assert told(desk) == [(0, Kind.SHOW, "values 1 2 3 4")]
+
+
 def test_a_child_of_the_process_makes_no_call(desk: Desk) -> None:
     seat = desk.seat()
     look, order = seat.look(), taken(seat)
