@@ -1,6 +1,6 @@
-//! Sessions that are refused memory: this program calls itself with little memory to be had.
+//! Sessions and a desk that are refused memory: this program calls itself with little memory to be had.
 
-use paris::{Error, Fault, Session};
+use paris::{Desk, Error, Fault, Kind, Seat, Session};
 use std::env;
 use std::error;
 use std::process::Command;
@@ -74,10 +74,42 @@ fn rows_are_settled_in_part() -> Result<(), Error> {
     Ok(())
 }
 
+/// Looks at a desk until one has no room in the history, and answers how many had.
+fn fill_history(seat: &mut Seat) -> Result<u64, Error> {
+    for count in 0..1_000_000 {
+        match seat.answer("show a end") {
+            Err(Error::Fault(Fault::NoMemory)) => return Ok(count),
+            shown => assert_eq!(shown?, "values 0 0 0 7\n"),
+        }
+    }
+    panic!("all entries have room");
+}
+
+fn entries_are_refused() -> Result<(), Error> {
+    let mut session = Session::new()?;
+    assert_eq!(session.answer("set s 4")?, "ok\n");
+    assert_eq!(session.answer("field a s 8")?, "ok\n");
+    session.set("a", 3, &[7])?;
+    let desk = Desk::open(&session)?;
+    let mut seat = desk.sit()?;
+    let ballast = vec![0u8; BALLAST];
+    let count = fill_history(&mut seat)?;
+    drop(ballast);
+    assert!(count > 100, "{count} looks have entries");
+    assert_eq!(seat.front(), count);
+    assert_eq!(desk.entry(count)?.kind, Kind::Show);
+    assert_eq!(desk.entry(count + 1), Err(Error::Fault(Fault::NoEntry)));
+    assert_eq!(desk.cut()?, count);
+    assert_eq!(seat.answer("show a end")?, "values 0 0 0 7\n");
+    assert_eq!(desk.entries().count(), 1);
+    Ok(())
+}
+
 fn main() -> Result<(), Box<dyn error::Error>> {
     if env::var_os(LIMITED).is_some() {
         numbers_are_refused()?;
         rows_are_settled_in_part()?;
+        entries_are_refused()?;
         return Ok(());
     }
     let mut limited = Command::new("sh");
