@@ -469,7 +469,7 @@ def test_ctrl_c_in_a_settle_keeps_what_is_settled(libparis: Path) -> None:
         raise KeyboardInterrupt
 
     with Library(libparis) as library, Library(libparis) as other:
-        for line in ("set S 65536", "field a S 64", *["insert end u-truncate-3-1L a a a 64"] * 300):
+        for line in ("set S 65536", "field a S 64", *["insert end u-truncate-3-1L a a a 64"] * 2000):
             library.ask(line)
             other.ask(line)
         before = signal.signal(signal.SIGALRM, interrupt)
@@ -481,8 +481,8 @@ def test_ctrl_c_in_a_settle_keeps_what_is_settled(libparis: Path) -> None:
             signal.setitimer(signal.ITIMER_REAL, 0)
             signal.signal(signal.SIGALRM, before)
         (settled,) = library.ask("settle")
-        assert 0 < int(settled.removeprefix("settled ")) < 300
-        assert other.ask("settle") == ["settled 300"]
+        assert 0 < int(settled.removeprefix("settled ")) < 2000
+        assert other.ask("settle") == ["settled 2000"]
         assert library.ask("list") == other.ask("list")
 
 
