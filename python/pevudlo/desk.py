@@ -24,7 +24,7 @@ from pevudlo.lang.board import Board, Declared
 from pevudlo.lang.faults import FAULTS
 from pevudlo.lang.places import END, Place, spelled
 from pevudlo.lang.replies import Refused, RowFault, Rows, Verdict, parse
-from pevudlo.machine import Machine, RowList
+from pevudlo.machine import Machine, RowList, machine_over, session_of
 from pevudlo.running.seated import SeatedCrew
 from pevudlo.talk import Talk, of_kind
 from pevudlo.values.indices import Index, check_key, shown_part, split
@@ -75,7 +75,7 @@ class Order:
         with self._lock:
             self._desk.execute(self._slot)
 
-    def bring(self, seat: OpenSeat) -> Verdict:
+    def _bring(self, seat: OpenSeat) -> Verdict:
         """Executes it, and has a seat bring the result."""
         with self._lock:
             self._desk.execute(self._slot)
@@ -176,7 +176,7 @@ class Look:
         with self._seat.own:
             if self._machine is None:
                 book = self._seat.snapshot(self._turn)
-                self._machine = Machine.over(self._library, book, self._board_of(book))
+                self._machine = machine_over(self._library, book, self._board_of(book))
             return self._machine
 
     def _board_of(self, book: Book) -> Board:
@@ -244,7 +244,7 @@ class Seat(Editing):
 
     def bring(self, order: Order) -> Verdict:
         """Executes an order, whoever took it, where it isn't executed yet, and brings its result, as an entry."""
-        return order.bring(self._seat)
+        return order._bring(self._seat)
 
     def look(self) -> Look:
         """Looks at the book as it is. It is no entry, and copies no value. The look before shows no more."""
@@ -266,7 +266,7 @@ class Desk:
     def __init__(self, machine: Machine, limit: int = MOST_ENTRIES) -> None:
         if not 0 <= limit <= MOST_ENTRIES:
             raise ValueError(f"a history has 0 to 2^64 - 1 entries, and not {limit}")
-        book, board = machine.session("Desk")
+        book, board = session_of(machine, "Desk")
         with book.lock:
             self._desk = OpenDesk(book, limit)
             self._board = board.copy()
@@ -356,7 +356,7 @@ class Desk:
     def snapshot(self) -> Machine:
         """A machine over the library with the desk's book, and with no order out. Either leaves the other as it is."""
         with self._desk.lock:
-            return Machine.over(self._library, self._desk.snapshot(), self._board.copy())
+            return machine_over(self._library, self._desk.snapshot(), self._board.copy())
 
     def close(self) -> None:
         """Closes the desk. Rows that workers run are waited for, and thrown away. What seats look at stays."""

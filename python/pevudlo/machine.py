@@ -316,27 +316,7 @@ class Machine(Editing):
         inside = self._inside("copy")
         with self._talk.lock:
             book, board, most_bytes = inside.book.copy(), self._board.copy(), inside.history.most_bytes
-            return Machine.over(self.library, book, board, inside.workers, inside.steps, most_bytes)
-
-    @classmethod
-    def over(
-        cls,
-        library: Path | None,
-        book: Book,
-        board: Board,
-        workers: int = 1,
-        steps: int = 0,
-        undo_bytes: int | None = None,
-    ) -> Machine:
-        """A machine over a session of the library at a path, of which this board is."""
-        machine = cls.__new__(cls)
-        machine.program, machine.library = None, library
-        machine._hold(book, board, workers, steps, undo_bytes)
-        return machine
-
-    def session(self, call: str) -> tuple[Book, Board]:
-        """The session of a machine over the library, and its board, for a call. Raises TypeError over a program."""
-        return self._inside(call).book, self._board
+            return machine_over(self.library, book, board, inside.workers, inside.steps, most_bytes)
 
     def unsettled(self) -> tuple[int, ...]:
         """The ids of the rows that are unsettled, in program order."""
@@ -385,3 +365,18 @@ class Machine(Editing):
         """The numbers of a key at a place as they come, or None where it is pending."""
         numbers = self._data.look(key, place)
         return None if isinstance(numbers, Pending) else numbers
+
+
+def machine_over(
+    library: Path | None, book: Book, board: Board, workers: int = 1, steps: int = 0, undo_bytes: int | None = None
+) -> Machine:
+    """A machine over a session of the library at a path, of which this board is."""
+    machine = Machine.__new__(Machine)
+    machine.program, machine.library = None, library
+    machine._hold(book, board, workers, steps, undo_bytes)
+    return machine
+
+
+def session_of(machine: Machine, call: str) -> tuple[Book, Board]:
+    """The session of a machine over the library, and its board, for a call. Raises TypeError over a program."""
+    return machine._inside(call).book, machine._board

@@ -11,7 +11,7 @@ from pathlib import Path
 
 import pytest
 
-from pevudlo import Machine, find
+from pevudlo import Desk, Look, Machine, Order, Seat, find
 
 REPOSITORY = Path(__file__).resolve().parents[2]
 DOCUMENT = REPOSITORY / "docs/PYTHON.md"
@@ -65,9 +65,19 @@ def test_the_gallery_gives_what_the_scripts_of_examples_give() -> None:
 
 def test_the_document_names_each_call() -> None:
     text = DOCUMENT.read_text(encoding="utf-8").split("## Calls and commands")[1].split("\n## ")[0]
-    calls = [name for name in vars(Machine) if not name.startswith("_")]
+    calls = [name for name in dir(Machine) if not name.startswith("_")]
+    assert {"insert", "settle", "copy"} <= set(calls)
     for name in set(calls) - {"close", "process"}:
         assert re.search(rf"`(machine\.)?{name}\b", text), name
+
+
+@pytest.mark.parametrize("kind", [Desk, Seat, Look, Order])
+def test_the_document_names_each_call_of_a_desk(kind: type) -> None:
+    text = DOCUMENT.read_text(encoding="utf-8").split("### Several people at one program")[1].split("\n## ")[0]
+    calls = [name for name in dir(kind) if not name.startswith("_")]
+    assert calls
+    for name in calls:
+        assert re.search(rf"`(look\.|order\.)?{name}\b", text), name
 
 
 def test_bench_measures() -> None:
