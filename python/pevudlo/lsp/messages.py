@@ -35,7 +35,10 @@ class Notice:
 
 @dataclass(frozen=True)
 class Reply:
-    """The client's answer to a request of the server."""
+    """The client's answer to a request of the server. `result` is None where it failed."""
+
+    identity: Identity | None
+    result: Any
 
 
 Incoming = Union[Request, Notice, Reply]
@@ -60,7 +63,7 @@ def read_message(body: bytes) -> Incoming:
     is_told, wrong_identity = "id" not in message, misfit(message.get("id"), IDENTITY, "id")
     identity = None if is_told or wrong_identity else message["id"]
     if "method" not in message and ("result" in message or "error" in message):
-        return Reply()
+        return Reply(identity, message.get("result"))
     if not isinstance(message.get("method"), str):
         known = identity if "method" in message else None
         raise NoMessage(INVALID_REQUEST, "a message has a method, or is an answer", known)

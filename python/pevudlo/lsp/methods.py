@@ -68,6 +68,7 @@ METHODS: dict[str, Method] = {
     "textDocument/didChange": notice(Record({"textDocument": CHANGED, "contentChanges": ListOf(CHANGE)})),
     "textDocument/didSave": notice(OF_FILE),
     "textDocument/didClose": notice(OF_FILE),
+    "$/paris/caret": notice(OF_PLACE),
     "textDocument/inlayHint": request(OF_RANGE, lambda file, params, client: values.hints(file, params)),
     "textDocument/hover": request(
         OF_PLACE, lambda file, params, client: values.hover(file, params, client.has_markdown)

@@ -3,7 +3,7 @@
 from __future__ import annotations
 
 from collections.abc import Callable, Sequence
-from typing import Any
+from typing import Any, Protocol
 
 from pevudlo.document.document import Document
 from pevudlo.document.update import Update
@@ -13,11 +13,25 @@ from pevudlo.progress import PROGRESS, Progress
 from pevudlo.wire.peers import Peer
 
 
+class Given(Protocol):
+    """What lines give, where that doesn't come from the file's own document."""
+
+    def look(self, lines: range) -> None:
+        """These lines are shown from now on."""
+
+    def label(self, number: int) -> str:
+        """The short values of a line."""
+
+    def whole(self, number: int) -> str:
+        """What is said of a line where the cursor is in it."""
+
+
 class Opened:
     """An open file. `lines` is its text, and behind `renew` its document is in step with it.
 
     `is_old`: the text was changed since. `trouble` says why there is no book, where there is none. `is_lost`: a change
-    couldn't be taken in, so that ranges of the text that the editor has are none of this one.
+    couldn't be taken in, so that ranges of the text that the editor has are none of this one. `given` says where values
+    come from, if they aren't the document's.
     """
 
     def __init__(self, uri: str, text: str, version: int, begin: Callable[[], Peer], told: Progress = PROGRESS) -> None:
@@ -30,6 +44,7 @@ class Opened:
         self._kept = (0, 0)
         self.is_old, self.is_saved, self.is_lost = True, False, False
         self.trouble = ""
+        self.given: Given | None = None
 
     @property
     def lines(self) -> Sequence[str]:

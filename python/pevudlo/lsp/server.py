@@ -34,7 +34,7 @@ from pevudlo.lsp.messages import Identity, NoMessage, Notice, Reply, Request, re
 from pevudlo.lsp.methods import METHODS, Answer, Role
 from pevudlo.lsp.opened import Opened
 from pevudlo.lsp.told import Told
-from pevudlo.progress import DELAY, PROGRESS, Later
+from pevudlo.progress import DELAY, PROGRESS, Later, Progress
 from pevudlo.version import release
 from pevudlo.wire.peers import Peer
 from pevudlo.wire.pipe import PipeError
@@ -91,7 +91,7 @@ class Server:
 
     def _read(self, seconds: float | None) -> bool:
         """Takes in what comes within so many seconds. False where nothing does, or it can't be read any more."""
-        if self._is_ended or self._broken is not None or not select.select([self._source], [], [], seconds)[0]:
+        if self._is_ended or self._broken is not None or not self._is_there(seconds):
             return False
         data = os.read(self._source, CHUNK)
         self._is_ended = not data
@@ -103,6 +103,10 @@ class Server:
             # What came before it is answered first.
             self._broken = error
         return True
+
+    def _is_there(self, seconds: float | None) -> bool:
+        """Whether something comes within so many seconds."""
+        return bool(select.select([self._source], [], [], seconds)[0])
 
     def _arrive(self, body: bytes) -> None:
         """Puts a message behind those that wait. A request that is cancelled while it waits is marked."""
@@ -118,7 +122,10 @@ class Server:
             case Request() | Notice():
                 self._queue.append(message)
             case Reply():
-                pass
+                self._hear(message)
+
+    def _hear(self, reply: Reply) -> None:
+        """Takes an answer of the client. Nothing hangs on one here."""
 
     def _send(self, **message: Any) -> None:
         """Sends a message, whole, from any thread."""
@@ -133,10 +140,12 @@ class Server:
         """Tells the client something."""
         self._send(method=method, params=params)
 
-    def _ask(self, method: str, **params: Any) -> None:
-        """Asks the client something, whose answer isn't waited for."""
+    def _ask(self, method: str, **params: Any) -> Identity:
+        """Asks the client something, whose answer isn't waited for. The number of the request."""
         self._asked += 1
-        self._send(id=f"paris-{self._asked}", method=method, params=params)
+        identity = f"paris-{self._asked}"
+        self._send(id=identity, method=method, params=params)
+        return identity
 
     def _take(self, message: Request | Notice) -> None:
         """Answers a request, or does what is told."""
@@ -245,7 +254,11 @@ class Server:
         if item["uri"] in self.files:
             self.files[item["uri"]].document.close()
         told = Later(Told(item["uri"], self._send).tell, LATE) if self._client.shows_progress else PROGRESS
-        self.files[item["uri"]] = Opened(item["uri"], item["text"], item.get("version", 0), self._begin, told)
+        self.files[item["uri"]] = self._opened(item, told)
+
+    def _opened(self, item: dict[str, Any], told: Progress) -> Opened:
+        """A file that is opened."""
+        return Opened(item["uri"], item["text"], item.get("version", 0), self._begin, told)
 
     def _close(self, file: Opened) -> None:
         """Closes a file, of which nothing is wrong then."""
@@ -270,7 +283,7 @@ class Server:
             try:
                 file.renew()
                 file.trouble = ""
-                found = diagnostics(file, self._client.draws_pale)
+                found = self._found(file)
             except Exception as error:
                 file.trouble = str(error) if isinstance(error, SAID) else f"{type(error).__name__}: {error}"
                 found = [told_of(file, 0, ERROR, f"no values: {file.trouble}")]
@@ -279,6 +292,10 @@ class Server:
                 self._tell_values(file)
         if file.trouble:
             raise Failed(REQUEST_FAILED, file.trouble)
+
+    def _found(self, file: Opened) -> list[dict[str, Any]]:
+        """What is wrong in a file that is in step."""
+        return diagnostics(file, self._client.draws_pale)
 
     def _publish(self, file: Opened, found: list[dict[str, Any]]) -> None:
         """Tells what is wrong, where that is other than it was."""
@@ -289,7 +306,10 @@ class Server:
     def _tell_values(self, file: Opened) -> None:
         """Tells that values may be others, and what the last update did."""
         done = file.done
-        said = {"text": headline(file.document, done), "ran": done.count, "rows": done.rows}
-        self._tell("$/paris/ran", uri=file.uri, **said)
-        if self._client.refreshes_hints and done.sent:
+        self._tell_ran(file, headline(file.document, done), bool(done.sent))
+
+    def _tell_ran(self, file: Opened, words: str, is_new: bool) -> None:
+        """Tells what the last update did, in words; where values are new, that they are asked for again."""
+        self._tell("$/paris/ran", uri=file.uri, text=words, ran=file.done.count, rows=file.done.rows)
+        if self._client.refreshes_hints and is_new:
             self._ask("workspace/inlayHint/refresh")

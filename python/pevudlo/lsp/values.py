@@ -15,7 +15,7 @@ from pevudlo.draw.arrays import differing
 from pevudlo.draw.grids import Grid, shape_text, text_of
 from pevudlo.lang.instructions import INSTRUCTIONS, read
 from pevudlo.lang.keys import axes_of, context_of, width_of
-from pevudlo.lsp.opened import Opened
+from pevudlo.lsp.opened import Given, Opened
 from pevudlo.lsp.spots import Place, name_at, place_of
 from pevudlo.record.numbers import Numbers
 from pevudlo.reference.entry import Entry
@@ -34,8 +34,10 @@ STORES_NOTHING = "! it stores nothing"
 
 def hints(file: Opened, params: dict[str, Any]) -> list[dict[str, Any]]:
     """The short values of the lines of a range."""
-    found: list[dict[str, Any]] = []
-    for number in file.range_of(params["range"]):
+    found, lines = list[dict[str, Any]](), file.range_of(params["range"])
+    if file.given is not None:
+        file.given.look(lines)
+    for number in lines:
         text = hint(file, number) if len(found) < MOST_LINES else ""
         if text:
             place = file.position(number, len(file.document.lines[number]))
@@ -46,6 +48,8 @@ def hints(file: Opened, params: dict[str, Any]) -> list[dict[str, Any]]:
 def hint(file: Opened, number: int) -> str:
     """The short values of a line, or what became of its row. Why a line is refused is told elsewhere."""
     shown = file.document.shown[number]
+    if file.given is not None:
+        return file.given.label(number)
     if shown.refused:
         return ""
     if shown.row is not None and shown.row.book in file.document.book.faults:
@@ -64,7 +68,8 @@ class Part(NamedTuple):
 def hover(file: Opened, params: dict[str, Any], is_marked: bool) -> dict[str, Any] | None:
     """What is known of the word under the cursor, in Markdown or plain."""
     place = place_of(file, params)
-    parts = list(parts_of(file.document, place)) if place.number < len(file.document.lines) else []
+    told = parts_of(file.document, place) if file.given is None else parts_given(file.given, place)
+    parts = list(told) if place.number < len(file.document.lines) else []
     if not parts:
         return None
     texts = [marked(part) if is_marked else f"{part.words}\n{part.block}".rstrip() for part in parts]
@@ -75,6 +80,15 @@ def hover(file: Opened, params: dict[str, Any], is_marked: bool) -> dict[str, An
 def marked(part: Part) -> str:
     """A part in Markdown."""
     return f"{part.words}\n```text\n{part.block}\n```" if part.block else part.words
+
+
+def parts_given(given: Given, place: Place) -> Iterator[Part]:
+    """What is said of a word of a file whose values come from elsewhere."""
+    said = given.whole(place.number)
+    if said and place.word:
+        yield Part("", said)
+    if place.word in INSTRUCTIONS or (place.start == 0 and place.word):
+        yield from (of_reference(entry) for entry in find(place.word))
 
 
 def parts_of(document: Document, place: Place) -> Iterator[Part]:

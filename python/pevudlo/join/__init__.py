@@ -1,0 +1,1 @@
+"""An editor at a program of several people: the lines that all share, in step with the editor's text."""
