@@ -1,4 +1,4 @@
-"""People who edit one program in editors of several manners, a server, and a seeded scheduler of all that is on its way.
+"""People who edit one program in editors of several manners, a server, and a scheduler of all that is on its way.
 
 Each line that somebody types has a word that stands nowhere else. So at the end it is seen whether one was lost, or is
 there twice.

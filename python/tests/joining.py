@@ -57,7 +57,7 @@ class Joining(Editor):
 
     def hear(self, seconds: float = 0.0) -> None:
         """Takes in what comes within so many seconds."""
-        while select.select([self.source], [], [], seconds)[0]:
+        while self._rest or select.select([self.source], [], [], seconds)[0]:
             self.take(self.more())
 
     def take(self, message: Message) -> None:

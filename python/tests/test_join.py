@@ -4,8 +4,6 @@ from __future__ import annotations
 
 import asyncio
 import os
-import re
-import time
 from collections.abc import Callable
 from contextlib import ExitStack
 from pathlib import Path
