@@ -6,6 +6,7 @@
 ;;; Code:
 
 (require 'cl-lib)
+(require 'subr-x)
 
 (defvar eglot-send-changes-idle-time)
 (defvar eglot-server-programs)
@@ -13,13 +14,26 @@
 (declare-function eglot--pos-to-lsp-position "eglot")
 (declare-function eglot--TextDocumentIdentifier "eglot")
 (declare-function eglot--uri-to-path "eglot")
+(declare-function eglot--lsp-position-to-point "eglot")
+(declare-function eglot--server-capable "eglot")
 (declare-function jsonrpc-async-request "jsonrpc")
+(declare-function jsonrpc-notify "jsonrpc")
 
 (defvar-local paris-mode-ran nil
   "What the last update of the server did.")
 
 (defvar-local paris-mode-values nil
   "The overlays that have the values of lines.")
+
+(defvar-local paris-mode-carets nil
+  "The overlays that show where others are.")
+
+(defvar-local paris-mode-caret nil
+  "The timer that tells where point is.")
+
+(defface paris-mode-caret '((t :inherit highlight))
+  "Others' carets, and their names."
+  :group 'paris-mode)
 
 (defface paris-mode-value '((t :inherit shadow))
   "Values beside lines."
@@ -46,6 +60,7 @@
   (setq-local font-lock-defaults '(paris-mode-font-lock))
   (setq-local eglot-send-changes-idle-time 0.1)
   (add-hook 'window-scroll-functions #'paris-mode-scrolled nil t)
+  (add-hook 'post-command-hook #'paris-mode-moved nil t)
   (setq-local mode-line-process '(:eval (if paris-mode-ran (concat " " paris-mode-ran) ""))))
 
 ;;;###autoload
@@ -104,6 +119,42 @@ Where eglot isn't there, says how it is installed."
   "Asks what the lines give that are visible in WINDOW now, once it is drawn."
   (run-with-timer 0 nil #'paris-mode-ask (window-buffer window)))
 
+;; Where others are in a program of several people, which `paris lsp --join' tells.
+
+(defun paris-mode-draw-caret (caret)
+  "The overlays that show CARET: a mark at its place, and the name with what is typed at the end of its line."
+  (save-excursion
+    (save-restriction
+      (widen)
+      (let* ((place (eglot--lsp-position-to-point caret))
+             (end (progn (goto-char place) (line-end-position)))
+             (typed (plist-get caret :text))
+             (name (concat "  " (plist-get caret :name) (if (string-empty-p typed) "" (concat ": " typed))))
+             (overlays (list (make-overlay place place) (make-overlay end end))))
+        (overlay-put (car overlays) 'before-string (propertize "|" 'face 'paris-mode-caret))
+        (overlay-put (cadr overlays) 'after-string (propertize name 'face 'paris-mode-caret))
+        overlays))))
+
+(defun paris-mode-draw-carets (carets)
+  "Draws CARETS, where others are, in this buffer."
+  (mapc #'delete-overlay paris-mode-carets)
+  (setq paris-mode-carets (mapcan #'paris-mode-draw-caret (append carets nil))))
+
+(defun paris-mode-moved ()
+  "Tells the server where point is once it rests for a moment, where others see it."
+  (when (and (not paris-mode-caret) (fboundp 'eglot-current-server) (eglot-current-server)
+             (eglot--server-capable :experimental :parisCarets))
+    (setq paris-mode-caret (run-with-idle-timer 0.1 nil #'paris-mode-tell-caret (current-buffer)))))
+
+(defun paris-mode-tell-caret (buffer)
+  "Tells the server where point is in BUFFER."
+  (when (buffer-live-p buffer)
+    (with-current-buffer buffer
+      (setq paris-mode-caret nil)
+      (when-let ((server (eglot-current-server)))
+        (jsonrpc-notify server :$/paris/caret
+                        (list :textDocument (eglot--TextDocumentIdentifier) :position (eglot--pos-to-lsp-position)))))))
+
 (with-eval-after-load 'eglot
   (add-to-list 'eglot-server-programs (cons 'paris-mode paris-mode-server))
   (cl-defmethod eglot-handle-notification (_server (_method (eql $/paris/ran)) &key uri text &allow-other-keys)
@@ -112,7 +163,12 @@ Where eglot isn't there, says how it is installed."
       (with-current-buffer buffer
         (setq paris-mode-ran text)
         (force-mode-line-update)
-        (paris-mode-ask buffer)))))
+        (paris-mode-ask buffer))))
+  (cl-defmethod eglot-handle-notification (_server (_method (eql $/paris/carets)) &key uri carets &allow-other-keys)
+    "Draws CARETS, where others are in the file URI."
+    (when-let ((buffer (find-buffer-visiting (eglot--uri-to-path uri))))
+      (with-current-buffer buffer
+        (paris-mode-draw-carets carets)))))
 
 (provide 'paris-mode)
 ;;; paris-mode.el ends here

@@ -1,12 +1,14 @@
 -- For Neovim from 0.7 on: starts `paris lsp` for scripts, and draws beside the visible lines what they give.
--- `vim.g.paris_command` may say another command, such as { "/opt/paris/paris", "lsp", "--workers", "4" }.
+-- `vim.g.paris_command` may say another command, such as { "/opt/paris/paris", "lsp", "--workers", "4" }, or one with --join.
 if vim.g.loaded_paris_server then
   return
 end
 vim.g.loaded_paris_server = true
 
 local space = vim.api.nvim_create_namespace("paris")
+local carets = vim.api.nvim_create_namespace("paris-carets")
 local method = "textDocument/inlayHint"
+local caret_pause = 100
 
 -- Clients have methods from 0.11 on, and functions before.
 local function request(client, ...)
@@ -61,6 +63,63 @@ vim.lsp.handlers["$/paris/ran"] = function(_, result, context)
   vim.cmd("redrawstatus")
 end
 
+-- Where others are in a program of several people, which `paris lsp --join` tells: their names, and what they type.
+local function draw_caret(buffer, caret)
+  local line = vim.api.nvim_buf_get_lines(buffer, caret.line, caret.line + 1, false)[1]
+  if not line then
+    return
+  end
+  local typed = caret.text ~= "" and ": " .. caret.text or ""
+  local mark = { virt_text = { { "  ▏" .. caret.name .. typed, "Special" } }, hl_mode = "combine" }
+  local known, column = pcall(vim.str_byteindex, line, caret.character, true)
+  local letter = known and line:byte(column + 1)
+  -- The letter at the caret is marked too, where it is of one byte.
+  if letter and letter < 128 then
+    mark.end_row, mark.end_col, mark.hl_group = caret.line, column + 1, "IncSearch"
+  end
+  pcall(vim.api.nvim_buf_set_extmark, buffer, carets, caret.line, mark.end_col and column or 0, mark)
+end
+
+vim.lsp.handlers["$/paris/carets"] = function(_, result)
+  local buffer = vim.uri_to_bufnr(result.uri)
+  if vim.api.nvim_buf_is_loaded(buffer) then
+    vim.api.nvim_buf_clear_namespace(buffer, carets, 0, -1)
+    for _, caret in ipairs(result.carets) do
+      draw_caret(buffer, caret)
+    end
+  end
+end
+
+local function wants_carets(client)
+  local said = (client.server_capabilities or {}).experimental
+  return type(said) == "table" and said.parisCarets == true
+end
+
+local function notify(client, ...)
+  if vim.fn.has("nvim-0.11") == 1 then
+    client:notify(...)
+  else
+    client.notify(...)
+  end
+end
+
+-- Tells where the cursor is, once it rests for a moment.
+local is_told = true
+local function tell_caret(buffer)
+  local client = begun_client_of(buffer)
+  if not is_told or not client or not wants_carets(client) then
+    return
+  end
+  is_told = false
+  vim.defer_fn(function()
+    is_told = true
+    if vim.api.nvim_get_current_buf() == buffer and begun_client_of(buffer) then
+      local place = vim.lsp.util.make_position_params(0, "utf-16")
+      notify(client, "$/paris/caret", { textDocument = place.textDocument, position = place.position })
+    end
+  end, caret_pause)
+end
+
 local function map(buffer, key, act)
   vim.keymap.set("n", key, act, { buffer = buffer })
 end
@@ -112,5 +171,12 @@ vim.api.nvim_create_autocmd({ "WinScrolled", "BufWinEnter" }, {
     if client then
       draw_all(client, at.buf)
     end
+  end,
+})
+vim.api.nvim_create_autocmd({ "CursorMoved", "CursorMovedI" }, {
+  group = group,
+  pattern = "*.paris",
+  callback = function(at)
+    tell_caret(at.buf)
   end,
 })
