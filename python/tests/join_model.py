@@ -86,6 +86,7 @@ class Server:
     seats: int
     words: Words
     number: int = 0
+    first: int = 1
     told: list[deque[Told]] = field(default_factory=list)
 
     def __post_init__(self) -> None:
@@ -98,10 +99,22 @@ class Server:
         lines = [[number, text, 0] for number, text in zip(self.lines.ids, self.lines.texts)]
         self.told[seat].append({"text": {"n": self.number, "lines": lines}})
 
-    def edit(self, seat: int, changes: list[Change]) -> None:
-        """Does an edit of a seat."""
+    def begin(self) -> None:
+        """A new chapter with the same text: all lines have other ids."""
+        self.first = self.lines.next
+        self.lines = Lines.of(self.lines.texts, self.first, 0)
+        self.number += 1
+        for at in range(self.seats):
+            self.tell_text(at)
+
+    def edit(self, seat: int, changes: list[Change], is_busy: bool) -> None:
+        """Does an edit of a seat, or says that it is busy. One of an earlier chapter takes no line out."""
+        if is_busy:
+            self.told[seat].append({"refused": "wait a moment"})
+            return
         done, clashes, put = self.lines.take_all(changes, seat, f"Seat {seat}")
-        self.words.back |= {clash.mine for clash in clashes}
+        stale = {core(change.was) for change in changes if change.id < self.first}
+        self.words.back |= stale | {clash.mine for clash in clashes}
         self.number += bool(done)
         self.told[seat].append({"answer": {"n": self.number, "put": put}})
         self.tell(done, seat)
@@ -220,10 +233,23 @@ class Typist:
         told = self.server.told[self.seat].popleft()
         if "text" in told:
             self.state.told_text(told["text"])
+        elif "refused" in told:
+            self.state.refused(True, self.now)
         elif "answer" in told:
             self.state.accepted(told["answer"]["n"], told["answer"]["put"])
         for op in told.get("ops", ()):
             self.state.told_op(op)
+
+    def arrive(self) -> None:
+        """An edit arrives at the server, which is busy at times."""
+        self.server.edit(self.seat, self.to_server.popleft(), self.choose.random() < 0.1)
+
+    def part(self) -> None:
+        """The connection ends, with all that is on its way, and another one begins."""
+        self.to_server.clear()
+        self.server.told[self.seat].clear()
+        self.state.parted()
+        self.server.tell_text(self.seat)
 
     def step(self) -> bool:
         """Sends what is next."""
@@ -241,7 +267,7 @@ class Typist:
         found: list[Act] = [lambda: self.to_state.popleft()()] if self.to_state else []
         found += [] if self.is_told else [self.tell]
         found += [self.take_edit] if self.to_editor else []
-        found += [lambda: self.server.edit(self.seat, self.to_server.popleft())] if self.to_server else []
+        found += [self.arrive] if self.to_server else []
         return found + ([self.hear] if self.server.told[self.seat] else [])
 
 
@@ -274,6 +300,11 @@ class Play:
             before = lines.ids[at - 1] if at else 0
             self.done.append(Done(Op.DELETE, done.id, after=before, was=done.was))
 
+    def begin(self) -> None:
+        """A new chapter begins."""
+        self.done.clear()
+        self.server.begin()
+
     def run(self, steps: int) -> None:
         """So many things happen."""
         for _ in range(steps):
@@ -284,6 +315,8 @@ class Play:
                 typist.type()
             elif luck < 0.14:
                 self.visit()
+            elif luck < 0.145:
+                self.choose.choice((typist.part, typist.part, self.begin))()
             elif luck < 0.5:
                 typist.step()
             elif acts:
@@ -305,7 +338,8 @@ class Play:
     def check(self) -> None:
         """All have one text, and each word that nobody took out is in it once; no other one is in it twice.
 
-        Where somebody moved a line that came second, or that a visitor took out and put back, both are there.
+        Where somebody moved a line that came second, that a visitor took out and put back, or that a new chapter gave
+        another id, both are there.
         """
         texts = self.server.lines.texts
         for typist in self.typists:

@@ -30,11 +30,15 @@ class Line:
 
 @dataclass(frozen=True)
 class Slot:
-    """A line of a base, of what it is to become, or of both: `old` and `new` are its texts there."""
+    """A line of a base, of what it is to become, or of both: `old` and `new` are its texts there.
+
+    One that `is_moved` stands elsewhere in what the base is to become, and has a slot at either place.
+    """
 
     id: int
     old: str | None
     new: str | None
+    is_moved: bool = False
 
 
 @dataclass(frozen=True)
@@ -46,19 +50,15 @@ class Both:
 
 
 def slots(base: Sequence[Line], target: Sequence[Line]) -> list[Slot]:
-    """The lines of a base and of what it is to become, in one order.
-
-    A line that stands elsewhere in the target goes first: it comes back once the base has it no more.
-    """
+    """The lines of a base and of what it is to become, in one order."""
     found: list[Slot] = []
-    known = {line.id for line in base}
+    ours, theirs = {line.id for line in base}, {line.id for line in target}
     at = to = 0
     for one, other in [*matched(ids_of(base), ids_of(target)), (len(base), len(target))]:
-        found += [Slot(line.id, line.text, None) for line in base[at:one]]
-        found += [Slot(line.id, None, line.text) for line in target[to:other] if line.id not in known]
-        found += [
-            Slot(line.id, line.text, to_be.text) for line, to_be in zip(base[one : one + 1], target[other : other + 1])
-        ]
+        found += [Slot(line.id, line.text, None, line.id in theirs) for line in base[at:one]]
+        found += [Slot(line.id, None, line.text, line.id in ours) for line in target[to:other]]
+        both = zip(base[one : one + 1], target[other : other + 1])
+        found += [Slot(line.id, line.text, to_be.text) for line, to_be in both]
         at, to = one + 1, other + 1
     return found
 
@@ -93,10 +93,12 @@ def seen(base: Sequence[Line], target: Sequence[Line], texts: Sequence[str], is_
     olds, news = (other, one) if is_likely else (one, other)
     kept: list[Line] = []
     for slot in slots(base, target):
-        if slot.new is not None and (slot.id in news or slot.new == slot.old):
+        is_old, is_new = slot.id in olds, slot.id in news
+        is_new = is_likely and (is_new or slot.is_moved and not is_old) or is_new and not is_old
+        if slot.new is not None and (is_new or slot.new == slot.old):
             kept.append(Line(slot.id, slot.new))
-        elif slot.old is not None and (slot.new is not None or slot.id in olds):
-            kept.append(Line(slot.id, slot.old))
+        elif slot.old is not None and (slot.new is not None or is_old or slot.is_moved):
+            kept += [] if slot.is_moved and is_new else [Line(slot.id, slot.old)]
     return kept
 
 
@@ -130,10 +132,11 @@ def merged(base: Sequence[Line], target: Sequence[Line], texts: Sequence[str], t
     """
     both = [each for each in side_by_side(base, texts) if each.base is not None and each.at is not None]
     places = {base[each.base].id: each.at for each in both if each.base is not None}
+    still = {line.id for line in base if line.text == text_at(texts, places.get(line.id), typed)}
     out, kept, done = list[str](), list[Line](), 0
     for slot in slots(base, target):
         at = places.get(slot.id) if slot.old is not None else None
-        put, line = away(slot) if at is None else met(slot, texts[at], at == typed)
+        put, line = away(slot, still) if at is None else met(slot, texts[at], slot.id in still)
         out += texts[done:at] if at is not None else []
         out += [] if put is None else [put]
         kept += [] if line is None else [line]
@@ -145,19 +148,27 @@ Met = tuple[str | None, Line | None]
 """What stands in the text for a line, and the line in its base."""
 
 
-def away(slot: Slot) -> Met:
-    """What becomes of a line that isn't in the text: others put it, or it was taken out there."""
+def text_at(texts: Sequence[str], at: int | None, typed: int | None) -> str | None:
+    """The text at an index; None where it is being typed, or there is none."""
+    return None if at is None or at == typed else texts[at]
+
+
+def away(slot: Slot, still: Collection[int]) -> Met:
+    """What becomes of a line that isn't in the text: others put it, or it was taken out there.
+
+    One that others moved goes to its place if it is `still` as it was, and else stays where it was.
+    """
     if slot.old is None and slot.new is not None:
-        return slot.new, Line(slot.id, slot.new)
-    is_everywhere = slot.old is not None and slot.new is not None
+        return (slot.new, Line(slot.id, slot.new)) if not slot.is_moved or slot.id in still else (None, None)
+    is_everywhere = slot.old is not None and (slot.new is not None or slot.is_moved)
     return None, Line(slot.id, slot.old or "") if is_everywhere else None
 
 
-def met(slot: Slot, text: str, is_typed: bool) -> Met:
-    """What becomes of a line that is in the text as it stands there."""
+def met(slot: Slot, text: str, is_still: bool) -> Met:
+    """What becomes of a line that is in the text, as it was there still or as another one."""
     if text == slot.new:
         return text, Line(slot.id, text)
-    if text != slot.old or is_typed:
+    if not is_still:
         return text, Line(slot.id, slot.old or "")
     return (None, None) if slot.new is None else (slot.new, Line(slot.id, slot.new))
 

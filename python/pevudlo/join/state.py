@@ -12,7 +12,7 @@ from dataclasses import dataclass, field, replace
 from typing import Any, Union
 
 from pevudlo.document.differences import matched
-from pevudlo.join.merging import FIRST_PUT, Line, begun, distance, merged, seen, wanted
+from pevudlo.join.merging import FIRST_PUT, Line, begun, distance, merged, seen, texts_of, wanted
 from pevudlo.join.shared import Shared
 from pevudlo.serve.lines import Change, Op
 
@@ -176,12 +176,12 @@ class State:
 
     def _rename(self) -> None:
         """The lines of a new chapter have other ids: those with the same texts are the same lines."""
-        target = self.base if self.put is None else self.put.target
-        pairs = matched([line.text for line in target], self.shared.texts)
-        names = {target[one].id: self.shared.lines[other].id for one, other in pairs}
+        names = same_lines(self.base if self.put is None else self.put.target, self.shared.lines)
         self.base = renamed(self.base, names)
         if self.put is not None:
             self.put.target = renamed(self.put.target, names)
+        if self.sent is not None:
+            self.sent.before = renamed(self.sent.before, same_lines(self.sent.before, self.shared.lines))
 
     def told_op(self, told: Mapping[str, Any]) -> None:
         """The server told what was done to a line. Raises Strange."""
@@ -288,3 +288,8 @@ class State:
 def renamed(lines: Sequence[Line], names: Mapping[int, int]) -> list[Line]:
     """Lines with other ids, where they have one."""
     return [replace(line, id=names.get(line.id, line.id)) for line in lines]
+
+
+def same_lines(lines: Sequence[Line], others: Sequence[Line]) -> dict[int, int]:
+    """The ids of other lines that have the same texts, by the ids of these."""
+    return {lines[one].id: others[other].id for one, other in matched(texts_of(lines), texts_of(others))}
