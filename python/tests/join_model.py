@@ -274,9 +274,9 @@ class Typist:
 class Play:
     """Some typists at one program, and a visitor in a browser. All is determined by a seed."""
 
-    def __init__(self, seed: int, manners: tuple[Manner, ...], most_behind: float = 0.6) -> None:
+    def __init__(self, seed: int, manners: tuple[Manner, ...]) -> None:
         self.choose = random.Random(seed)
-        self.words, self.most_behind = Words(), most_behind
+        self.words, self.has_chapters = Words(), seed % 3 == 0
         begin = [self.words.new(VISITOR) for _ in range(12)]
         begin[3:3] = COMMON
         self.server = Server(Lines.of(begin, 1, 0), len(manners), self.words)
@@ -301,8 +301,11 @@ class Play:
             self.done.append(Done(Op.DELETE, done.id, after=before, was=done.was))
 
     def begin(self) -> None:
-        """A new chapter begins."""
+        """A new chapter begins, in some plays."""
+        if not self.has_chapters:
+            return
         self.done.clear()
+        self.words.back |= self.words.moved
         self.server.begin()
 
     def run(self, steps: int) -> None:

@@ -6,6 +6,7 @@ the order in which they stand in its text, each with the text that it had when i
 
 from __future__ import annotations
 
+from collections import Counter
 from collections.abc import Collection, Iterator, Sequence
 from dataclasses import dataclass, field
 from itertools import zip_longest
@@ -89,8 +90,10 @@ def seen(base: Sequence[Line], target: Sequence[Line], texts: Sequence[str], is_
     found = matched(texts_of(first), texts)
     taken = {at for _, at in found}
     one = {first[at].id for at, _ in found}
-    other = {second[at].id for at, to in matched(texts_of(second), texts) if to not in taken}
+    left = [(at, to) for at, to in matched(texts_of(second), texts) if to not in taken]
+    other = {second[at].id for at, _ in left}
     olds, news = (other, one) if is_likely else (one, other)
+    news |= elsewhere(target, texts, taken | {to for _, to in left})
     kept: list[Line] = []
     for slot in slots(base, target):
         is_old, is_new = slot.id in olds, slot.id in news
@@ -100,6 +103,13 @@ def seen(base: Sequence[Line], target: Sequence[Line], texts: Sequence[str], is_
         elif slot.old is not None and (slot.new is not None or is_old or slot.is_moved):
             kept += [] if slot.is_moved and is_new else [Line(slot.id, slot.old)]
     return kept
+
+
+def elsewhere(lines: Sequence[Line], texts: Sequence[str], taken: Collection[int]) -> set[int]:
+    """The lines whose texts stand once in them, and once in a text at an index that isn't taken: somebody moved them."""
+    ours, theirs = Counter(texts_of(lines)), Counter(texts)
+    free = {text for at, text in enumerate(texts) if at not in taken and theirs[text] == 1}
+    return {line.id for line in lines if line.text in free and ours[line.text] == 1}
 
 
 def distance(one: Sequence[str], other: Sequence[str]) -> int:
