@@ -8,9 +8,10 @@ from __future__ import annotations
 
 import json
 import random
-from collections import deque
+from collections import Counter, deque
 from collections.abc import Callable
 from dataclasses import dataclass, field
+from enum import Enum
 from itertools import count
 from typing import Any
 
@@ -60,7 +61,8 @@ class Words:
     made: dict[str, int] = field(default_factory=dict)
     dropped: set[str] = field(default_factory=set)
     moved: set[str] = field(default_factory=set)
-    back: set[str] = field(default_factory=set)
+    second: set[str] = field(default_factory=set)
+    twice: set[str] = field(default_factory=set)
 
     def new(self, by: int) -> str:
         """A word of a seat that stands nowhere."""
@@ -113,8 +115,8 @@ class Server:
             self.told[seat].append({"refused": "wait a moment"})
             return
         done, clashes, put = self.lines.take_all(changes, seat, f"Seat {seat}")
-        stale = {core(change.was) for change in changes if change.id < self.first}
-        self.words.back |= stale | {clash.mine for clash in clashes}
+        self.words.twice |= {core(change.was) for change in changes if change.id < self.first}
+        self.words.second |= {clash.mine for clash in clashes}
         self.number += bool(done)
         self.told[seat].append({"answer": {"n": self.number, "put": put}})
         self.tell(done, seat)
@@ -271,12 +273,20 @@ class Typist:
         return found + ([self.hear] if self.server.told[self.seat] else [])
 
 
+class Trouble(Enum):
+    """What disturbs a play."""
+
+    NONE = "nothing"
+    LOST = "connections are lost, with what is on its way"
+    CHAPTERS = "new chapters begin, in which all lines have other ids"
+
+
 class Play:
     """Some typists at one program, and a visitor in a browser. All is determined by a seed."""
 
     def __init__(self, seed: int, manners: tuple[Manner, ...]) -> None:
         self.choose = random.Random(seed)
-        self.words, self.has_chapters = Words(), seed % 3 == 0
+        self.words, self.trouble = Words(), [*Trouble][seed % len(Trouble)]
         begin = [self.words.new(VISITOR) for _ in range(12)]
         begin[3:3] = COMMON
         self.server = Server(Lines.of(begin, 1, 0), len(manners), self.words)
@@ -290,7 +300,7 @@ class Play:
         if self.done and self.choose.random() < 0.4:
             back = inverse_of(self.done.pop())
             if back.op is Op.INSERT or lines.at(back.id) is not None:
-                self.words.back.add(core(back.text))
+                self.words.twice.add(core(back.text))
                 self.server.do([back], VISITOR)
         elif lines.ids:
             at = self.choose.randrange(len(lines.ids))
@@ -300,13 +310,14 @@ class Play:
             before = lines.ids[at - 1] if at else 0
             self.done.append(Done(Op.DELETE, done.id, after=before, was=done.was))
 
-    def begin(self) -> None:
-        """A new chapter begins, in some plays."""
-        if not self.has_chapters:
-            return
-        self.done.clear()
-        self.words.back |= self.words.moved
-        self.server.begin()
+    def disturb(self, typist: Typist) -> None:
+        """A connection is lost, or a new chapter begins. In a third of the plays neither is so."""
+        if self.trouble is Trouble.LOST:
+            typist.part()
+        elif self.trouble is Trouble.CHAPTERS:
+            self.done.clear()
+            self.words.twice |= self.words.moved
+            self.server.begin()
 
     def run(self, steps: int) -> None:
         """So many things happen."""
@@ -319,7 +330,7 @@ class Play:
             elif luck < 0.14:
                 self.visit()
             elif luck < 0.145:
-                self.choose.choice((typist.part, typist.part, self.begin))()
+                self.disturb(typist)
             elif luck < 0.5:
                 typist.step()
             elif acts:
@@ -333,7 +344,7 @@ class Play:
                 return
             is_moving = False
             for typist in self.typists:
-                typist.now += 2.5
+                typist.now += 10.0
                 for act in typist.acts()[:1] or [typist.step]:
                     is_moving = act() is not False or is_moving
         raise AssertionError("it doesn't come to rest")
@@ -341,17 +352,15 @@ class Play:
     def check(self) -> None:
         """All have one text, and each word that nobody took out is in it once; no other one is in it twice.
 
-        Where somebody moved a line that came second, that a visitor took out and put back, or that a new chapter gave
-        another id, both are there.
+        A line that a visitor took out and put back, or that somebody moves while a new chapter begins, may be there as
+        another one too. So may one that came second, where it is moved, or the answer is lost.
         """
         texts = self.server.lines.texts
         for typist in self.typists:
             assert typist.lines == texts, typist.manner
             assert typist.state.is_at_rest
-        counts: dict[str, int] = {}
-        for text in map(core, texts):
-            counts[text] = counts.get(text, 0) + 1
+        second = self.words.second if self.trouble is Trouble.LOST else self.words.second & self.words.moved
+        counts = Counter(map(core, texts))
         for word in self.words.made:
-            there, both = counts.get(word, 0), word in self.words.moved & self.words.back
-            assert word in self.words.dropped or there >= 1, f"{word} is lost"
-            assert there <= 1 + both, f"{word} is there {there} times"
+            assert word in self.words.dropped or counts[word] >= 1, f"{word} is lost"
+            assert counts[word] <= 1 or word in self.words.twice | second, f"{word} is there {counts[word]} times"
