@@ -60,7 +60,7 @@ class Words:
     numbers: count[int] = field(default_factory=lambda: count(1))
     made: dict[str, int] = field(default_factory=dict)
     dropped: set[str] = field(default_factory=set)
-    moved: set[str] = field(default_factory=set)
+    moved: dict[str, set[int]] = field(default_factory=dict)
     second: set[str] = field(default_factory=set)
     twice: set[str] = field(default_factory=set)
 
@@ -73,6 +73,11 @@ class Words:
     def drop(self, text: str) -> None:
         """Somebody takes a line out, which may say what came second."""
         self.dropped.add(core(text))
+
+    def move(self, texts: list[str], by: int) -> None:
+        """A seat moves a line over others. It may be seen as if these had been moved over it."""
+        for text in texts:
+            self.moved.setdefault(core(text), set()).add(by)
 
 
 def core(text: str) -> str:
@@ -189,14 +194,15 @@ class Typist:
         return None
 
     def move(self) -> None:
-        """Moves a line of one's own: where two move one line, it stands twice, and rightly so."""
+        """Moves a line of one's own."""
         own = [at for at, line in enumerate(self.lines) if self.words.made.get(line) == self.seat]
         if not own or self.manner.counts_told:
             return self.put_lines()
-        line = self.lines.pop(self.choose.choice(own))
-        self.words.moved.add(line)
+        at = self.choose.choice(own)
+        line = self.lines.pop(at)
         self.last = self.place()
         self.lines.insert(self.last, line)
+        self.words.move(self.lines[min(at, self.last) : max(at, self.last) + 1], self.seat)
         return None
 
     # What the editor does.
@@ -316,7 +322,7 @@ class Play:
             typist.part()
         elif self.trouble is Trouble.CHAPTERS:
             self.done.clear()
-            self.words.twice |= self.words.moved
+            self.words.twice |= self.words.moved.keys()
             self.server.begin()
 
     def run(self, steps: int) -> None:
@@ -353,14 +359,16 @@ class Play:
         """All have one text, and each word that nobody took out is in it once; no other one is in it twice.
 
         A line that a visitor took out and put back, or that somebody moves while a new chapter begins, may be there as
-        another one too. So may one that came second, where it is moved, or the answer is lost.
+        another one too. So may one that two moved, and one that came second, where it is moved or the answer is lost.
         """
         texts = self.server.lines.texts
         for typist in self.typists:
             assert typist.lines == texts, typist.manner
             assert typist.state.is_at_rest
-        second = self.words.second if self.trouble is Trouble.LOST else self.words.second & self.words.moved
+        moved = self.words.moved
+        second = self.words.second if self.trouble is Trouble.LOST else self.words.second & moved.keys()
+        twice = self.words.twice | second | {word for word, seats in moved.items() if len(seats) > 1}
         counts = Counter(map(core, texts))
         for word in self.words.made:
             assert word in self.words.dropped or counts[word] >= 1, f"{word} is lost"
-            assert counts[word] <= 1 or word in self.words.twice | second, f"{word} is there {counts[word]} times"
+            assert counts[word] <= 1 or word in twice, f"{word} is there {counts[word]} times"

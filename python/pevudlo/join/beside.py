@@ -34,12 +34,10 @@ def short_value(value: Sequence[Any], is_look: bool) -> str:
     """A key with its first numbers. Of a row a flag's set isn't said."""
     key, width, axes, words = value
     numbers = list(map(int, words.split()))
-    name = key if is_look else key.partition(".")[2] or key
-    total = prod(axes)
+    name, total = key if is_look else key.partition(".")[2] or key, prod(axes)
     if len(numbers) == total:
         return f"{name} {short(numbers, None, width)}"
-    shown = [word for at, word in enumerate(words.split()) if len(" ".join(words.split()[: at + 1])) <= MOST]
-    return f"{name} {' '.join(shown)} … {total:,}"
+    return f"{name} {words[:MOST].rpartition(' ')[0]} … {total:,}"
 
 
 def whole(told: Told) -> str:

@@ -75,7 +75,7 @@ def texts_of(lines: Sequence[Line]) -> list[str]:
 
 
 def begun(shared: Sequence[Line], texts: Sequence[str]) -> list[Line]:
-    """The base of a text that somebody joins with. Lines of it that aren't shared are as if others had taken them out."""
+    """The base of a text that somebody joins with. Lines of it that aren't shared are as if others took them out."""
     known = {at: shared[one].id for one, at in matched(texts_of(shared), texts)}
     return [Line(known.get(at, NO_LINE + at), text) for at, text in enumerate(texts)]
 
@@ -106,7 +106,7 @@ def seen(base: Sequence[Line], target: Sequence[Line], texts: Sequence[str], is_
 
 
 def elsewhere(lines: Sequence[Line], texts: Sequence[str], taken: Collection[int]) -> set[int]:
-    """The lines whose texts stand once in them, and once in a text at an index that isn't taken: somebody moved them."""
+    """The lines whose texts stand once in them, and once in a text, at an index that isn't taken: they were moved."""
     ours, theirs = Counter(texts_of(lines)), Counter(texts)
     free = {text for at, text in enumerate(texts) if at not in taken and theirs[text] == 1}
     return {line.id for line in lines if line.text in free and ours[line.text] == 1}
