@@ -95,6 +95,12 @@ class Joined:
             self._part(str(told[GONE]))
         for answer in told.get("answers", ()):
             self._answered(answer)
+        self._take_lines(told)
+        self._take_states(told.get("states", {}))
+        self.is_new = self.is_new or "text" in told or "ops" in told or GONE in told
+
+    def _take_lines(self, told: Told) -> None:
+        """Takes in what is told of lines. Raises Strange."""
         if "text" in told:
             self.state.told_text(told["text"])
             self._looks, self._told_caret, self._said = (), {}, ""
@@ -102,8 +108,6 @@ class Joined:
             self.state.told_op(op)
         if told.get("lost"):
             raise Strange("operations are lost")
-        self._take_states(told.get("states", {}))
-        self.is_new = self.is_new or "text" in told or "ops" in told or GONE in told
 
     def _part(self, why: str) -> None:
         """The server is gone."""

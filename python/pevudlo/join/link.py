@@ -19,6 +19,9 @@ CONNECT_SECONDS = 10.0
 FIRST_WAIT, MOST_WAIT = 0.5, 30.0
 """Seconds behind which it is tried again: twice as many each time."""
 
+PIPE = 1 << 16
+"""So many bytes wait in a pipe at most."""
+
 MOST_MESSAGE = 1 << 26
 """A longer message isn't taken in."""
 
@@ -55,8 +58,7 @@ class Link:
     def news(self) -> list[Told]:
         """What came since it was asked last, in its order."""
         with suppress(BlockingIOError):
-            while os.read(self.wake, 4_096):
-                pass
+            os.read(self.wake, PIPE)
         found: list[Told] = []
         with suppress(queue.Empty):
             while True:
