@@ -22,7 +22,7 @@ from pevudlo.serve.lines import Change, Done, Lines, Op
 from pevudlo.serve.room import inverse_of
 
 Told = dict[str, Any]
-Act = Callable[[], None]
+Act = Callable[[], object]
 COMMON = ("", "", "u-add-3-1L c a b 8")
 """Lines that may stand in several places."""
 

@@ -20,7 +20,7 @@ from pevudlo.join.server import JoinedServer
 from pevudlo.wire.pipe import Pipe
 
 PATIENCE = 60.0
-JOINING = {**MODERN, "workspace": {**MODERN["workspace"], "applyEdit": True}}
+JOINING: Message = {**MODERN, "workspace": {"inlayHint": {"refreshSupport": True}, "applyEdit": True}}
 
 
 class Joining(Editor):
@@ -31,7 +31,7 @@ class Joining(Editor):
         self.lines = text.split("\n")[:-1]
         self.edits = deque[Message]()
         self.carets: list[Message] = []
-        self.is_told, self.news = True, 0
+        self.is_told = True
         super().__init__(JOINING)
         self.uri = f"file:///{address.name}.paris"
         item = {"uri": self.uri, "languageId": "paris", "version": 1, "text": text}
@@ -45,7 +45,8 @@ class Joining(Editor):
 
         def serve() -> None:
             begin: Callable[[], Any] = lambda: Pipe(program(), 1)
-            with JoinedServer(source, lambda data: write_all(sink, data), begin, self.address) as self.joining:
+            self.joining = JoinedServer(source, lambda data: write_all(sink, data), begin, self.address)
+            with self.joining:
                 self.status = self.joining.serve()
             os.close(source)
             os.close(sink)

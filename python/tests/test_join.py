@@ -73,7 +73,7 @@ def test_an_editor_gets_the_program_and_others_its_edits(file: Path) -> None:
 
 
 @pytest.mark.parametrize("seed", range(20 if LONG else 1))
-@pytest.mark.parametrize("manner", MANNERS, ids=lambda manner: manner.name.replace(" ", "-"))
+@pytest.mark.parametrize("manner", MANNERS, ids=[manner.name for manner in MANNERS])
 def test_two_who_type_lose_nothing_and_have_nothing_twice(file: Path, manner: Manner, seed: int) -> None:
     def part(editors: list[Joining], looker: Client) -> None:
         at_rest(editors, looker)

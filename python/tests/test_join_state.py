@@ -14,7 +14,7 @@ SEEDS, STEPS = 12, 1_500
 BASE = [Line(1, "a"), Line(2, "b"), Line(3, "c")]
 
 
-@pytest.mark.parametrize("manner", MANNERS, ids=lambda manner: manner.name.replace(" ", "-"))
+@pytest.mark.parametrize("manner", MANNERS, ids=[manner.name for manner in MANNERS])
 def test_two_of_one_manner_lose_nothing_and_have_nothing_twice(manner: Manner) -> None:
     for seed in range(SEEDS):
         play = Play(seed, (manner, manner))
