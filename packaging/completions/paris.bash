@@ -9,7 +9,7 @@ _paris_options() {
         watch) echo '--help --plain --workers' ;;
         lsp) echo '--help --stdio --workers' ;;
         check) echo '--help --workers' ;;
-        serve) echo '--again --check --class --folder --help --looking --most-processors --names --origin --port --rate --seats --workers' ;;
+        serve) echo '--again --audit --check --class --folder --help --history --looking --most-processors --names --origin --port --rate --seats --workers' ;;
         help) echo '--help lesson machine scripts instructions idioms people python embedding editors glossary' ;;
         *) echo '--build --desk --help --quiet --version --where --workers explain prompt page live watch lsp check serve help' ;;
     esac

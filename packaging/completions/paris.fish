@@ -39,4 +39,6 @@ complete -c paris -n '__fish_seen_subcommand_from serve' -l folder -r -d 'where 
 complete -c paris -n '__fish_seen_subcommand_from serve' -l rate -x -d 'edits a second'
 complete -c paris -n '__fish_seen_subcommand_from serve' -l most-processors -x -d 'processors of a set'
 complete -c paris -n '__fish_seen_subcommand_from serve' -l again -d 'begin again where the journal ends'
+complete -c paris -n '__fish_seen_subcommand_from serve' -l audit -d 'do again what the journal says'
+complete -c paris -n '__fish_seen_subcommand_from serve' -l history -d 'keep a history that can be checked'
 complete -c paris -n '__fish_seen_subcommand_from serve' -l seats -x -d 'how many edit one program'

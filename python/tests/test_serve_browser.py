@@ -130,7 +130,7 @@ def test_one_program_in_two_browsers(browsers: list[WebDriver], libparis: Path, 
     teacher, ann = browsers[:2]
     file = tmp_path / "double.paris"
     file.write_text("set S 4\nfield a S 8\ninput a 0 1 2 3 4\nu-add-3-1L a a a 8\nshow a end\n")
-    with served(file, cwd=tmp_path) as server:
+    with served(file, "--history", cwd=tmp_path) as server:
         open_at(teacher, server, server.teacher)
         open_at(ann, server, server.token("All others"))
         one(ann, "#name").send_keys("Ann", Keys.ENTER)
@@ -153,6 +153,11 @@ def test_one_program_in_two_browsers(browsers: list[WebDriver], libparis: Path, 
         until(ann, lambda: "isLocked" in str(one(ann, ".line:nth-child(4)").get_attribute("class")))
         ann.find_elements(By.CSS_SELECTOR, ".line > .text")[3].click()
         until(ann, lambda: "is locked" in one(ann, "#said").text)
+        # The history is made again. Ann has no button for it.
+        teacher.find_element(By.XPATH, "//button[.='Check the history']").click()
+        until(teacher, lambda: "entries of this chapter were made again, and each" in one(teacher, "#said").text)
+        assert one(teacher, "#said").text.startswith("The history holds: ")
+        assert not ann.find_elements(By.XPATH, "//button[.='Check the history']")
         # Back to a point.
         teacher.find_element(By.XPATH, "//button[.='Who did what']").click()
         until(teacher, lambda: len(teacher.find_elements(By.CSS_SELECTOR, "#panel .entry")) == 2)

@@ -109,7 +109,7 @@ def test_locks_chapters_and_seats_that_look(file: Path) -> None:
         teacher, ann = await people.sit(people.server.teacher), await people.join("Ann")
         looker = await people.sit(people.server.token("Who looks"))
         line = ann.lines[ROW][0]
-        for word in ("lock", "back", "close"):
+        for word in ("lock", "back", "close", "audit"):
             assert "alone" in (await ann.ask(word, ids=[line], n=1, seat=1))["refused"]
         await teacher.ask("lock", ids=[line])
         await ann.until(lambda: bool(ann.states["locks"] == [line]))
@@ -158,7 +158,7 @@ def test_a_server_that_was_killed_begins_again(file: Path) -> None:
     """What was acknowledged is there again, under the same addresses."""
     acknowledged: list[str] = []
     tokens: dict[str, str] = {}
-    with served(file, "--folder", "kept", cwd=file.parent) as server:
+    with served(file, "--folder", "kept", "--history", cwd=file.parent) as server:
 
         async def before(people: People) -> None:
             ann = await people.join("Ann")
@@ -173,7 +173,7 @@ def test_a_server_that_was_killed_begins_again(file: Path) -> None:
         asyncio.run(with_people(server, before))
         server.process.wait(PATIENCE)
     assert "has a journal: begin again by --again" in run(file, "--folder", file.parent / "kept").stderr
-    with served(file, "--folder", "kept", "--again", cwd=file.parent) as server:
+    with served(file, "--folder", "kept", "--again", "--history", cwd=file.parent) as server:
 
         async def after(people: People) -> None:
             ann = await people.sit(tokens["Ann"])
@@ -185,9 +185,50 @@ def test_a_server_that_was_killed_begins_again(file: Path) -> None:
             await ann.until(lambda: ann.sees(ann.text.index("show b end")) == ["2 4 6 8"])
 
         asyncio.run(with_people(server, after))
-    lines = (file.parent / "kept/journal.jsonl").read_text().splitlines()
-    assert len(lines) == 1 + 15 + 1 + 1 and all(json.loads(line)["room"] == 0 for line in lines)
+    told = [json.loads(line) for line in (file.parent / "kept/journal.jsonl").read_text().splitlines()]
+    # Comments are no lines of the program, so the two beginnings alone have replies.
+    assert [line["n"] for line in told if "said" in line] == [1, 17]
+    assert len([line for line in told if "said" not in line]) == 1 + 15 + 1 + 1
+    assert all(line["room"] == 0 for line in told)
     assert (file.parent / "kept/seats.json").stat().st_mode & 0o077 == 0
+
+
+def test_the_history_and_the_journal_are_checked(file: Path) -> None:
+    async def part(people: People) -> None:
+        teacher, ann = await people.sit(people.server.teacher), await people.join("Ann")
+        await ann.replace(3, "input a 0 5 6 7 8")
+        await ann.ask("undo")
+        await ann.look()
+        await ann.until(lambda: ann.sees(LOOK) == ["2 4 6 8"])
+        told = await teacher.ask("audit")
+        # Four declarations and input data, a row, two edits, and an order and a result or more.
+        assert told["agrees"] and told["entries"] >= 5 + 2 + 2 and told["chapters"] == 0
+
+    play(file, part, "--history")
+    words = file, "--folder", file.parent / "kept", "--audit"
+    found = run(*words)
+    said = "The journal holds: 2 edits were done again, and all 7 replies are the same.\n"
+    assert (found.returncode, found.stdout, found.stderr) == (0, said, "")
+    journal = file.parent / "kept/journal.jsonl"
+    journal.write_text(journal.read_text().replace("5 6 7 8", "5 6 7 9", 1))
+    found = run(*words)
+    assert found.returncode == 1
+    assert (
+        found.stdout
+        == "journal.jsonl isn't what was written: line 3 isn't as it was written, or one before it is gone\n"
+    )
+    assert run(file, "--folder", file.parent / "none", "--audit").returncode == 2
+    assert "--audit is of one program" in run(*words, "--class", "3").stderr
+    assert "--history is of one program" in run(file, "--history", "--class", "3").stderr
+
+
+def test_without_a_history_nothing_is_checked(file: Path) -> None:
+    async def part(people: People) -> None:
+        teacher = await people.sit(people.server.teacher)
+        assert teacher.hello["history"] is False
+        assert (await teacher.ask("audit"))["refused"] == "this program is served without a history"
+
+    play(file, part)
 
 
 FIELDS = "abcd"

@@ -81,6 +81,10 @@ def arguments() -> Arguments:
     parser.add_argument("--folder", type=file_name, metavar="FOLDER", help=said)
     said = "begin again where the folder's journal ends, with the same addresses"
     parser.add_argument("--again", action="store_true", help=said)
+    said = "do again what the folder's journal says, and compare each reply, instead of serving"
+    parser.add_argument("--audit", action="store_true", help=said)
+    said = "keep a history of one program, which can be checked, and run the rows first whose values are waited for"
+    parser.add_argument("--history", action="store_true", help=said)
     said = "edits a second that a student may make (default: %(default)s)"
     parser.add_argument("--rate", type=number(1, 100), default=5, metavar="N", help=said)
     said = "processors of a set that a student may declare (default: %(default)s)"
@@ -168,7 +172,7 @@ def hall_of(said: Namespace, seats: Seats, folder: Path, exercise: list[str], so
     kept = read_journal(folder) if said.again else {}
     title, library, journal = path_of(said.file).name, find_library(), Journal(folder)
     if said.students is None:
-        return Shared(title, seats, library, said.workers, exercise, journal, kept.get(0))
+        return Shared(title, seats, library, said.workers, exercise, journal, kept.get(0), said.history)
     return Classroom(title, seats, library, said.workers, exercise, solution, folder, journal, kept)
 
 
@@ -211,8 +215,21 @@ async def wait_for(over: asyncio.Event) -> None:
     await over.wait()
 
 
+def audit(said: Namespace) -> int:
+    """Checks the folder's journal. The exit status is 1 where it isn't what was written. Raises OSError."""
+    from pevudlo.serve.replay import check_journal
+
+    said.again = True
+    checked = check_journal(folder_of(said), find_library())
+    print(checked.words())
+    return int(bool(checked.wrong))
+
+
 def main(words: list[str]) -> int:
-    """Serves. The exit status is 0 after Ctrl-C, and 2 where the words are wrong or nothing can be served."""
+    """Serves. The exit status is 0 after Ctrl-C, and 2 where the words are wrong or nothing can be served.
+
+    With --audit it is 1 where the journal isn't what was written.
+    """
     parser = arguments()
     said = parser.parse_args(words)
     try:
@@ -221,6 +238,10 @@ def main(words: list[str]) -> int:
         print(f"paris serve: {MISSING}", file=sys.stderr)
         return 2
     try:
+        if said.students is not None and (said.audit or said.history):
+            parser.error(f"{'--audit' if said.audit else '--history'} is of one program, and not of a class")
+        if said.audit:
+            return audit(said)
         names = [name for name in read(said.names) if name.strip()] if said.names else []
         count = said.seats if said.students is None else said.students
         if len(names) > count:

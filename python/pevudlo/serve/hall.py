@@ -6,7 +6,7 @@ import asyncio
 import json
 import sys
 import time
-from collections.abc import Iterable, Mapping
+from collections.abc import Iterable, Mapping, Set
 from pathlib import Path
 
 from pevudlo.draw.visible import visible
@@ -15,7 +15,7 @@ from pevudlo.serve.guests import Guest, TooSlow, op_text
 from pevudlo.serve.journal import Journal
 from pevudlo.serve.limits import Refused
 from pevudlo.serve.lines import Clash
-from pevudlo.serve.room import Edit, Room
+from pevudlo.serve.room import WAITS, Edit, Room
 from pevudlo.serve.seats import Kind, Seat, Seats
 from pevudlo.serve.turns import Patient, Turns
 
@@ -43,8 +43,12 @@ class Hall:
         self.rooms: list[Room] = []
         self._library, self._loop = library, asyncio.get_running_loop()
         self._turn, self._is_told = asyncio.Event(), False
-        self.turns = Turns(workers, self._ran)
+        self.turns = self.begin_turns(workers)
         self._carets: dict[Seat, str] = {}
+
+    def begin_turns(self, workers: int) -> Turns:
+        """So many workers."""
+        return Turns(workers, self._ran)
 
     def close(self) -> None:
         """Ends the workers and the books."""
@@ -284,6 +288,10 @@ class Hall:
         given = room.gives({number for guest in guests for number in guest.looks})
         for guest in guests:
             tell_lines(guest, given)
+        self.see_waiting(room, {number for number, told in given.items() if told == WAITS})
+
+    def see_waiting(self, room: Room, waiting: Set[int]) -> None:
+        """Of the lines that are looked at in a program these wait for rows."""
 
 
 def rows_of(room: Room) -> str:

@@ -2,6 +2,7 @@
 
 from __future__ import annotations
 
+import hashlib
 import json
 import os
 import time
@@ -12,6 +13,7 @@ from pathlib import Path
 from pevudlo.serve.lines import Done, Lines, Op
 
 NAME = "journal.jsonl"
+SUM, SUM_LETTERS = ',"sum":"', 16
 OPS = {op.value: op for op in Op}
 
 
@@ -66,21 +68,48 @@ def line_of_chapter(room: int, name: str, texts: Sequence[str], first: int, numb
     return json.dumps({**told, "first": first, "texts": list(texts)}, separators=(",", ":"))
 
 
+def line_of_replies(room: int, number: int, replies: Sequence[str], is_again: bool = False) -> str:
+    """The line of what the program replied to the lines that an edit or a chapter told it.
+
+    `is_again` says that the server began again, so that the program ran anew from its text.
+    """
+    told = {"room": room, "n": number, "said": list(replies)}
+    return json.dumps({**told, "again": True} if is_again else told, separators=(",", ":"))
+
+
+def summed(line: str, before: str) -> str:
+    """A line with a sum of it and of the sum of the line before, by which a changed byte is seen."""
+    told = hashlib.sha256(f"{before}{line}".encode("utf-8", "surrogateescape")).hexdigest()[:SUM_LETTERS]
+    return f'{line[:-1]}{SUM}{told}"}}'
+
+
+def sum_in(line: str) -> str:
+    """The sum at the end of a line, or nothing where it has none."""
+    at = len(line) - SUM_LETTERS - 2
+    return line[at:-2] if line[:at].endswith(SUM) else ""
+
+
+def without_sum(line: str) -> str:
+    """A line as it was before its sum stood there."""
+    return f"{line[: len(line) - SUM_LETTERS - 2 - len(SUM)]}}}" if sum_in(line) else line
+
+
 class Journal:
     """A journal in a file, to which lines are added. They are in the file when they are acknowledged."""
 
     def __init__(self, folder: Path) -> None:
         """Raises OSError where it can't be written."""
         folder.mkdir(mode=0o700, parents=True, exist_ok=True)
-        cut_torn(folder / NAME)
+        self._sum = sum_in(cut_torn(folder / NAME))
         self._file = open(folder / NAME, "a", encoding="utf-8", errors="surrogatepass")
         self._is_new = False
 
     def add(self, line: str) -> None:
         """Adds a line. Raises OSError where there is no room."""
-        self._file.write(f"{line}\n")
+        told = summed(line, self._sum)
+        self._file.write(f"{told}\n")
         self._file.flush()
-        self._is_new = True
+        self._is_new, self._sum = True, sum_in(told)
 
     def sync(self) -> None:
         """Has the disk keep what was added. Raises OSError."""
@@ -94,14 +123,15 @@ class Journal:
         self._file.close()
 
 
-def cut_torn(path: Path) -> None:
-    """Cuts off a last line that isn't whole. Raises OSError."""
+def cut_torn(path: Path) -> str:
+    """Cuts off a last line that isn't whole, and gives the last that is, without its line feed. Raises OSError."""
     path.touch(mode=0o600)
     with open(path, "r+b") as file:
         data = file.read()
         whole = data.rfind(b"\n") + 1
         if whole < len(data):
             file.truncate(whole)
+        return data[:whole].rstrip(b"\n").rpartition(b"\n")[2].decode("utf-8", "surrogatepass")
 
 
 def entry_in(told: dict[str, object]) -> Entry:
@@ -151,5 +181,5 @@ def take_in(kept: Kept, told: dict[str, object]) -> None:
         texts = told["texts"]
         assert isinstance(texts, list)
         kept.begin(list(map(str, texts)), number_in(told, "first"), number_in(told, "n"), number_in(told, "by"))
-    else:
+    elif "said" not in told:
         kept.add(entry_in(told))

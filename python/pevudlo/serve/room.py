@@ -5,6 +5,7 @@ from __future__ import annotations
 import json
 import time
 from collections.abc import Callable, Iterable, Sequence
+from contextlib import suppress
 from dataclasses import dataclass, field
 from math import prod
 from pathlib import Path
@@ -29,7 +30,7 @@ from pevudlo.files import why
 from pevudlo.lang.keys import axes_of, width_of
 from pevudlo.lang.profiles import WORD
 from pevudlo.lang.replies import Faults, NoReply, parse
-from pevudlo.serve.journal import Entry, Kept, line_of_chapter, line_of_entry
+from pevudlo.serve.journal import Entry, Kept, line_of_chapter, line_of_entry, line_of_replies
 from pevudlo.serve.limits import Limits, Refused, Size, check_line, check_size, resized, size_of
 from pevudlo.serve.lines import Change, Clash, Done, Lines, Op
 from pevudlo.serve.turns import Patient
@@ -52,7 +53,11 @@ DECLARES = ("set ", "field ", "paris ")
 MOST_KEYS = 8
 """Of so many keys it is told what a row leaves."""
 
+WAITS = '{"s":"wait"}'
+"""What a line gives whose rows have to run first."""
+
 Told = dict[str, object]
+Value = tuple[str, int]
 
 
 @dataclass(frozen=True)
@@ -108,8 +113,9 @@ class Room:
         at: int = 0,
         keep: Callable[[str], None] = lambda line: None,
         kept: Kept | None = None,
+        begin_book: Callable[[Path], Patient] = Patient,
     ) -> None:
-        """With `kept` it goes on from what a journal says."""
+        """With `kept` it goes on from what a journal says. `begin_book` begins a book of the library."""
         self.name, self.at, self.edited = name, at, 0.0
         self.trouble = ""
         self.kept = kept or Kept()
@@ -117,6 +123,7 @@ class Room:
         self.chapters: list[Chapter] = []
         self.locked = set[int]()
         self._library, self._wake, self._keep = library, wake, keep
+        self._begin_book, self._by = begin_book, 0
         self._standing = Standing()
         self._document = Document(self._begun, begin_second=lambda: Library(library))
         self._book: Patient | None = None
@@ -167,7 +174,7 @@ class Room:
         self.locked.clear()
         self._changed.clear()
         self._own.clear()
-        self._update()
+        self._update(by)
 
     def _resume(self) -> None:
         """Goes on from what a journal says."""
@@ -176,7 +183,7 @@ class Room:
         for entry in self.kept.entries:
             self._note(entry)
             self.edited = entry.time
-        self._update()
+        self._update(0, is_again=True)
 
     def edit(self, changes: Sequence[Change], who: int, name: str, limits: Limits) -> Edit:
         """Does the changes of one edit. Raises Refused, with nothing done, where they are too large."""
@@ -204,6 +211,12 @@ class Room:
         self._did(Entry(self.number + 1, time.time(), who, inverse, is_undo=True))
         return Edit(self.number, inverse, [], [])
 
+    def repeat(self, entry: Entry) -> None:
+        """Does again what a journal says. Raises Refused where that can't be kept."""
+        self.lines.repeat_all(entry.done, entry.by)
+        self.size = size_of(self.lines.texts)
+        self._did(entry)
+
     def _check_own(self, done: Done, entry: Entry, name_of: Callable[[int], str]) -> None:
         """Raises Refused where another one has changed a line since an edit."""
         since = {by: at for by, at in self._changed.get(done.id, {}).items() if at > entry.number and by != entry.by}
@@ -223,7 +236,7 @@ class Room:
         self.kept.entries.append(entry)
         self._note(entry)
         self.edited = entry.time
-        self._update()
+        self._update(entry.by)
 
     def _note(self, entry: Entry) -> None:
         """Notes who changed what."""
@@ -251,21 +264,33 @@ class Room:
                 texts[change.id if change.op is Op.REPLACE else -1 - at] = change.text
         return size_of(list(texts.values()))
 
-    def _update(self) -> None:
-        """Brings the book in step with the lines."""
+    def _update(self, by: int, is_again: bool = False) -> None:
+        """Brings the book in step with the lines, which somebody has edited."""
+        self._by = by
+        if self._book is not None:
+            self._book.by = by
         try:
             self._document.update_lines(list(self.lines.texts))
             self.trouble = ""
         except (PipeError, NoReply, MemoryError) as error:
             self.trouble = str(error)
+        self._keep_replies(is_again)
         self._standing.looks.clear()
         self._standing.ran = -1
         if self._book is not None and self._book.is_open:
             self._wake(self._book)
 
+    def _keep_replies(self, is_again: bool) -> None:
+        """Keeps what the book has replied to an edit. Where the journal can't be written the next edit is refused."""
+        replies = None if self._book is None else self._book.replies()
+        if replies or (replies is not None and is_again):
+            with suppress(OSError):
+                self._keep(line_of_replies(self.at, self.number, replies, is_again))
+
     def _begun(self) -> Patient:
         """Another book, with nothing declared."""
-        self._book = Patient(self._library)
+        self._book = self._begin_book(self._library)
+        self._book.by = self._by
         self._standing = Standing()
         return self._book
 
@@ -288,6 +313,7 @@ class Room:
         ran = self.book.ran
         if ran == self._standing.ran:
             return
+        self.book.see()
         self._standing.unsettled, self._standing.ran = frozenset(self.book.unsettled()), ran
         reply = parse(self.book.ask("faults"))
         found = reply.faults if isinstance(reply, Faults) else ()
@@ -308,6 +334,17 @@ class Room:
         """What some lines give, as JSON, by their ids: those that are there."""
         places = ((number, self.lines.at(number)) for number in ids)
         return {number: self._gives(at) for number, at in places if at is not None}
+
+    def values_of(self, number: int) -> list[Value]:
+        """The values that the line of an id stands for: keys, each with the number of a place."""
+        at = self.lines.at(number)
+        line = None if at is None or self.trouble else line_at(self._document, at)
+        if isinstance(line, Look):
+            return [(line.key, START_NUMBER if line.anchor is None else line.anchor.book)]
+        if isinstance(line, LivingRow):
+            keys = self._document.book.board.keys_written(line.row.text)[:MOST_KEYS]
+            return [(key, line.row.book) for key in keys]
+        return []
 
     def _gives(self, at: int) -> str:
         """What the line of an index gives, as JSON."""
@@ -334,7 +371,7 @@ class Room:
     def _of_row(self, row: int, text: str) -> str:
         """What a row leaves, or that it is unsettled, or why it stores nothing."""
         if row in self._standing.unsettled:
-            return '{"s":"wait"}'
+            return WAITS
         document = self._document
         if row in document.book.faults:
             return json.dumps({"s": "fault", "t": visible(document.book.cause(document.rows[self._place(row)]))})
@@ -343,7 +380,7 @@ class Room:
             return known[1]
         values = [self._value(key, row) for key in document.book.board.keys_written(text)[:MOST_KEYS]]
         if any(value is None for value in values):
-            return '{"s":"wait"}'
+            return WAITS
         told = json.dumps({"s": "row", "v": values}, separators=(",", ":"))
         self._standing.values[row, text] = edition, told
         return told
@@ -358,7 +395,7 @@ class Room:
         if known is None:
             value = self._value(key, row)
             if value is None:
-                return '{"s":"wait"}'
+                return WAITS
             known = json.dumps({"s": "look", "v": [value]}, separators=(",", ":"))
             self._standing.looks[row, key] = known
         return known

@@ -4,7 +4,7 @@ from __future__ import annotations
 
 import json
 import time
-from collections.abc import Sequence
+from collections.abc import Sequence, Set
 from pathlib import Path
 
 from pevudlo.draw.visible import visible
@@ -14,8 +14,10 @@ from pevudlo.serve.hall import Asked, Hall, Told, seat_meant, to_each
 from pevudlo.serve.journal import Entry, Journal, Kept
 from pevudlo.serve.limits import MOST_LINES, Refused
 from pevudlo.serve.lines import Op
-from pevudlo.serve.room import Room
+from pevudlo.serve.room import Room, Value
+from pevudlo.serve.seated import SeatedBook, SeatedTurns
 from pevudlo.serve.seats import Seat, Seats
+from pevudlo.serve.turns import Patient, Turns
 
 MOST_ENTRIES = 100
 """So many entries are told at once."""
@@ -37,13 +39,38 @@ class Shared(Hall):
         texts: Sequence[str],
         journal: Journal,
         kept: Kept | None,
+        has_history: bool = False,
     ) -> None:
+        self._has_history = has_history
         super().__init__(title, seats, library, workers, journal)
-        self.room = Room(title, texts, library, self.turns.wake, keep=journal.add, kept=kept)
+        wake, keep, book = self.turns.wake, journal.add, SeatedBook if has_history else Patient
+        self.room = Room(title, texts, library, wake, keep=keep, kept=kept, begin_book=book)
         self.rooms.append(self.room)
 
+    def begin_turns(self, workers: int) -> Turns:
+        return SeatedTurns(workers, self._ran) if self._has_history else super().begin_turns(workers)
+
+    @property
+    def book(self) -> SeatedBook:
+        """The running book, which is a desk's. Raises Refused where there is no history."""
+        if not isinstance(self.room.book, SeatedBook):
+            raise Refused("this program is served without a history")
+        return self.room.book
+
+    def see_waiting(self, room: Room, waiting: Set[int]) -> None:
+        """The rows of these lines are run first, in turns of who looks at them, where there is a history."""
+        if not self._has_history:
+            return
+        values = {number: room.values_of(number) for number in waiting}
+        wanted: dict[int, list[Value]] = {}
+        for guest in self.in_room(room) if values else ():
+            for number in guest.looks:
+                wanted.setdefault(guest.seat.number, []).extend(values.get(number, ()))
+        self.book.want({who: found for who, found in wanted.items() if found})
+
     def hello(self, seat: Seat) -> Told:
-        return {**super().hello(seat), "seats": [[each.number, each.name] for each in self.seats]}
+        seats = [[each.number, each.name] for each in self.seats]
+        return {**super().hello(seat), "seats": seats, "history": self._has_history}
 
     def welcome(self, guest: Guest, asked: Asked) -> None:
         guest.enter(self.room)
@@ -76,6 +103,9 @@ class Shared(Hall):
             self.unlock(reading.numbers(asked, "ids", MOST_LINES))
         elif word == "back":
             self.go_back(reading.number(asked, "n"), guest.seat)
+        elif word == "audit":
+            agrees, entries = self.book.audit()
+            return {"agrees": agrees, "entries": entries, "chapters": self.book.chapters}
         elif word in ("close", "renew"):
             return self.seat_word(word, seat_meant(asked, self.seats, "there is no such seat"))
         else:

@@ -25,13 +25,27 @@ class Patient(Book):
     is_given_up = False
     """Whether a row couldn't be run, for want of memory."""
 
+    by = 0
+    """The number of who edits."""
+
     def ask(self, line: str) -> list[str]:
         """The lines of the reply to one line."""
         if line == "settle":
             return ["settled 0"]
+        self.note_set(line)
+        return super().ask(line)
+
+    def note_set(self, line: str) -> None:
+        """Notes how large a set is, where a line declares one."""
         if line.startswith("set "):
             self.largest = max(self.largest, processors_in(line))
-        return super().ask(line)
+
+    def see(self) -> None:
+        """What is seen from now on is the book as it is: here it is so in any case."""
+
+    def replies(self) -> list[str] | None:
+        """The replies to edits since they were asked for last. None where no journal keeps them, as here."""
+        return None
 
 
 def processors_in(line: str) -> int:

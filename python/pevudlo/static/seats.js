@@ -66,8 +66,20 @@ function hello(told) {
   $("acts").textContent = "";
   if (told.kind !== "looking") $("acts").append(button("Undo", undo, "takes your own last edit back"));
   if (told.mode === "shared") $("acts").append(button("Who did what", () => entries.open(0)));
+  if (told.history && told.kind === "teacher") {
+    $("acts").append(button("Check the history", checkHistory, "makes all of it again, and compares the replies"));
+  }
   if (told.kind === "student" && told.mode === "class") studentActs();
   if (told.kind === "teacher" && told.mode === "class") board.begin(told.checks, told.seats);
+}
+
+/** Has the history checked, and says what came of it. */
+async function checkHistory() {
+  say("The history is being checked.");
+  const answer = await link.ask("audit"), made = `${answer.entries} entries of this chapter were made again`;
+  const holds = answer.agrees ? "The history holds" : "The history does not hold";
+  const found = answer.agrees ? "and each reply was the same" : "and a reply was another one";
+  say(answer.refused ?? `${holds}: ${made}, ${found}.`);
 }
 
 /** What a student may do beside editing. */

@@ -325,10 +325,14 @@ class OpenSeat:
     def snapshot(self, turn: int) -> Book:
         """A session with the book that is looked at. Raises MemoryError."""
         into = Held(self.desk.calls["paris_close"])
+        self.snapshot_into(turn, into.at)
+        return self.desk.copied(into)
+
+    def snapshot_into(self, turn: int, at: int) -> None:
+        """Closes the session of a handle, and opens there one with the book that is looked at. Raises MemoryError."""
         with self.own:
             self._check_turn(turn)
-            check(self._alone("paris_seat_snapshot", into.at))
-        return self.desk.copied(into)
+            check(self._alone("paris_seat_snapshot", at))
 
     def check_look(self, turn: int) -> None:
         """Raises RuntimeError where the seat has looked since, and Ended where it is closed."""
