@@ -23,7 +23,7 @@ COMMANDS = {
     "page": "pevudlo.page.command",
     "live": "pevudlo.live.command",
     "watch": "pevudlo.document.command",
-    "lsp": "pevudlo.lsp.command",
+    "lsp": "pevudlo.editor",
     "serve": "pevudlo.serve.command",
     "check": "pevudlo.exercise.command",
     "help": "pevudlo.help.command",
