@@ -36,13 +36,15 @@ class Manner:
 
     `tells_first`: it tells of an edit before it answers that it made it. `is_silent`: of an edit that it doesn't make,
     since its text moved on, it says that it made it. `counts_told`: its versions count what it told, so an edit comes
-    into a text of which the server doesn't know the last lines.
+    into a text of which the server doesn't know the last lines. `in_parts`: it may tell of an edit before all parts of
+    it are made.
     """
 
     name: str
     tells_first: bool = False
     is_silent: bool = False
     counts_told: bool = False
+    in_parts: bool = False
 
 
 MANNERS = (
@@ -50,6 +52,7 @@ MANNERS = (
     Manner("tells its edit behind its answer"),
     Manner("says of what it refuses that it did it", is_silent=True),
     Manner("puts edits into what it hasn't told", counts_told=True),
+    Manner("tells an edit part by part, as Neovim does", is_silent=True, in_parts=True),
 )
 
 
@@ -225,14 +228,19 @@ class Typist:
         says = is_made or self.manner.is_silent
         if is_made and self.manner.tells_first:
             self.tell()
-        self.to_state.append(lambda: self.state.put_answered(says, self.now))
+        # What it told before may wait, and an answer doesn't wait behind it.
+        place = self.choose.randint(0, len(self.to_state))
+        self.to_state.insert(place, lambda: self.state.put_answered(says, self.now))
 
     def apply(self, edits: list[Hunk]) -> None:
         """Makes the parts of an edit, from below to above."""
         for hunk in reversed(edits):
             self.lines[hunk.start : hunk.end] = hunk.lines
-        self.is_told = False
-        self.version += not self.manner.counts_told
+            self.is_told = False
+            self.version += not self.manner.counts_told
+            if self.manner.in_parts and self.choose.random() < 0.5:
+                self.last = max(0, min(hunk.start + len(hunk.lines), len(self.lines) - 1))
+                self.tell()
 
     # What is on its way.
 

@@ -87,9 +87,11 @@ class Joining(Editor):
         for edit in reversed(edits):
             start, end = (self.offset(edit["range"][side]) for side in ("start", "end"))
             text = text[:start] + edit["newText"] + text[end:]
-        self.lines = text.split("\n")[:-1]
-        self.is_told = False
-        self.version += 1
+            self.lines = text.split("\n")[:-1]
+            self.is_told = False
+            self.version += 1
+            if self.manner.in_parts and edit is edits[-1]:
+                self.tell_text()
 
     def offset(self, position: Message) -> int:
         """Where a position is in the text, which has letters of one unit alone."""

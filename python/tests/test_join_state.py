@@ -5,7 +5,7 @@ from __future__ import annotations
 import pytest
 from join_model import MANNERS, Manner, Play
 
-from pevudlo.join.edits import Hunk, hunks
+from pevudlo.join.edits import Hunk, hunks, is_made_in_part
 from pevudlo.join.merging import Line, begun, merged, seen, wanted
 from pevudlo.join.state import Put, Send, State
 from pevudlo.serve.lines import LAST, Change, Op
@@ -60,6 +60,36 @@ def test_what_was_typed_behind_an_edit_is_told_from_it() -> None:
     state.put_answered(True, 0.0)
     state.changed(["a", "x", "b", "mine", "c"], 2, 3, 0.0)
     assert state.next(1.0) == Send([Change(Op.INSERT, 2, text="mine")])
+
+
+def told_in_part() -> State:
+    """A state of an editor that tells of an edit of two parts in two texts, of which one came, and that answered."""
+    state = joined(*BASE)
+    state.told_op(op(2, "insert", 4, "x", 0))
+    state.told_op(op(2, "insert", 5, "y", 2))
+    assert state.next(0.0) == Put(1, ["a", "b", "c"], ["x", "a", "b", "y", "c"])
+    state.put_answered(True, 0.0)
+    state.changed(["a", "b", "y", "c"], 2, 2, 0.0)
+    return state
+
+
+def test_an_edit_that_is_told_part_by_part_is_not_taken_for_typed() -> None:
+    state = told_in_part()
+    assert state.next(5.0) is None
+    state.changed(["x", "a", "b", "y", "c"], 3, 0, 5.0)
+    assert state.next(5.0) is None and state.is_at_rest and not state.has_typed
+
+
+def test_what_was_typed_behind_a_part_of_an_edit_is_told_from_its_other_parts() -> None:
+    state = told_in_part()
+    state.changed(["x", "a", "mine", "b", "y", "c"], 3, 3, 0.0)
+    assert state.next(1.0) == Send([Change(Op.INSERT, 1, text="mine")])
+
+
+def test_a_part_of_an_edit_that_does_not_come_is_put_again() -> None:
+    state = told_in_part()
+    assert state.next(9.9) is None
+    assert state.next(10.1) == Put(2, ["a", "b", "y", "c"], ["x", "a", "b", "y", "c"])
 
 
 def test_a_line_that_is_being_typed_is_held_and_not_touched() -> None:
@@ -137,3 +167,27 @@ def test_an_empty_line_of_ones_own_is_not_taken_for_two(texts: list[str], is_lik
 
 def test_parts_of_an_edit() -> None:
     assert hunks(["a", "b", "c"], ["x", "a", "c", "d"]) == [Hunk(0, 0, ["x"]), Hunk(1, 2, []), Hunk(3, 3, ["d"])]
+
+
+@pytest.mark.parametrize(
+    ("texts", "is_in_part"),
+    [
+        ("abc", False),
+        ("xabc", True),
+        ("abcd", True),
+        ("xac", True),
+        ("acd", True),
+        ("xacd", False),
+        ("xab", False),
+        ("xabcz", False),
+        ("abbc", False),
+    ],
+)
+def test_a_text_on_the_way_has_some_parts_of_an_edit_and_nothing_else(texts: str, is_in_part: bool) -> None:
+    assert is_made_in_part([*"abc"], [*"xacd"], [*texts]) == is_in_part
+
+
+def test_a_part_that_may_stand_at_two_places_is_found_at_either() -> None:
+    """Of the parts, which put lines that are the same, the second may be there alone."""
+    assert is_made_in_part([*"ab"], [*"aaba"], [*"aba"])
+    assert is_made_in_part([*"ab"], [*"aaba"], [*"aab"])

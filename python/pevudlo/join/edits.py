@@ -2,7 +2,7 @@
 
 from __future__ import annotations
 
-from collections.abc import Sequence
+from collections.abc import Collection, Sequence
 from dataclasses import dataclass
 
 from pevudlo.document.differences import matched
@@ -26,3 +26,21 @@ def hunks(old: Sequence[str], new: Sequence[str]) -> list[Hunk]:
             found.append(Hunk(at, one, list(new[to:other])))
         at, to = one + 1, other + 1
     return found
+
+
+def is_made_in_part(old: list[str], new: list[str], texts: list[str]) -> bool:
+    """Whether a text has some of the parts in which an old one becomes a new one, but not all, and is the old one else.
+
+    An editor may tell of an edit part by part, so such a text is one on the way.
+    """
+    at, ends = 0, {0}
+    for hunk in hunks(old, new):
+        ends = behind(texts, ends, old[at : hunk.start])
+        ends = behind(texts, ends, old[hunk.start : hunk.end]) | behind(texts, ends, hunk.lines)
+        at = hunk.end
+    return len(texts) in behind(texts, ends, old[at:]) and texts not in (old, new)
+
+
+def behind(texts: list[str], starts: Collection[int], part: list[str]) -> set[int]:
+    """Where a text goes on behind a part, which stands at some of these places."""
+    return {start + len(part) for start in starts if texts[start : start + len(part)] == part}

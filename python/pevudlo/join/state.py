@@ -3,6 +3,9 @@
 One thing is on its way at a time: an edit to the server, or one to the editor. What the editor's text is, is known from
 what it tells of its changes alone. So what is put into it counts once a text came that has it, whatever the editor
 answered, and in whatever order its answer and its changes came.
+
+An editor may tell of an edit part by part, as Neovim does. A text that has some of its parts, and nothing else that is
+new, is one on the way: the others come, and are nobody's typing.
 """
 
 from __future__ import annotations
@@ -12,6 +15,7 @@ from dataclasses import dataclass, field, replace
 from typing import Any, Union
 
 from pevudlo.document.differences import matched
+from pevudlo.join.edits import is_made_in_part
 from pevudlo.join.merging import FIRST_PUT, Line, begun, distance, merged, seen, texts_of, wanted
 from pevudlo.join.shared import Shared
 from pevudlo.serve.lines import Change, Op
@@ -30,6 +34,9 @@ FIRST_WAIT, MOST_WAIT = 0.5, 8.0
 
 UNTOLD = 1.0
 """Seconds for which a change is waited for that an editor says it made, where it told another one first."""
+
+REST = 10.0
+"""Seconds for which the other parts of an edit are waited for, of which an editor told some."""
 
 GIVEN_UP = 60.0
 """Seconds behind which an edit that was put to the editor isn't waited for any more."""
@@ -69,21 +76,24 @@ class Sent:
 
 @dataclass
 class OnItsWay:
-    """An edit on its way to the editor, since a time. It makes the text `new`, whose base is `target`.
+    """An edit on its way to the editor, since a time. It makes the text `new` of `old`, and its base is `target` then.
 
-    `is_told`: another text came since. `answered` is when the editor said that it made it.
+    `told` is when another text came last, and `is_part`: that one has some of its parts. `answered` is when the editor
+    said that it made it.
     """
 
+    old: list[str]
     new: list[str]
     target: list[Line]
     begun: float
-    is_told: bool = False
+    told: float = NEVER
+    is_part: bool = False
     answered: float = NEVER
 
     @property
     def end(self) -> float:
         """When it isn't waited for any more."""
-        return min(self.begun + GIVEN_UP, self.answered + UNTOLD if self.is_told else NEVER)
+        return min(self.begun + GIVEN_UP, max(self.told, self.answered) + (REST if self.is_part else UNTOLD))
 
 
 @dataclass
@@ -127,27 +137,27 @@ class State:
     def changed(self, texts: Sequence[str], version: int, typed: int | None, now: float) -> None:
         """The editor's text is another one, perhaps with what was put to it. `typed` is the line that was changed."""
         before, self.texts, self.version = self.texts, list(texts), version
-        is_put = self.put is not None and self.texts == self.put.new != before
-        if self.put is not None:
-            self._see(self.put, before)
+        is_put = self.put is not None and self._see(self.put, before, now)
         if not is_put:
             self.typed = None if typed is None else Typed(typed, now)
         elif self.typed is not None:
             at = dict(matched(before, self.texts)).get(self.typed.at)
             self.typed = None if at is None else replace(self.typed, at=at)
 
-    def _see(self, put: OnItsWay, before: Sequence[str]) -> None:
-        """Sees what the text has of what was put to it, where it was another one before."""
+    def _see(self, put: OnItsWay, before: Sequence[str], now: float) -> bool:
+        """Sees what the text has of what was put to it, where it was another one before. Whether that is all it has."""
         is_likely = distance(put.new, self.texts) < distance(before, self.texts)
-        self.base, put.is_told = seen(self.base, put.target, self.texts, is_likely), True
-        if put.answered != NEVER:
+        self.base, put.told = seen(self.base, put.target, self.texts, is_likely), now
+        put.is_part = is_made_in_part(put.old, put.new, self.texts)
+        if put.answered != NEVER and not put.is_part:
             self.put = None
+        return self.texts != before and (put.is_part or self.texts == put.new)
 
     def put_answered(self, is_made: bool, now: float) -> None:
         """The editor says whether it made the edit that was put to it. One that wasn't made is put again."""
         if self.put is not None:
             self.put.answered = now
-            if not is_made or (self.put.is_told and self.base == self.put.target):
+            if not is_made or (self.put.told != NEVER and not self.put.is_part and self.base == self.put.target):
                 self.put = None
 
     def left(self, line: int | None) -> None:
@@ -248,7 +258,7 @@ class State:
             self.base = made.base
             return None
         self._held = NEVER
-        self.put = OnItsWay(made.texts, made.base, now)
+        self.put = OnItsWay(self.texts, made.texts, made.base, now)
         return Put(self.version, self.texts, made.texts)
 
     def _next_send(self, now: float) -> Send | None:
