@@ -51,8 +51,8 @@ MANNERS = (
     Manner("tells its edit before its answer", tells_first=True),
     Manner("tells its edit behind its answer"),
     Manner("says of what it refuses that it did it", is_silent=True),
-    Manner("puts edits into what it hasn't told", counts_told=True),
     Manner("tells an edit part by part, as Neovim does", is_silent=True, in_parts=True),
+    Manner("puts edits into what it hasn't told", counts_told=True),
 )
 
 

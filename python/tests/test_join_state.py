@@ -2,15 +2,19 @@
 
 from __future__ import annotations
 
+import os
+
 import pytest
 from join_model import MANNERS, Manner, Play
 
 from pevudlo.join.edits import Hunk, hunks, is_made_in_part
+from pevudlo.join.joined import lines_of
 from pevudlo.join.merging import Line, begun, merged, seen, wanted
 from pevudlo.join.state import Put, Send, State
+from pevudlo.lsp.opened import Opened
 from pevudlo.serve.lines import LAST, Change, Op
 
-SEEDS, STEPS = 12, 1_500
+SEEDS, STEPS = 300 if "PEVUDLO_JOINED" in os.environ else 12, 1_500
 BASE = [Line(1, "a"), Line(2, "b"), Line(3, "c")]
 
 
@@ -23,9 +27,9 @@ def test_two_of_one_manner_lose_nothing_and_have_nothing_twice(manner: Manner) -
         play.check()
 
 
-def test_three_of_several_manners_lose_nothing_and_have_nothing_twice() -> None:
+def test_four_of_several_manners_lose_nothing_and_have_nothing_twice() -> None:
     for seed in range(SEEDS):
-        play = Play(seed, MANNERS[:3])
+        play = Play(seed, MANNERS[:4])
         play.run(STEPS)
         play.settle()
         play.check()
@@ -165,6 +169,13 @@ def test_an_empty_line_of_ones_own_is_not_taken_for_two(texts: list[str], is_lik
     assert sum(line.id == 6 for line in found) <= texts.count("")
 
 
+@pytest.mark.parametrize("end", ["\n", "\r\n"])
+@pytest.mark.parametrize("last", ["", "b", "b\n", "\n"])
+def test_lines_are_the_same_with_either_end(end: str, last: str) -> None:
+    file = Opened("file:///text.paris", f"a\n{last}".replace("\n", end), 1, lambda: pytest.fail("no peer is wanted"))
+    assert lines_of(file) == f"a\n{last}".splitlines()
+
+
 def test_parts_of_an_edit() -> None:
     assert hunks(["a", "b", "c"], ["x", "a", "c", "d"]) == [Hunk(0, 0, ["x"]), Hunk(1, 2, []), Hunk(3, 3, ["d"])]
 
@@ -187,7 +198,6 @@ def test_a_text_on_the_way_has_some_parts_of_an_edit_and_nothing_else(texts: str
     assert is_made_in_part([*"abc"], [*"xacd"], [*texts]) == is_in_part
 
 
-def test_a_part_that_may_stand_at_two_places_is_found_at_either() -> None:
-    """Of the parts, which put lines that are the same, the second may be there alone."""
-    assert is_made_in_part([*"ab"], [*"aaba"], [*"aba"])
-    assert is_made_in_part([*"ab"], [*"aaba"], [*"aab"])
+@pytest.mark.parametrize("texts", ["aba", "aab"])
+def test_a_part_that_puts_the_same_line_as_another_one_may_be_there_alone(texts: str) -> None:
+    assert is_made_in_part([*"ab"], [*"aaba"], [*texts])

@@ -56,7 +56,7 @@ class Joined:
         typed = typed_line(self.file, changes)
         self.state.changed(lines_of(self.file), self.file.version, typed, time.monotonic())
         if typed is not None:
-            self._caret = typed, len(self.file.lines[typed])
+            self._caret = typed, len(self.file.lines[typed].removesuffix("\r"))
         self.tell_caret()
 
     def moved(self, line: int, letter: int) -> None:
@@ -216,8 +216,8 @@ class Joined:
 
 
 def lines_of(file: Opened) -> list[str]:
-    """The lines of a file, of which a last line feed begins none."""
-    lines = list(file.lines)
+    """The lines of a file, of which a last line feed begins none. One may end at a carriage return and a line feed."""
+    lines = [line.removesuffix("\r") for line in file.lines]
     return lines[:-1] if lines[-1] == "" else lines
 
 
