@@ -7,7 +7,7 @@ _paris_options() {
         page) echo '--draw --help --quiet --workers -o' ;;
         live) echo '--follow --help --port --quiet --shared --workers' ;;
         watch) echo '--help --plain --workers' ;;
-        lsp) echo '--help --stdio --workers' ;;
+        lsp) echo '--help --join --name --stdio --workers' ;;
         check) echo '--help --workers' ;;
         serve) echo '--again --audit --check --class --folder --help --history --looking --most-processors --names --origin --port --rate --seats --workers' ;;
         help) echo '--help lesson machine scripts instructions idioms people python embedding editors glossary' ;;

@@ -26,6 +26,8 @@ complete -c paris -n '__fish_seen_subcommand_from page' -l draw -x -d 'how many 
 complete -c paris -n '__fish_seen_subcommand_from live' -l port -x -d 'port'
 complete -c paris -n '__fish_seen_subcommand_from watch' -l plain -d 'write what changed line by line'
 complete -c paris -n '__fish_seen_subcommand_from lsp' -l stdio -d 'over standard input and output, as it is anyway'
+complete -c paris -n '__fish_seen_subcommand_from lsp' -x -l join -d 'the address of a served program'
+complete -c paris -n '__fish_seen_subcommand_from lsp' -x -l name -d 'by which name it joins'
 complete -c paris -n '__fish_seen_subcommand_from live' -l shared -d 'all tabs edit'
 complete -c paris -n '__fish_seen_subcommand_from prompt' -l program -d 'rows run in a program of their own'
 complete -c paris -n '__fish_seen_subcommand_from live' -l follow -d 'hold the page in step with the file'
