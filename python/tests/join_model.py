@@ -104,10 +104,10 @@ class Server:
         for at in range(self.seats):
             self.tell_text(at)
 
-    def tell_text(self, seat: int) -> None:
-        """Tells a seat the whole text."""
+    def tell_text(self, seat: int, is_chapter: bool = False) -> None:
+        """Tells a seat the whole text, perhaps that of a new chapter."""
         lines = [[number, text, 0] for number, text in zip(self.lines.ids, self.lines.texts)]
-        self.told[seat].append({"text": {"n": self.number, "lines": lines}})
+        self.told[seat].append({"text": {"n": self.number, "lines": lines}, "is_chapter": is_chapter})
 
     def begin(self) -> None:
         """A new chapter with the same text: all lines have other ids."""
@@ -115,7 +115,7 @@ class Server:
         self.lines = Lines.of(self.lines.texts, self.first, 0)
         self.number += 1
         for at in range(self.seats):
-            self.tell_text(at)
+            self.tell_text(at, True)
 
     def edit(self, seat: int, changes: list[Change], is_busy: bool) -> None:
         """Does an edit of a seat, or says that it is busy. One of an earlier chapter takes no line out."""
@@ -248,6 +248,8 @@ class Typist:
         """Takes in what the server told."""
         told = self.server.told[self.seat].popleft()
         if "text" in told:
+            # What was moved before this is heard is moved while the chapter begins.
+            self.words.twice |= self.words.moved.keys() if told["is_chapter"] else set()
             self.state.told_text(told["text"])
         elif "refused" in told:
             self.state.refused(True, self.now)
