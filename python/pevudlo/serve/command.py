@@ -142,7 +142,7 @@ def folder_of(said: Namespace) -> Path:
     if has_journal and not said.again:
         raise OSError(f"{visible(str(folder))} has a journal: begin again by --again, or say another --folder")
     if said.again and not has_journal:
-        raise OSError(f"{visible(str(folder))} has no journal to begin again with")
+        raise OSError(f"{visible(str(folder))} has no journal")
     return folder
 
 
